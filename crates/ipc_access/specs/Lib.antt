@@ -1,0 +1,4 @@
+pub mod Class
+pub mod Users
+pub mod UserLine
+pub mod UserFile

@@ -1,0 +1,126 @@
+//! The class of a user at an object, and what its mode grants to that class.
+
+ghost use Rattle.std.specs.Prelude.{◌≡◌, ◌==◌};
+ghost use Rattle.std.specs.List.{list_any};
+ghost use Rattle.ipc_access.specs.Class.{class, class_bits, granted, belongs_to};
+
+use ipc_terms::{Gid, Mode, Uid};
+use std::marker::Model;
+
+/// The supplementary groups of a user, in the order of the user file; seen as their list.
+#[derive(Drop)]
+pub struct Groups {
+    ids: Vec<Gid>,
+}
+
+impl Model for Groups {
+    ghost use Rattle.std.specs.Prelude.{List};
+    ghost use Rattle.ipc_terms.specs.declared.ids.Gid.{Gid};
+
+    ghost Value = { List Gid };
+
+    ghost view = { λ a. a.ids.items };
+}
+
+impl Groups {
+    /// These groups. Takes no memory.
+    pub fn new(ids: Vec<Gid>) -> Self
+        ensures { result ≡ ids.items }
+    {
+        Self { ids }
+    }
+
+    pub fn as_slice(&self) -> &[Gid]
+        ensures { result.now ≡ self.now }
+    {
+        self.ids.as_slice()
+    }
+
+    /// The groups, given back. Takes no memory.
+    pub fn into_vec(self) -> Vec<Gid>
+        ensures { result.items ≡ self }
+    {
+        let Groups { ids } = self;
+        ids
+    }
+
+    /// Whether the group is one of them.
+    pub fn has(&self, group: Gid) -> bool
+        ensures { result ≡ list_any (λ g. g.0 == group.0) self.now }
+    {
+        any_is(&self.ids, group)
+    }
+}
+
+fn any_is(ids: &[Gid], group: Gid) -> bool
+    ensures { result ≡ list_any (λ g. g.0 == group.0) ids.now }
+{
+    ids.iter().any(|g| g.0 == group.0)
+}
+
+/// The credentials of a user: its user ID, its group ID and its supplementary groups.
+#[derive(Drop)]
+pub struct Cred {
+    pub uid: Uid,
+    pub gid: Gid,
+    pub groups: Groups,
+    /// How many bytes the user's queues may take in all (`getrlimit(2)`, `RLIMIT_MSGQUEUE`).
+    pub limit: u64,
+}
+
+impl Cred {
+    /// Whether the group is the user's, or a supplementary one.
+    pub fn is_in(&self, group: Gid) -> bool
+        ensures { result ≡ belongs_to self.now group }
+    {
+        self.gid.0 == group.0 || self.groups.has(group)
+    }
+
+    /// User 0 passes every rule on modes.
+    pub fn is_root(&self) -> bool
+        ensures { result ≡ (self.now.uid.0 == 0) }
+    {
+        self.uid.0 == 0
+    }
+}
+
+/// One of the three classes of users at an object (POSIX.1-2017, XBD 4.5, File Access Permissions).
+#[derive(Clone, Copy, PartialEq, Eq, Debug)]
+pub enum Class {
+    Owner,
+    Group,
+    Other,
+}
+
+/// The one class that decides what the user may do with an object of this owner and group. User 0
+/// has a class as any other.
+pub fn class_of(cred: &Cred, owner: Uid, group: Gid) -> Class
+    ensures { result ≡ class cred.now owner group }
+{
+    if cred.uid.0 == owner.0 {
+        Class::Owner
+    } else if cred.is_in(group) {
+        Class::Group
+    } else {
+        Class::Other
+    }
+}
+
+/// The three bits of the mode that belong to the class.
+fn bits_of(class: Class, mode: Mode) -> u8
+    ensures { result ≡ class_bits class mode }
+{
+    match class {
+        Class::Owner => (mode.0 / 64 % 8) as u8,
+        Class::Group => (mode.0 / 8 % 8) as u8,
+        Class::Other => (mode.0 % 8) as u8,
+    }
+}
+
+/// Whether the user is granted all that is wanted: a sum of read 4, write 2 and search 1
+/// (POSIX.1-2017, XBD 4.5). To user 0 everything is granted.
+pub fn grants(cred: &Cred, owner: Uid, group: Gid, mode: Mode, wanted: u8) -> bool
+    ensures { result ≡ granted cred.now owner group mode wanted }
+{
+    cred.is_root() || bits_of(class_of(cred, owner, group), mode) & wanted == wanted
+}

@@ -1,0 +1,6 @@
+pub mod Log
+pub mod State
+pub mod Kept
+pub mod Agrees
+pub mod Steps
+pub mod Ranges

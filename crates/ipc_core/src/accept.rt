@@ -1,0 +1,138 @@
+//! What an accepted event does to the tables.
+
+ghost use Rattle.std.specs.Prelude.{◌≡◌, ◌+◌, ◌^◌, ◌<◌, ◌∷◌, length, None, OnOk, OnErr};
+ghost use Rattle.ipc_terms.specs.declared.record.Event.TheVariants.{Hello, Do};
+ghost use Rattle.ipc_terms.specs.declared.call.Call.TheVariants.{Umask, MqOpen, MqClose};
+ghost use Rattle.ipc_policy.specs.Objects.{attributes_of, without_mask};
+ghost use Rattle.ipc_policy.specs.Verdict.{verdict};
+ghost use Rattle.ipc_core.specs.Agrees.{Agrees, IsCore};
+
+use crate::tables::Tables;
+use crate::trail::Trail;
+use ipc_access::Cred;
+use ipc_policy::{Config, Facts, Object};
+use ipc_terms::{Attributes, Call, Desc, Event, Family, Mode, NoMemory, QueueOpen, Sid, Uid};
+
+/// Brings the tables up to date with an event that is accepted after this past. An `Err` changes nothing.
+pub fn accept(
+    tables: &mut Tables,
+    config: &Config,
+    past: &Trail,
+    event: &Event,
+) -> Result<(), NoMemory>
+    requires core { IsCore config.now past.now.history tables.old }
+    requires accepted { verdict config.now past.now.history event.now ≡ None }
+    requires room { length past.now.history + 1 < 2 ^ 64 }
+    ensures ok { OnOk result (Agrees config.now (record { event = event.now; rule = None } ∷ past.now.history) tables.new) }
+    ensures err { OnErr result (tables.new ≡ tables.old) }
+{
+    match event {
+        Event::Hello { found } => accept_hello(tables, config, past, *found),
+        Event::Do { sid, call } => match call {
+            Call::Umask(mask) => {
+                accept_umask(tables, config, past, *sid, *mask);
+                Ok(())
+            }
+            Call::MqOpen(asked) => accept_open(tables, config, past, *sid, asked),
+            Call::MqClose(desc) => {
+                accept_close(tables, config, past, *sid, *desc);
+                Ok(())
+            }
+        },
+    }
+}
+
+fn accept_hello(
+    tables: &mut Tables,
+    config: &Config,
+    past: &Trail,
+    found: Option<Uid>,
+) -> Result<(), NoMemory>
+    requires core { IsCore config.now past.now.history tables.old }
+    requires accepted { verdict config.now past.now.history (Hello found) ≡ None }
+    ensures ok { OnOk result (Agrees config.now (record { event = Hello found; rule = None } ∷ past.now.history) tables.new) }
+    ensures err { OnErr result (tables.new ≡ tables.old) }
+{
+    match found {
+        Some(uid) => {
+            tables.start_session(uid)?;
+            Ok(())
+        }
+        None => unreachable!(),
+    }
+}
+
+fn accept_umask(tables: &mut Tables, config: &Config, past: &Trail, sid: Sid, mask: Mode)
+    requires core { IsCore config.now past.now.history tables.old }
+    requires accepted { verdict config.now past.now.history (Do sid (Umask mask)) ≡ None }
+    ensures { Agrees config.now (record { event = Do sid (Umask mask); rule = None } ∷ past.now.history) tables.new }
+{
+    tables.set_mask(sid, Mode(mask.0 % 512));
+}
+
+fn accept_close(tables: &mut Tables, config: &Config, past: &Trail, sid: Sid, desc: Desc)
+    requires core { IsCore config.now past.now.history tables.old }
+    requires accepted { verdict config.now past.now.history (Do sid (MqClose desc)) ≡ None }
+    ensures { Agrees config.now (record { event = Do sid (MqClose desc); rule = None } ∷ past.now.history) tables.new }
+{
+    tables.close(sid, desc);
+}
+
+fn accept_open(
+    tables: &mut Tables,
+    config: &Config,
+    past: &Trail,
+    sid: Sid,
+    asked: &QueueOpen,
+) -> Result<(), NoMemory>
+    requires core { IsCore config.now past.now.history tables.old }
+    requires accepted { verdict config.now past.now.history (Do sid (MqOpen asked.now)) ≡ None }
+    requires room { length past.now.history + 1 < 2 ^ 64 }
+    ensures ok { OnOk result (Agrees config.now (record { event = Do sid (MqOpen asked.now); rule = None } ∷ past.now.history) tables.new) }
+    ensures err { OnErr result (tables.new ≡ tables.old) }
+{
+    if let Some(object) = tables.names().get(&asked.name) {
+        tables.open_found(sid, object, asked.access)?;
+        return Ok(());
+    }
+    let Some(session) = tables.session(sid) else {
+        unreachable!();
+    };
+    let Some(who) = config.users.cred(session.user) else {
+        unreachable!();
+    };
+    let object = new_object(config, asked, who);
+    let facts = new_facts(asked, session.mask, who);
+    tables.open_created(sid, &asked.name, asked.access, object, facts)?;
+    Ok(())
+}
+
+/// What a creating open fixes.
+fn new_object(config: &Config, asked: &QueueOpen, who: &Cred) -> Object
+    ensures { result ≡ record { family = Family.Mq; creator = who.now.uid; attributes = attributes_of config.now asked.now.attributes } }
+{
+    let attributes = match asked.attributes {
+        Some(given) => given,
+        None => Attributes {
+            maxmsg: config.limits.msg_max.min(10),
+            msgsize: config.limits.msgsize_max.min(8192),
+        },
+    };
+    Object {
+        family: Family::Mq,
+        creator: who.uid,
+        attributes,
+    }
+}
+
+/// The first owner, group and mode of what a creating open makes.
+fn new_facts(asked: &QueueOpen, mask: Mode, who: &Cred) -> Facts
+    requires { mask.0 < 512 }
+    ensures { result ≡ record { owner = who.now.uid; group = who.now.gid; mode = without_mask asked.now.mode mask.0 } }
+{
+    Facts {
+        owner: who.uid,
+        group: who.gid,
+        mode: Mode(asked.mode.0 % 512 & (511 - mask.0)),
+    }
+}

@@ -1,0 +1,175 @@
+//! The core.
+
+ghost use Rattle.std.specs.Prelude.{◌≡◌, ◌≤◌, ◌∷◌, [], Some, None, IfOk, IfErr, OnOk, OnErr, length, map, take, MatchOption};
+ghost use Rattle.ipc_policy.specs.Verdict.{verdict, answers, answers_at, accepted_answers, caller, Legal, after_event, after_events, all_answers};
+ghost use Rattle.ipc_core.specs.Agrees.{IsCore};
+ghost use Rattle.ipc_core.specs.Ranges.{first_bad};
+
+use crate::accept::accept;
+use crate::decide::decide;
+use crate::fault::{CoreFault, first_bad};
+use crate::tables::Tables;
+use crate::trail::Trail;
+use ipc_policy::Config;
+use ipc_terms::{Answer, Call, Desc, Event, NoMemory, Record, Rule, Sid};
+use std::alloc::Global;
+use std::marker::Model;
+
+/// Decides on events by what came before, does what is accepted, and keeps the record of all.
+#[derive(Drop)]
+pub struct Core {
+    config: Config,
+    tables: Tables,
+    trail: Trail,
+}
+
+impl Model for Core {
+    ghost use Rattle.ipc_core.specs.State.{State};
+
+    ghost Value = { State };
+
+    ghost use Rattle.ipc_core.specs.Agrees.{IsCore};
+
+    ghost view = { λ a. record { config = a.config; history = a.trail.history } };
+
+    ghost invariant = { λ a. IsCore a.config a.trail.history a.tables };
+}
+
+impl Core {
+    /// A core with an empty trail, or the first limit that is out of its range, in the order
+    /// `msg_max`, `msgsize_max`, `queues_max`. Want of memory can be answered, but no growth is
+    /// made yet.
+    pub fn new(alloc: Global, config: Config) -> Result<Core, CoreFault>
+        ensures ok { IfOk result (λ core. core ≡ record { config = config; history = [] }) }
+        ensures in_range { OnOk result (first_bad config.limits ≡ None) }
+        ensures bad { IfErr result (λ fault. MatchOption (first_bad config.limits) (fault ≡ CoreFault.NoMemory) (λ field. fault ≡ CoreFault.BadConfig field)) }
+    {
+        if let Some(field) = first_bad(&config.limits) {
+            return Err(CoreFault::BadConfig(field));
+        }
+        Ok(Core {
+            config,
+            tables: Tables::new(alloc),
+            trail: Trail::new(alloc),
+        })
+    }
+
+    /// The configuration that the core was made with.
+    pub fn config(&self) -> &Config
+        ensures { result.now ≡ self.now.config }
+    {
+        &self.config
+    }
+
+    /// Every event so far with its verdict.
+    pub fn trail(&self) -> &Trail
+        ensures { result.now.history ≡ self.now.history }
+    {
+        &self.trail
+    }
+
+    /// The trail is legal: at every place the record's rule is the policy's verdict on its event
+    /// after what came before. Does nothing; a fact of every core.
+    pub fn is_legal(&self)
+        ensures { Legal self.now.config self.now.history }
+    {
+        let _config = &self.config;
+    }
+
+    /// The rule of the lowest number that forbids the event, if one does. Takes no memory.
+    pub fn decide(&self, event: &Event) -> Option<Rule>
+        ensures { result ≡ verdict self.now.config self.now.history event.now }
+    {
+        decide(&self.config, &self.trail, &self.tables, event)
+    }
+
+    /// One event: the verdict on it is recorded with it, and it is answered. An `Err` changes
+    /// nothing, records nothing, and drops the event.
+    pub fn step(&mut self, alloc: Global, event: Event) -> Result<Vec<(Sid, Answer)>, NoMemory>
+        ensures answers { IfOk result (λ given. given.items ≡ answers self.old.config self.old.history event) }
+        ensures ok { OnOk result (self.new ≡ record self.old { history = after_event self.old.config self.old.history event }) }
+        ensures err { OnErr result (self.new ≡ self.old) }
+    {
+        let rule = self.decide(&event);
+        let given = Vec::from_array(alloc, [self.answer_to(&event, rule)])?;
+        self.trail.reserve_one()?;
+        if rule.is_none() {
+            accept(&mut self.tables, &self.config, &self.trail, &event)?;
+        }
+        self.trail.push_reserved(Record { event, rule });
+        Ok(given)
+    }
+
+    /// Steps each event in order. Where a growth is refused, the number says how many events stand;
+    /// those after them, and the answers so far, are dropped.
+    pub fn run(
+        &mut self,
+        alloc: Global,
+        events: Vec<Event>,
+    ) -> Result<Vec<Vec<(Sid, Answer)>>, (usize, NoMemory)>
+        ensures answers { IfOk result (λ given. map (λ v. v.items) given.items ≡ all_answers self.old.config self.old.history events.items) }
+        ensures ok { OnOk result (self.new ≡ record self.old { history = after_events self.old.config self.old.history events.items }) }
+        ensures err { IfErr result (λ fault. self.new ≡ record self.old { history = after_events self.old.config self.old.history (take fault.0 events.items) }) }
+        ensures count { IfErr result (λ fault. fault.0 ≤ length events.items) }
+    {
+        let mut given = Vec::new(alloc);
+        let mut stand = 0;
+        for event in events {
+            match self.step(alloc, event) {
+                Ok(told) => {
+                    stand += 1;
+                    if given.push(told).is_err() {
+                        return Err((stand, NoMemory));
+                    }
+                }
+                Err(fault) => return Err((stand, fault)),
+            }
+        }
+        Ok(given)
+    }
+
+    /// To whom an event is answered, and what, where this is the verdict on it.
+    fn answer_to(&self, event: &Event, rule: Option<Rule>) -> (Sid, Answer)
+        requires { rule ≡ verdict self.now.config self.now.history event.now }
+        ensures { answers_at rule self.now.history event.now ≡ result ∷ [] }
+    {
+        match rule {
+            Some(rule) => (caller_of(event), Answer::Refused(rule)),
+            None => accepted_answer(&self.tables, &self.config, &self.trail, event),
+        }
+    }
+}
+
+/// To whom an event that is accepted after this past is answered, and what.
+fn accepted_answer(tables: &Tables, config: &Config, past: &Trail, event: &Event) -> (Sid, Answer)
+    requires core { IsCore config.now past.now.history tables.now }
+    requires accepted { verdict config.now past.now.history event.now ≡ None }
+    ensures { accepted_answers past.now.history event.now ≡ result ∷ [] }
+{
+    match event {
+        Event::Hello { found: _ } => {
+            let sid = Sid(tables.session_count() as u64);
+            (sid, Answer::Started(sid))
+        }
+        Event::Do { sid, call } => match call {
+            Call::Umask(_) => {
+                let Some(session) = tables.session(*sid) else {
+                    unreachable!();
+                };
+                (*sid, Answer::Mask(session.mask))
+            }
+            Call::MqOpen(_) => (*sid, Answer::Opened(Desc(tables.descriptions().opened()))),
+            Call::MqClose(_) => (*sid, Answer::Done),
+        },
+    }
+}
+
+/// The session that an event names; a hello names nobody.
+fn caller_of(event: &Event) -> Sid
+    ensures { result ≡ caller event.now }
+{
+    match event {
+        Event::Hello { found: _ } => Sid::NOBODY,
+        Event::Do { sid, call: _ } => *sid,
+    }
+}

@@ -1,0 +1,188 @@
+-- What is held, how many, and what an open and a close make of it.
+use Rattle.std.proofs.Common.{◌≡◌, ℕ, zero, suc, ◌+◌, ◌-◌, ◌<◌, ◌≤◌, Bool, true, false, ◌&&◌, eqb, [], ◌∷◌, cond, Option, Some, None, inl, inr, ◌⊎◌, refl, sym, ap, ◌∙◌, arith, add-one}
+use Rattle.std.specs.Prelude.{is_some, option_and_then, unwrap_or}
+use Rattle.std.specs.Option.{option_or}
+use Rattle.std.proofs.lemmas.Bool.{cases_eq, eqb-true, eqb-false, eq-eqb, ne_eqb, and_parts, and_from, and_left, and_right}
+use Rattle.ipc_terms.specs.declared.rule.Rule.{Rule}
+use Rattle.ipc_terms.specs.declared.ids.Sid.{Sid}
+use Rattle.ipc_terms.specs.declared.ids.Desc.{Desc}
+use Rattle.ipc_terms.specs.declared.call.QueueOpen.{QueueOpen}
+use Rattle.ipc_terms.specs.declared.call.Call.TheVariants.{Umask, MqOpen, MqClose}
+use Rattle.ipc_terms.specs.declared.record.Event.{Event}
+use Rattle.ipc_terms.specs.declared.record.Record.{Record}
+use Rattle.ipc_terms.specs.declared.record.Event.TheVariants.{Hello, Do}
+use Rattle.ipc_policy.specs.declared.config.Held.{Held}
+use Rattle.ipc_policy.specs.History.{History, kept, unended, how_many_below}
+use Rattle.ipc_policy.specs.Names.{Opening, opening, bound, creations}
+use Rattle.ipc_policy.specs.Descriptions.{opens, opened, gives, ends_held, held, if_of, holds, held_count}
+use Rattle.ipc_policy.specs.Grow.{held_after, held_count_after, opens_after}
+
+kept_some : {A : Type 0} (p : A → Bool) (o : Option A) → is_some (kept p o) ≡ true → is_some o ≡ true
+kept_some p None e = e
+kept_some p (Some x) e = refl
+
+pub kept_all : {A : Type 0} (o : Option A) → kept (λ x. false) o ≡ o
+kept_all None = refl
+kept_all (Some x) = refl
+
+-- what an open with this number gives
+abbrev given : History → ℕ → Option Opening → Option Held
+given h d None = None
+given h d (Some asked) = cond (eqb (opens h) d) (Some (record { session = asked.session; object = opened h asked; access = asked.access })) None
+
+-- a description is numbered below the opens
+held_below_at : (h : History) (d : ℕ) → (is_some (held h d) ≡ true → d < opens h) → (q : Held → Bool) (o : Option Opening) → is_some (option_or (given h d o) (kept q (held h d))) ≡ true → d < cond (is_some o) (opens h + 1) (opens h)
+held_below_at h d known q None k = known (kept_some q (held h d) k)
+held_below_at h d known q (Some asked) k = at (eqb (opens h) d) refl k where
+  at : (b : Bool) → eqb (opens h) d ≡ b → is_some (option_or (cond b (Some (record { session = asked.session; object = opened h asked; access = asked.access })) None) (kept q (held h d))) ≡ true → d < opens h + 1
+  at true same j = let same' : opens h ≡ d = eqb-true _ _ same in omega arith
+  at false _ j = let below = known (kept_some q (held h d) j) in omega arith
+
+held_below_more : (h : History) (d : ℕ) → (is_some (held h d) ≡ true → d < opens h) → (e : Event) (r : Option Rule) → is_some (held (record { event = e; rule = r } ∷ h) d) ≡ true → d < opens (record { event = e; rule = r } ∷ h)
+unfolding held opens
+held_below_more h d known e (Some rule) k = known k
+held_below_more h d known e None k = held_below_at h d known (λ x. ends_held d x e) (opening e) k
+
+pub held_below : (h : History) (d : ℕ) → is_some (held h d) ≡ true → d < opens h
+unfolding held opens
+held_below [] d k = absurd cc
+held_below (r ∷ h) d k = held_below_more h d (held_below h d) r.event r.rule k
+
+holds_held : (h : History) (s d : ℕ) → is_some (holds h s d) ≡ true → is_some (held h d) ≡ true
+unfolding holds
+holds_held h s d e = at (held h d) e where
+  at : (o : Option Held) → is_some (option_and_then (if_of s) o) ≡ true → is_some o ≡ true
+  at None k = k
+  at (Some x) k = refl
+
+pub holds_below : (h : History) (s d : ℕ) → is_some (holds h s d) ≡ true → d < opens h
+holds_below h s d e = held_below h d (holds_held h s d e)
+
+-- a number that no open has taken yet is not held
+pub unheld : (h : History) (s d : ℕ) → opens h ≤ d → is_some (holds h s d) ≡ false
+unheld h s d le = at (is_some (holds h s d)) refl where
+  at : (b : Bool) → is_some (holds h s d) ≡ b → b ≡ false
+  at true e = absurd (let lt = holds_below h s d e in omega arith)
+  at false e = refl
+
+-- what description d gives after an accepted event
+or_cond : {A : Type 0} (b : Bool) (x : A) (w : Option A) → option_or (cond b (Some x) None) (kept (λ y. false) w) ≡ cond b (Some x) w
+or_cond true x w = refl
+or_cond false x w = kept_all w
+
+pub held_grows : (h : History) (e : Event) (d : ℕ) → held (record { event = e; rule = None } ∷ h) d ≡ held_after d e (opens h) (bound h) (creations h) (held h d)
+unfolding held
+held_grows h (Hello found) d = refl
+held_grows h (Do sid (MqOpen asked)) d = or_cond (eqb (opens h) d) _ (unended (gives d) (λ x e before. ends_held d x e) h)
+held_grows h (Do sid call) d = refl
+
+-- tests that agree below a limit have as many numbers below it
+pub how_many_below_same : (f g : ℕ → Bool) (n : ℕ) → ((d : ℕ) → d < n → f d ≡ g d) → how_many_below f n ≡ how_many_below g n
+how_many_below_same f g zero same = refl
+how_many_below_same f g (suc n) same = grind (arith, how_many_below_same f g n (λ d lt. same d (omega arith)), same n (omega arith))
+
+-- where one number below the limit fails, and each other is as before, there is one less
+pub how_many_below_less : (f g : ℕ → Bool) (n k : ℕ) → k < n → f k ≡ true → g k ≡ false → ((d : ℕ) → (d ≡ k → ⊥) → g d ≡ f d) → how_many_below g n + 1 ≡ how_many_below f n
+how_many_below_less f g zero k lt on off others = absurd (omega arith)
+how_many_below_less f g (suc n) k lt on off others = less_at (λ below. how_many_below_less f g n k below on off others) (cases_eq n k) where
+  later_at : (b : Bool) → how_many_below g n + 1 ≡ how_many_below f n → cond b (how_many_below g n + 1) (how_many_below g n) + 1 ≡ cond b (how_many_below f n + 1) (how_many_below f n)
+  later_at true e = omega arith
+  later_at false e = e
+
+  less_at : (k < n → how_many_below g n + 1 ≡ how_many_below f n) → (n ≡ k) ⊎ (n ≡ k → ⊥) → how_many_below g (suc n) + 1 ≡ how_many_below f (suc n)
+  less_at earlier (inl e) =
+      let fn : f n ≡ true = rw e on in
+      let gn : g n ≡ false = rw e off in
+      let rest = how_many_below_same g f n (λ d below. others d (λ q. absurd (omega arith))) in
+      rw (fn, gn) (grind (arith, rest))
+  less_at earlier (inr ne) =
+      let same : g n ≡ f n = others n ne in
+      let rest = earlier (omega arith) in
+      rw same (later_at (f n) rest)
+
+-- what session s holds by description d after an open
+mine : (b : Bool) (x : Held) → is_some (cond b (Some x) None) ≡ b
+mine true x = refl
+mine false x = refl
+
+opened_at : (s : ℕ) (sid : Sid) (b : Bool) (x : Held) (w : Option Held) → x.session ≡ sid → is_some (option_and_then (if_of s) (cond b (Some x) w)) ≡ cond b (eqb sid.0 s) (is_some (option_and_then (if_of s) w))
+opened_at s sid true x w e = mine (eqb x.session.0 s) x ∙ ap (λ (y : Sid). eqb y.0 s) e
+opened_at s sid false x w e = refl
+
+holds_opened : (h : History) (sid : Sid) (asked : QueueOpen) (s d : ℕ) → is_some (holds (record { event = Do sid (MqOpen asked); rule = None } ∷ h) s d) ≡ cond (eqb (opens h) d) (eqb sid.0 s) (is_some (holds h s d))
+unfolding holds
+holds_opened h sid asked s d = ap (λ o. is_some (option_and_then (if_of s) o)) (held_grows h (Do sid (MqOpen asked)) d) ∙ opened_at s sid (eqb (opens h) d) _ (held h d) refl
+
+-- after a close
+closed_at : (s d : ℕ) (sid : Sid) (desc : Desc) (w : Option Held) (b : Bool) → (eqb sid.0 s && eqb desc.0 d) ≡ b → is_some (option_and_then (if_of s) (kept (λ x. ends_held d x (Do sid (MqClose desc))) w)) ≡ cond b false (is_some (option_and_then (if_of s) w))
+closed_at s d sid desc None true e = refl
+closed_at s d sid desc None false e = refl
+closed_at s d sid desc (Some x) b e = at (eqb sid.0 x.session.0 && eqb desc.0 d) refl b e where
+  other : (eqb sid.0 x.session.0 && eqb desc.0 d) ≡ false → (eqb sid.0 s && eqb desc.0 d) ≡ true → eqb x.session.0 s ≡ false
+  other f t = ne_eqb x.session.0 s (λ (q : x.session.0 ≡ s).
+      let parts = and_parts (eqb sid.0 s) (eqb desc.0 d) t in
+      let same : sid.0 ≡ s = eqb-true sid.0 s parts.0 in
+      let both : (eqb sid.0 x.session.0 && eqb desc.0 d) ≡ true = and_from _ _ (eq-eqb sid.0 x.session.0 (same ∙ sym q)) parts.1 in
+      let no : true ≡ false = sym both ∙ f in cc)
+
+  gone : (eqb sid.0 x.session.0 && eqb desc.0 d) ≡ true → (eqb sid.0 s && eqb desc.0 d) ≡ false → eqb x.session.0 s ≡ false
+  gone t f = ne_eqb x.session.0 s (λ (q : x.session.0 ≡ s).
+      let parts = and_parts (eqb sid.0 x.session.0) (eqb desc.0 d) t in
+      let same : sid.0 ≡ x.session.0 = eqb-true sid.0 x.session.0 parts.0 in
+      let both : (eqb sid.0 s && eqb desc.0 d) ≡ true = and_from _ _ (eq-eqb sid.0 s (same ∙ q)) parts.1 in
+      let no : true ≡ false = sym both ∙ f in cc)
+
+  at : (k : Bool) → (eqb sid.0 x.session.0 && eqb desc.0 d) ≡ k → (b : Bool) → (eqb sid.0 s && eqb desc.0 d) ≡ b → is_some (option_and_then (if_of s) (cond k None (Some x))) ≡ cond b false (is_some (if_of s x))
+  at true t true e = refl
+  at true t false e = rw (gone t e) refl
+  at false f true e = rw (other f e) refl
+  at false f false e = refl
+
+holds_closed : (h : History) (sid : Sid) (desc : Desc) (s d : ℕ) (b : Bool) → (eqb sid.0 s && eqb desc.0 d) ≡ b → is_some (holds (record { event = Do sid (MqClose desc); rule = None } ∷ h) s d) ≡ cond b false (is_some (holds h s d))
+unfolding holds
+holds_closed h sid desc s d b e = ap (λ o. is_some (option_and_then (if_of s) o)) (held_grows h (Do sid (MqClose desc)) d) ∙ closed_at s d sid desc (held h d) b e
+
+-- one more description is held after an open
+count_at : (h : History) (s : ℕ) (r : Record) (b : Bool) → opens (r ∷ h) ≡ opens h + 1 → ((d : ℕ) → d < opens h → is_some (holds (r ∷ h) s d) ≡ is_some (holds h s d)) → is_some (holds (r ∷ h) s (opens h)) ≡ b → held_count (r ∷ h) s ≡ cond b (held_count h s + 1) (held_count h s)
+unfolding held_count
+count_at h s r b n same e =
+    let below : how_many_below (λ d. is_some (holds (r ∷ h) s d)) (opens h) ≡ how_many_below (λ d. is_some (holds h s d)) (opens h) = how_many_below_same _ _ (opens h) same in
+    rw (n, add-one, e, below) refl
+
+opens_more : (h : History) (sid : Sid) (asked : QueueOpen) → opens (record { event = Do sid (MqOpen asked); rule = None } ∷ h) ≡ opens h + 1
+unfolding opens
+opens_more h sid asked = refl
+
+count_opened : (h : History) (sid : Sid) (asked : QueueOpen) (s : ℕ) → held_count (record { event = Do sid (MqOpen asked); rule = None } ∷ h) s ≡ cond (eqb sid.0 s) (held_count h s + 1) (held_count h s)
+count_opened h sid asked s = count_at h s _ (eqb sid.0 s) (opens_more h sid asked)
+    (λ d lt. holds_opened h sid asked s d ∙ rw (ne_eqb (opens h) d (λ (q : opens h ≡ d). absurd (omega arith))) refl)
+    (holds_opened h sid asked s (opens h) ∙ rw (eq-eqb (opens h) (opens h) refl) refl)
+
+-- one less after a close of what was held
+count_closed : (h : History) (sid : Sid) (desc : Desc) (s : ℕ) → held_count (record { event = Do sid (MqClose desc); rule = None } ∷ h) s ≡ cond (eqb sid.0 s && is_some (holds h s desc.0)) (held_count h s - 1) (held_count h s)
+unfolding held_count opens
+count_closed h sid desc s = at (eqb sid.0 s) refl (is_some (holds h s desc.0)) refl where
+  at : (b : Bool) → eqb sid.0 s ≡ b → (k : Bool) → is_some (holds h s desc.0) ≡ k → how_many_below (λ d. is_some (holds (record { event = Do sid (MqClose desc); rule = None } ∷ h) s d)) (opens h) ≡ cond (b && k) (held_count h s - 1) (held_count h s)
+  at true e true k =
+      let less : how_many_below (λ d. is_some (holds (record { event = Do sid (MqClose desc); rule = None } ∷ h) s d)) (opens h) + 1 ≡ held_count h s = how_many_below_less _ _ (opens h) desc.0 (holds_below h s desc.0 k) k (holds_closed h sid desc s desc.0 true (and_from _ _ e (eq-eqb _ _ refl))) (λ d ne. holds_closed h sid desc s d false (and_right _ _ (ne_eqb _ _ (λ q. ne (sym q))))) in
+      omega arith
+  at true e false k = how_many_below_same _ _ (opens h) (λ d lt. here d (eqb desc.0 d) refl) where
+    here : (d : ℕ) (b : Bool) → eqb desc.0 d ≡ b → is_some (holds (record { event = Do sid (MqClose desc); rule = None } ∷ h) s d) ≡ is_some (holds h s d)
+    here d true q =
+        let same : desc.0 ≡ d = eqb-true _ _ q in
+        let none : is_some (holds h s d) ≡ false = rw (← same) k in
+        holds_closed h sid desc s d true (and_from _ _ e q) ∙ sym none
+    here d false q = holds_closed h sid desc s d false (and_right _ _ q)
+  at false e k q = how_many_below_same _ _ (opens h) (λ d lt. holds_closed h sid desc s d false (and_left _ _ e))
+
+-- as many are held where each is held as before
+count_kept : (h k : History) (s : ℕ) → opens k ≡ opens h → ((d : ℕ) → held k d ≡ held h d) → held_count k s ≡ held_count h s
+unfolding held_count holds
+count_kept h k s n same = ap (how_many_below (λ d. is_some (option_and_then (if_of s) (held k d)))) n ∙ how_many_below_same _ _ (opens h) (λ d lt. ap (λ o. is_some (option_and_then (if_of s) o)) (same d))
+
+pub count_grows : (h : History) (e : Event) (s : ℕ) → held_count (record { event = e; rule = None } ∷ h) s ≡ held_count_after s e (holds h) (held_count h s)
+unfolding opens
+count_grows h (Hello found) s = count_kept h _ s refl (λ d. held_grows h (Hello found) d ∙ kept_all (held h d))
+count_grows h (Do sid (Umask mode)) s = count_kept h _ s refl (λ d. held_grows h (Do sid (Umask mode)) d ∙ kept_all (held h d))
+count_grows h (Do sid (MqOpen asked)) s = count_opened h sid asked s
+count_grows h (Do sid (MqClose desc)) s = count_closed h sid desc s

@@ -1,0 +1,179 @@
+-- What holds of every history, or of every legal one.
+use Rattle.std.proofs.Common.{◌≡◌, ℕ, ◌+◌, ◌<◌, ◌≤◌, ◌%◌, Bool, true, false, not, ◌&&◌, eqb, List, [], ◌∷◌, ◌++◌, length, cond, Option, Some, None, is_some, is_none, refl, sym, ap, ◌∙◌, arith}
+use Rattle.std.specs.Prelude.{unwrap_or, option_and_then}
+use Rattle.std.specs.Option.{option_or}
+use Rattle.std.proofs.lemmas.Bool.{eqb-true, and_parts}
+use Rattle.std.proofs.lemmas.Slice.Eq.{bytes_eq-Decides}
+use Rattle.ipc_terms.specs.Flags.{has_create}
+use Rattle.ipc_terms.specs.Names.{same_name}
+use Rattle.ipc_terms.specs.declared.rule.Rule.{Rule}
+use Rattle.ipc_terms.specs.declared.rule.Rule.TheVariants.{NoSession, BadKey}
+use Rattle.ipc_terms.specs.declared.ids.Uid.{Uid}
+use Rattle.ipc_terms.specs.declared.ids.Family.{Family}
+use Rattle.ipc_terms.specs.declared.ids.Family.TheVariants.{Mq, Sem}
+use Rattle.ipc_terms.specs.declared.call.Call.TheVariants.{Umask, MqOpen, MqClose}
+use Rattle.ipc_terms.specs.declared.record.Event.{Event}
+use Rattle.ipc_terms.specs.declared.record.Event.TheVariants.{Hello, Do}
+use Rattle.ipc_access.specs.Users.{cred_of}
+use Rattle.ipc_policy.specs.declared.config.Config.{Config}
+use Rattle.ipc_policy.specs.declared.config.Object.{Object}
+use Rattle.ipc_policy.specs.History.{History, newest, how_many}
+use Rattle.ipc_policy.specs.Sessions.{hellos, is_hello, begins, user, live, cred, mask, sets_mask}
+use Rattle.ipc_policy.specs.Names.{Opening, opening, same_family, asks_name, is_bound, leaves_bound, creation, creations, binds, bound, creating}
+use Rattle.ipc_policy.specs.Objects.{creation_of, makes, object}
+use Rattle.ipc_policy.specs.Descriptions.{opens}
+use Rattle.ipc_policy.specs.Verdict.{verdict, Legal, answers, after_event, after_events, all_answers}
+use Rattle.ipc_policy.proofs.Verdicts.{queue_opening, verdict_hello, verdict_umask}
+
+-- no more events of a kind were accepted than there are records
+how_many_le-length : (is_one : Event → History → Bool) (h : History) → how_many is_one h ≤ length h
+how_many_le-length is_one [] = omega arith
+how_many_le-length is_one (r ∷ before) = grind (arith, how_many_le-length is_one before)
+
+pub opens_le-length : (h : History) → opens h ≤ length h
+unfolding opens
+opens_le-length h = how_many_le-length (λ e before. is_some (opening e)) h
+
+pub creations_le-length : (h : History) → creations h ≤ length h
+unfolding creations
+creations_le-length h = how_many_le-length (λ e before. is_some (creation e before)) h
+
+-- a name is bound exactly where it is bound to an object
+same_is : (f g : Family) → same_family f g ≡ true → f ≡ g
+same_is Mq Mq e = refl
+same_is Sem Sem e = refl
+same_is Mq Sem e = absurd cc
+same_is Sem Mq e = absurd cc
+
+asks_same : (h : History) (asked : Opening) (f : Family) (name : List ℕ) → asks_name asked f name ≡ true → is_bound h asked.family asked.name ≡ is_bound h f name
+asks_same h asked f name e =
+    let parts = and_parts (same_family asked.family f) (same_name asked.name name) e in
+    let one : asked.family ≡ f = same_is asked.family f parts.0 in
+    let two : asked.name ≡ name = (bytes_eq-Decides asked.name name).0 parts.1 in
+    rw (one, two) refl
+
+-- to what an open binds a name
+abbrev opened_to : Family → List ℕ → ℕ → Option Opening → Option ℕ
+opened_to f name n None = None
+opened_to f name n (Some a) = cond (asks_name a f name) (Some n) None
+
+open_iff : (asked : Opening) (f : Family) (name : List ℕ) (n : ℕ) (w : Option Bool) (v : Option ℕ) → unwrap_or w false ≡ is_some v → (b same u : Bool) → asks_name asked f name ≡ same → (same ≡ true → u ≡ unwrap_or w false) → unwrap_or (option_or (cond (b && same) (Some true) None) w) false ≡ is_some (option_or (opened_to f name n (cond (b && not u) (Some asked) None)) v)
+open_iff asked f name n w v known true true true q k = k refl ∙ known
+open_iff asked f name n w v known true true false q k = rw q refl
+open_iff asked f name n w v known true false true q k = known
+open_iff asked f name n w v known true false false q k = rw q known
+open_iff asked f name n w v known false true u q k = known
+open_iff asked f name n w v known false false u q k = known
+
+iff_more : (h : History) (f : Family) (name : List ℕ) → is_bound h f name ≡ is_some (bound h f name) → (e : Event) (r : Option Rule) → is_bound (record { event = e; rule = r } ∷ h) f name ≡ is_some (bound (record { event = e; rule = r } ∷ h) f name)
+unfolding is_bound bound creating
+iff_more h f name known e (Some rule) = known
+iff_more h f name known (Hello found) None = known
+iff_more h f name known (Do sid (MqOpen given)) None = open_iff (queue_opening sid given) f name (creations h) (newest (leaves_bound f name) h) (newest (binds f name) h) known (has_create given.flags) (asks_name (queue_opening sid given) f name) (is_bound h Mq given.name) refl (asks_same h (queue_opening sid given) f name)
+iff_more h f name known (Do sid call) None = known
+
+pub bound_iff : (h : History) (f : Family) (name : List ℕ) → is_bound h f name ≡ is_some (bound h f name)
+unfolding is_bound bound
+bound_iff [] f name = refl
+bound_iff (r ∷ h) f name = iff_more h f name (bound_iff h f name) r.event r.rule
+
+-- objects are numbered below the creations
+object_at : (c : Config) (h : History) (o : ℕ) (b : Bool) → eqb (creations h) o ≡ b → (make : Opening → Option Object) (w : Option Opening) (v : Option Object) → (is_some v ≡ true → o < creations h) → is_some (option_or (option_and_then make (cond b w None)) v) ≡ true → o < cond (is_some w) (creations h + 1) (creations h)
+object_at c h o true e make None v known k = known k
+object_at c h o true e make (Some asked) v known k = let at : creations h ≡ o = eqb-true _ _ e in omega arith
+object_at c h o false e make None v known k = known k
+object_at c h o false e make (Some asked) v known k = let below = known k in omega arith
+
+object_more : (c : Config) (h : History) (o : ℕ) → (is_some (object c h o) ≡ true → o < creations h) → (e : Event) (r : Option Rule) → is_some (object c (record { event = e; rule = r } ∷ h) o) ≡ true → o < creations (record { event = e; rule = r } ∷ h)
+unfolding object creations
+object_more c h o known e (Some rule) k = known k
+object_more c h o known e None k = object_at c h o (eqb (creations h) o) refl _ (creation e h) (newest (makes c o) h) known k
+
+pub object_below : (c : Config) (h : History) (o : ℕ) → is_some (object c h o) ≡ true → o < creations h
+unfolding object
+object_below c [] o k = absurd cc
+object_below c (r ∷ h) o k = object_more c h o (object_below c h o) r.event r.rule k
+
+-- a mask has nine bits
+mask_more : (before : History) (s : ℕ) → mask before s < 512 → (e : Event) (o : Option Rule) → mask (record { event = e; rule = o } ∷ before) s < 512
+unfolding mask
+mask_more before s known e (Some rule) = known
+mask_more before s known (Hello found) None = known
+mask_more before s known (Do sid (Umask m)) None = set_at (eqb sid.0 s) where
+  set_at : (b : Bool) → unwrap_or (option_or (cond b (Some (m.0 % 512)) None) (newest (sets_mask s) before)) 18 < 512
+  set_at true = omega arith
+  set_at false = known
+mask_more before s known (Do sid call) None = known
+
+pub mask_lt : (h : History) (s : ℕ) → mask h s < 512
+unfolding mask
+mask_lt [] s = omega arith
+mask_lt (r ∷ before) s = mask_more before s (mask_lt before s) r.event r.rule
+
+-- the users of sessions are in the file
+some_of_not_none : {A : Type 0} (o : Option A) → None ≡ cond (is_none o) (Some BadKey) None → is_some o ≡ true
+some_of_not_none None h = absurd cc
+some_of_not_none (Some x) h = refl
+
+user_more : (c : Config) (before : History) (s : ℕ) (uid : Uid) → (user before s ≡ Some uid → is_some (cred_of c.users uid) ≡ true) → (e : Event) (o : Option Rule) → o ≡ verdict c before e → user (record { event = e; rule = o } ∷ before) s ≡ Some uid → is_some (cred_of c.users uid) ≡ true
+unfolding user
+user_more c before s uid known e (Some rule) legal h = known h
+user_more c before s uid known (Hello None) None legal h = absurd (let e = legal ∙ verdict_hello c before None in cc)
+user_more c before s uid known (Hello (Some who)) None legal h = begun_at (eqb (hellos before) s) h where
+  begun_at : (b : Bool) → option_or (cond b (Some who) None) (newest (begins s) before) ≡ Some uid → is_some (cred_of c.users uid) ≡ true
+  begun_at true k = let same : who ≡ uid = cc in rw (← same) (some_of_not_none (cred_of c.users who) (legal ∙ verdict_hello c before (Some who)))
+  begun_at false k = known k
+user_more c before s uid known (Do sid call) None legal h = known h
+
+pub known_user : (c : Config) (h : History) → Legal c h → (s : ℕ) (uid : Uid) → user h s ≡ Some uid → is_some (cred_of c.users uid) ≡ true
+unfolding user
+known_user c [] legal s uid h = absurd cc
+known_user c (r ∷ before) legal s uid h = user_more c before s uid (known_user c before legal.1 s uid) r.event r.rule legal.0 h
+
+-- a session whose hello has not come has no user, and its first mask
+user_below_more : (before : History) (s : ℕ) → (is_some (user before s) ≡ true → s < hellos before) → (e : Event) (o : Option Rule) → is_some (user (record { event = e; rule = o } ∷ before) s) ≡ true → s < hellos (record { event = e; rule = o } ∷ before)
+unfolding user hellos
+user_below_more before s known e (Some rule) h = known h
+user_below_more before s known (Hello found) None h = begun_at (eqb (hellos before) s) refl h where
+  begun_at : (b : Bool) → eqb (hellos before) s ≡ b → is_some (option_or (cond b found None) (newest (begins s) before)) ≡ true → s < how_many is_hello before + 1
+  begun_at true e k = let same : hellos before ≡ s = eqb-true _ _ e in let same' : how_many is_hello before ≡ s = same in omega arith
+  begun_at false e k = let below : s < how_many is_hello before = known k in omega arith
+user_below_more before s known (Do sid call) None h = known h
+
+pub user_below : (h : History) (s : ℕ) → is_some (user h s) ≡ true → s < hellos h
+unfolding user
+user_below [] s h = absurd cc
+user_below (r ∷ before) s h = user_below_more before s (user_below before s) r.event r.rule h
+
+live_of_none : (b : Bool) → None ≡ cond (not b) (Some NoSession) None → b ≡ true
+live_of_none true h = refl
+live_of_none false h = absurd cc
+
+first_mask_more : (c : Config) (before : History) (s : ℕ) → (hellos before ≤ s → mask before s ≡ 18) → (e : Event) (o : Option Rule) → o ≡ verdict c before e → hellos (record { event = e; rule = o } ∷ before) ≤ s → mask (record { event = e; rule = o } ∷ before) s ≡ 18
+unfolding mask hellos live
+first_mask_more c before s known e (Some rule) legal h = known h
+first_mask_more c before s known (Hello found) None legal h = known (let k : how_many is_hello before + 1 ≤ s = h in let k' : how_many is_hello before ≤ s = omega arith in k')
+first_mask_more c before s known (Do sid (Umask m)) None legal h = set_at (eqb sid.0 s) refl where
+  set_at : (b : Bool) → eqb sid.0 s ≡ b → unwrap_or (option_or (cond b (Some (m.0 % 512)) None) (newest (sets_mask s) before)) 18 ≡ 18
+  set_at true e =
+      let same : sid.0 ≡ s = eqb-true _ _ e in
+      let lives : is_some (user before sid.0) ≡ true = live_of_none _ (legal ∙ verdict_umask c before sid m) in
+      let below : sid.0 < hellos before = user_below before sid.0 lives in
+      let k : hellos before ≤ s = h in
+      absurd (omega arith)
+  set_at false e = known h
+first_mask_more c before s known (Do sid call) None legal h = known h
+
+pub first_mask : (c : Config) (h : History) → Legal c h → (s : ℕ) → hellos h ≤ s → mask h s ≡ 18
+unfolding mask
+first_mask c [] legal s h = refl
+first_mask c (r ∷ before) legal s h = first_mask_more c before s (first_mask c before legal.1 s) r.event r.rule legal.0 h
+
+-- one more event at the end of a list
+pub after_more : (c : Config) (h : History) (es : List Event) (e : Event) → after_events c h (es ++ e ∷ []) ≡ after_event c (after_events c h es) e
+after_more c h [] e = refl
+after_more c h (d ∷ es) e = after_more c (after_event c h d) es e
+
+pub answers_more : (c : Config) (h : History) (es : List Event) (e : Event) → all_answers c h (es ++ e ∷ []) ≡ all_answers c h es ++ answers c (after_events c h es) e ∷ []
+answers_more c h [] e = refl
+answers_more c h (d ∷ es) e = ap (λ l. answers c h d ∷ l) (answers_more c (after_event c h d) es e)

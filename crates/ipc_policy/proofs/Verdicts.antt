@@ -1,0 +1,68 @@
+-- The verdict on each kind of event, as the rule of the first condition that holds.
+use Rattle.std.proofs.Common.{◌≡◌, ℕ, Bool, true, false, not, ◌&&◌, List, [], ◌∷◌, length, cond, Option, Some, None, is_none, refl}
+use Rattle.std.specs.Prelude.{find, nat_lt, nat_le, option_and_then, if◌then◌else◌}
+use Rattle.std.specs.Option.{option_map}
+use Rattle.ipc_terms.specs.Flags.{has_create, has_exclusive}
+use Rattle.ipc_terms.specs.declared.rule.Rule.{Rule}
+use Rattle.ipc_terms.specs.declared.rule.Rule.TheVariants.{NoSession, NameForm, NameLong, BadDescr, DirSearch, Absent, Present, ModeDenied, DirWrite, AttrRange, DescrLimit, BadKey}
+use Rattle.ipc_terms.specs.declared.ids.Uid.{Uid}
+use Rattle.ipc_terms.specs.declared.ids.Sid.{Sid}
+use Rattle.ipc_terms.specs.declared.ids.Desc.{Desc}
+use Rattle.ipc_terms.specs.declared.ids.Mode.{Mode}
+use Rattle.ipc_terms.specs.declared.ids.Family.TheVariants.{Mq}
+use Rattle.ipc_terms.specs.declared.call.QueueOpen.{QueueOpen}
+use Rattle.ipc_terms.specs.declared.call.Call.TheVariants.{Umask, MqOpen, MqClose}
+use Rattle.ipc_terms.specs.declared.record.Event.TheVariants.{Hello, Do}
+use Rattle.ipc_access.specs.Users.{cred_of}
+use Rattle.ipc_policy.specs.declared.config.Config.{Config}
+use Rattle.ipc_policy.specs.History.{History}
+use Rattle.ipc_policy.specs.Sessions.{live, cred}
+use Rattle.ipc_policy.specs.Names.{Opening, is_bound, creating, bound}
+use Rattle.ipc_policy.specs.Objects.{facts, directory}
+use Rattle.ipc_policy.specs.Descriptions.{holds, held_count}
+use Rattle.ipc_policy.specs.Rules.{forbids, denied, denied_at, bits_wanted, has_name_form, out_of_range, not_held, no_session, name_form, name_long, bad_descr, dir_search, absent, present, mode_denied, dir_write, attr_range, descr_limit, bad_key}
+use Rattle.ipc_policy.specs.Verdict.{verdict}
+
+-- the rule of the first condition that holds
+abbrev pub first_of : List (Bool × Rule) → Option Rule
+first_of [] = None
+first_of (p ∷ ps) = if p.0 then Some p.1 else first_of ps
+
+-- what a queue's open asks for
+abbrev pub queue_opening : Sid → QueueOpen → Opening
+queue_opening sid asked = record { session = sid; family = Mq; name = asked.name; flags = asked.flags; access = asked.access; mode = asked.mode; attributes = asked.attributes }
+
+pub verdict_hello : (c : Config) (h : History) (found : Option Uid) → verdict c h (Hello found) ≡ first_of ((is_none (option_and_then (cred_of c.users) found), BadKey) ∷ [])
+unfolding verdict forbids no_session name_form name_long bad_descr dir_search absent present mode_denied dir_write attr_range descr_limit bad_key
+verdict_hello c h found = refl
+
+pub verdict_umask : (c : Config) (h : History) (sid : Sid) (mode : Mode) → verdict c h (Do sid (Umask mode)) ≡ first_of ((not (live h sid.0), NoSession) ∷ [])
+unfolding verdict forbids no_session name_form name_long bad_descr dir_search absent present mode_denied dir_write attr_range descr_limit bad_key
+verdict_umask c h sid mode = refl
+
+pub verdict_close : (c : Config) (h : History) (sid : Sid) (desc : Desc) → verdict c h (Do sid (MqClose desc)) ≡ first_of ((not (live h sid.0), NoSession) ∷ (not_held c h sid.0 Mq desc.0, BadDescr) ∷ [])
+unfolding verdict forbids no_session name_form name_long bad_descr dir_search absent present mode_denied dir_write attr_range descr_limit bad_key
+verdict_close c h sid desc = refl
+
+pub verdict_open : (c : Config) (h : History) (sid : Sid) (asked : QueueOpen) → verdict c h (Do sid (MqOpen asked)) ≡ first_of (
+    (not (live h sid.0), NoSession)
+    ∷ (not (has_name_form asked.name), NameForm)
+    ∷ (nat_lt 256 (length asked.name), NameLong)
+    ∷ (denied (cred c h sid.0) (directory h Mq) 1, DirSearch)
+    ∷ (not (has_create asked.flags) && not (is_bound h Mq asked.name), Absent)
+    ∷ (has_create asked.flags && has_exclusive asked.flags && is_bound h Mq asked.name, Present)
+    ∷ (denied_at (cred c h sid.0) (option_and_then (facts c h) (bound h Mq asked.name)) (bits_wanted asked.access), ModeDenied)
+    ∷ (creating h (queue_opening sid asked) && denied (cred c h sid.0) (directory h Mq) 2, DirWrite)
+    ∷ (creating h (queue_opening sid asked) && out_of_range c (cred c h sid.0) asked.attributes, AttrRange)
+    ∷ (nat_le 1024 (held_count h sid.0), DescrLimit)
+    ∷ [])
+unfolding verdict forbids no_session name_form name_long bad_descr dir_search absent present mode_denied dir_write attr_range descr_limit bad_key
+verdict_open c h sid asked = refl
+
+-- found by a search through the list
+pub first_found : (ps : List (Bool × Rule)) → option_map (λ p. p.1) (find (λ p. p.0) ps) ≡ first_of ps
+first_found [] = refl
+first_found (p ∷ ps) = found_at p.0 (first_found ps) where
+  found_at : (b : Bool) → option_map (λ q. q.1) (find (λ q. q.0) ps) ≡ first_of ps → option_map (λ q. q.1) (cond b (Some p) (find (λ q. q.0) ps)) ≡ cond b (Some p.1) (first_of ps)
+  found_at true e = refl
+  found_at false e = e

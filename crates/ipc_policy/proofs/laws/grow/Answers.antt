@@ -1,0 +1,5 @@
+use Rattle.ipc_policy.proofs.Growing.{grows}
+use Rattle.ipc_policy.proofs.laws.grow.Goals as goal
+
+pub returns : goal.returns
+returns g = grows

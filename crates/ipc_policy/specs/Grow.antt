@@ -1,0 +1,103 @@
+-- What one accepted event does to each value, by the values before it alone.
+use Rattle.std.specs.Prelude.{◌≡◌, Bool, false, ℕ, ◌+◌, ◌-◌, ◌%◌, ◌&&◌, ◌||◌, ◌==◌, not, List, ◌∷◌, Option, Some, None, is_some, if◌then◌else◌, unwrap_or}
+use Rattle.std.specs.Option.{option_or, option_map}
+use Rattle.ipc_terms.specs.Flags.{has_create, has_nonblock}
+use Rattle.ipc_terms.specs.declared.ids.Uid.{Uid}
+use Rattle.ipc_terms.specs.declared.ids.Family.{Family}
+use Rattle.ipc_terms.specs.declared.call.Call.TheVariants.{Umask, MqOpen, MqClose}
+use Rattle.ipc_terms.specs.declared.record.Event.{Event}
+use Rattle.ipc_terms.specs.declared.record.Event.TheVariants.{Hello, Do}
+use Rattle.ipc_policy.specs.declared.config.Config.{Config}
+use Rattle.ipc_policy.specs.declared.config.Held.{Held}
+use Rattle.ipc_policy.specs.History.{History, kept}
+use Rattle.ipc_policy.specs.Sessions.{hellos, user, live, cred, mask}
+use Rattle.ipc_policy.specs.Names.{Opening, opening, asks_name, is_bound, creations, bound}
+use Rattle.ipc_policy.specs.Objects.{object, facts, directory, made_by, first_facts}
+use Rattle.ipc_policy.specs.Descriptions.{opens, held, holds, held_count, is_nonblock, ends_held}
+
+abbrev pub hellos_after : Event → ℕ → ℕ
+hellos_after (Hello found) hellos = hellos + 1
+hellos_after _ hellos = hellos
+
+abbrev pub user_after : ℕ → Event → ℕ → Option Uid → Option Uid
+user_after s (Hello found) hellos was = option_or (if hellos == s then found else None) was
+user_after s _ hellos was = was
+
+abbrev pub mask_after : ℕ → Event → ℕ → ℕ
+mask_after s (Do sid (Umask mask)) was = if sid.0 == s then mask.0 % 512 else was
+mask_after s _ was = was
+
+-- an open with CREAT of a name that was unbound
+abbrev pub is_new : Opening → (Family → List ℕ → Bool) → Bool
+is_new asked is_bound = has_create asked.flags && not (is_bound asked.family asked.name)
+
+abbrev pub is_bound_after : Family → List ℕ → Event → Bool → Bool
+is_bound_after f name e was = by_open (opening e) where
+  by_open : Option Opening → Bool
+  by_open None = was
+  by_open (Some asked) = (has_create asked.flags && asks_name asked f name) || was
+
+abbrev pub creations_after : Event → (Family → List ℕ → Bool) → ℕ → ℕ
+creations_after e is_bound was = by_open (opening e) where
+  by_open : Option Opening → ℕ
+  by_open None = was
+  by_open (Some asked) = if is_new asked is_bound then was + 1 else was
+
+abbrev pub bound_after : Family → List ℕ → Event → (Family → List ℕ → Bool) → ℕ → Option ℕ → Option ℕ
+bound_after f name e is_bound creations was = by_open (opening e) where
+  by_open : Option Opening → Option ℕ
+  by_open None = was
+  by_open (Some asked) = if is_new asked is_bound && asks_name asked f name then Some creations else was
+
+-- what the open that creates object o gives it, else what it had
+abbrev pub made_after : {A : Type 0} → ℕ → Event → (Family → List ℕ → Bool) → ℕ → (Opening → Option A) → Option A → Option A
+made_after {A = A} o e is_bound creations make was = by_open (opening e) where
+  by_open : Option Opening → Option A
+  by_open None = was
+  by_open (Some asked) = if is_new asked is_bound && (creations == o) then option_or (make asked) was else was
+
+abbrev pub opens_after : Event → ℕ → ℕ
+opens_after e was = by_open (opening e) where
+  by_open : Option Opening → ℕ
+  by_open None = was
+  by_open (Some asked) = was + 1
+
+abbrev pub held_after : ℕ → Event → ℕ → (Family → List ℕ → Option ℕ) → ℕ → Option Held → Option Held
+held_after d e opens bound creations was = by_open (opening e) where
+  by_open : Option Opening → Option Held
+  by_open None = kept (λ x. ends_held d x e) was
+  by_open (Some asked) =
+      if opens == d
+      then Some (record { session = asked.session; object = unwrap_or (bound asked.family asked.name) creations; access = asked.access })
+      else was
+
+abbrev pub held_count_after : ℕ → Event → (ℕ → ℕ → Option Held) → ℕ → ℕ
+held_count_after s (Do sid (MqOpen asked)) holds was = if sid.0 == s then was + 1 else was
+held_count_after s (Do sid (MqClose desc)) holds was = if (sid.0 == s) && is_some (holds s desc.0) then was - 1 else was
+held_count_after s _ holds was = was
+
+abbrev pub nonblock_after : ℕ → ℕ → Event → ℕ → Bool → Bool
+nonblock_after s d e opens was = by_open (opening e) where
+  by_open : Option Opening → Bool
+  by_open None = was
+  by_open (Some asked) = if (asked.session.0 == s) && (opens == d) then has_nonblock asked.flags else was
+
+-- each value after an accepted event, by the values before it
+pub record Grows (c : Config) (h k : History) (e : Event) : Type 0 where
+  pub hello_count : hellos k ≡ hellos_after e (hellos h)
+  pub user_of : (s : ℕ) → user k s ≡ user_after s e (hellos h) (user h s)
+  pub mask_of : (s : ℕ) → mask k s ≡ mask_after s e (mask h s)
+  pub bound_or_not : (f : Family) (name : List ℕ) → is_bound k f name ≡ is_bound_after f name e (is_bound h f name)
+  pub creation_count : creations k ≡ creations_after e (is_bound h) (creations h)
+  pub object_named : (f : Family) (name : List ℕ) → bound k f name ≡ bound_after f name e (is_bound h) (creations h) (bound h f name)
+  pub object_of : (o : ℕ) → object c k o ≡ made_after o e (is_bound h) (creations h) (λ asked. option_map (made_by c asked) (cred c h asked.session.0)) (object c h o)
+  pub facts_of : (o : ℕ) → facts c k o ≡ made_after o e (is_bound h) (creations h) (λ asked. option_map (first_facts asked (mask h asked.session.0)) (cred c h asked.session.0)) (facts c h o)
+  pub directory_of : (f : Family) → directory k f ≡ directory h f
+  pub open_count : opens k ≡ opens_after e (opens h)
+  pub held_by : (d : ℕ) → held k d ≡ held_after d e (opens h) (bound h) (creations h) (held h d)
+  pub count_of : (s : ℕ) → held_count k s ≡ held_count_after s e (holds h) (held_count h s)
+  pub nonblock_of : (s d : ℕ) → is_nonblock k s d ≡ nonblock_after s d e (opens h) (is_nonblock h s d)
+
+-- an accepted event changes each value as stated, by the values before it
+abbrev pub AcceptedGrows : Type 0
+AcceptedGrows = (c : Config) (h : History) (e : Event) → Grows c h (record { event = e; rule = None } ∷ h) e

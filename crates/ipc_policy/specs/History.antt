@@ -1,0 +1,50 @@
+-- A history is a list of records, the newest first. What came before a record is the list behind it.
+-- A question about a history is asked in one of three ways: what does the newest accepted event
+-- that says something about it say; what did the newest one begin, unless a later one ended it;
+-- and how many accepted events are of a kind. Refused events say, begin and end nothing.
+use Rattle.std.specs.Prelude.{Bool, ℕ, zero, suc, ◌+◌, ◌&&◌, ◌==◌, length, List, [], ◌∷◌, Option, Some, None, is_none, if◌then◌else◌}
+use Rattle.std.specs.Option.{option_or}
+use Rattle.ipc_terms.specs.declared.record.Event.{Event}
+use Rattle.ipc_terms.specs.declared.record.Record.{Record}
+
+abbrev pub History : Type 0
+History = List Record
+
+abbrev pub is_accepted : Record → Bool
+is_accepted r = is_none r.rule
+
+-- what the newest accepted event that says something says; an event is read with what came before it
+abbrev pub newest : {A : Type 0} → (Event → History → Option A) → History → Option A
+newest says [] = None
+newest says (r ∷ before) =
+    option_or (if is_accepted r then says r.event before else None) (newest says before)
+
+-- how many accepted events are of a kind; an event is read with what came before it
+abbrev pub how_many : (Event → History → Bool) → History → ℕ
+how_many is_one [] = 0
+how_many is_one (r ∷ before) =
+    if is_accepted r && is_one r.event before then how_many is_one before + 1 else how_many is_one before
+
+-- what is left of it unless it was ended
+abbrev pub kept : {A : Type 0} → (A → Bool) → Option A → Option A
+kept ends None = None
+kept ends (Some x) = if ends x then None else Some x
+
+-- what the newest accepted event that begins something begins, unless a later accepted event ends it;
+-- an event is read with what came before it
+abbrev pub unended : {A : Type 0} → (Event → History → Option A) → (A → Event → History → Bool) → History → Option A
+unended begins ends [] = None
+unended begins ends (r ∷ before) =
+    if is_accepted r
+    then option_or (begins r.event before) (kept (λ x. ends x r.event before) (unended begins ends before))
+    else unended begins ends before
+
+-- how many numbers below a limit are of a kind
+abbrev pub how_many_below : (ℕ → Bool) → ℕ → ℕ
+how_many_below is_one zero = 0
+how_many_below is_one (suc n) = if is_one n then how_many_below is_one n + 1 else how_many_below is_one n
+
+-- the record that has so many records before it
+abbrev pub record_at : ℕ → History → Option Record
+record_at place [] = None
+record_at place (r ∷ before) = if length before == place then Some r else record_at place before

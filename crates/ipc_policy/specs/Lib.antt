@@ -1,0 +1,9 @@
+pub mod History
+pub mod Sessions
+pub mod Names
+pub mod Objects
+pub mod Descriptions
+pub mod Rules
+pub mod Verdict
+pub mod Laws
+pub mod Grow

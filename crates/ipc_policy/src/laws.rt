@@ -1,0 +1,19 @@
+//! Laws of the policy, over every history. These functions do nothing: what they ensure is what is proved.
+
+ghost use Rattle.ipc_policy.specs.Laws.{VerdictIsLeast, RefusedIsQuiet};
+ghost use Rattle.ipc_policy.specs.Grow.{AcceptedGrows};
+
+/// The verdict is the least of the rules that forbid, or none where no rule does.
+pub fn least()
+    ensures { VerdictIsLeast }
+{}
+
+/// A refused event changes no value.
+pub fn quiet()
+    ensures { RefusedIsQuiet }
+{}
+
+/// An accepted event changes each value as stated, by the values before it alone.
+pub fn grow()
+    ensures { AcceptedGrows }
+{}

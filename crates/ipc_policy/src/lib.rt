@@ -1,0 +1,9 @@
+//! The policy: what a history of records means, and which rules forbid an event after it. All of it
+//! stands in `specs/`; the laws hold of every history.
+#![tactic(auto)]
+
+mod config;
+mod laws;
+
+pub use config::{Config, Facts, Held, Limits, Object};
+pub use laws::{grow, least, quiet};

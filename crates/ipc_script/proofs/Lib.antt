@@ -1,0 +1,2 @@
+pub mod WordsNumberLemmas
+pub mod WordsAnswerLemmas

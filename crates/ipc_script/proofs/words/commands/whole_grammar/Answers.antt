@@ -1,0 +1,20 @@
+use Rattle.std.proofs.Common.{◌≡◌, ◌∙◌, ◌&&◌, Bool, true, false, not, ap, ap₂}
+use Rattle.std.proofs.lemmas.Bool.{and_parts, not-true}
+use Rattle.clap.specs.Simple.{Shape, with_subcommand}
+use Rattle.ipc_script.specs.WordsGrammar.{grammar}
+use Rattle.ipc_script.proofs.words.commands.whole_grammar.Goals as goal
+
+-- the third part of a conjunction of negations
+third : (a b c d : Bool) → (a && (b && (not c && d))) ≡ true → c ≡ false
+third a b c d all =
+    not-true c (and_parts (not c) d (and_parts b (not c && d) (and_parts a (b && (not c && d)) all).1).1).0
+
+pub returns : goal.returns
+unfolding grammar
+returns c =
+    let plain = λ (s : Shape). s.is_plain in
+    c.in_ok-command.ensures.shape (third _ _ _ _ (ap plain c.in_ok-mq_close.ensures)) ∙ ap₂ with_subcommand (
+    c.in_ok-subcommand-2.ensures.shape (third _ _ _ _ (ap plain c.in_ok-mq_open.ensures)) ∙ ap₂ with_subcommand (
+    c.in_ok-subcommand.ensures.shape (third _ _ _ _ (ap plain c.in_ok-umask.ensures)) ∙ ap₂ with_subcommand
+    c.outer.ensures c.in_ok-umask.ensures)
+    c.in_ok-mq_open.ensures) c.in_ok-mq_close.ensures

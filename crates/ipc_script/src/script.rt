@@ -1,0 +1,198 @@
+//! Running a script.
+
+ghost use Rattle.std.specs.Prelude.{◌≡◌, IfOk, IfErr, false, unwrap_or};
+ghost use Rattle.ipc_script.specs.Faults.{is_users_memory};
+ghost use Rattle.ipc_script.specs.Labels.{newest_of};
+ghost use Rattle.ipc_script.specs.Steps.{IsMadeBy};
+
+use crate::fault::ScriptFault;
+use crate::labels::{Labels, is_label};
+use crate::lines::Lines;
+use crate::words::{WordFault, call_of_words, line_of_answer};
+use ipc_access::Users;
+use ipc_core::{Config, Core, Limits};
+use ipc_terms::{Answer, Event, Sid};
+use std::alloc::{AllocError, Global};
+use std::io::{ErrorKind, Read, Write};
+
+/// How many reads of its reader a run makes at most.
+const MOST_READS: u64 = 1_000_000_000;
+
+/// Runs a script.
+///
+/// The input is a user file, a line `.`, and then one step a line: a label and what its session
+/// does, parted by spaces or tabs. `LABEL hello KEY` starts a session; other words are a call of
+/// the session that the label started last. Empty lines and lines that begin with `#` are skipped.
+/// Each answer is written as a line, under the label that started the session which it is for.
+///
+/// # Errors
+///
+/// The first fault of the input, of the reader or of the writer ends the run; what was answered
+/// before it is written. The user file is read whole, then its faults are looked for, then those
+/// of the limits. A line is at fault that has more than 1,048,576 bytes without its line feed, or
+/// that is not UTF-8. An interrupted read is made again; 1,000,000,000 reads are made at most. Want
+/// of memory is always `Memory`.
+pub fn run_script<R: Read + Drop, W: Write + Drop>(
+    alloc: Global,
+    limits: Limits,
+    reader: R,
+    writer: W,
+) -> Result<(), ScriptFault>
+    ensures { IfErr result (λ fault. is_users_memory fault ≡ false) }
+{
+    let mut lines = Lines::new(alloc, reader, MOST_READS)?;
+    let users = read_users(alloc, &mut lines)?;
+    let core = Core::new(alloc, Config { users, limits })?;
+    let mut script = Script {
+        alloc,
+        core,
+        labels: Labels::new(alloc),
+        writer,
+    };
+    let outcome = script.run(lines);
+    let flushed = script.flush();
+    outcome?;
+    flushed
+}
+
+/// The users of the lines up to a line `.`.
+fn read_users<R: Read + Drop>(alloc: Global, lines: &mut Lines<R>) -> Result<Users, ScriptFault>
+    ensures { IfErr result (λ fault. is_users_memory fault ≡ false) }
+{
+    let mut bytes = Vec::new(alloc);
+    for line in lines.by_ref() {
+        let line = line?;
+        if line.as_str() == "." {
+            return Ok(Users::read(alloc, &bytes)?);
+        }
+        bytes.extend_from_slice(line.as_bytes())?;
+        bytes.push(b'\n')?;
+    }
+    Err(ScriptFault::Line(lines.next_number()))
+}
+
+/// The words of a line, parted by runs of spaces and tabs.
+fn words_of(alloc: Global, line: &str) -> Result<Vec<&str>, AllocError> {
+    line.split([' ', '\t'])
+        .filter(|word| !word.is_empty())
+        .collect(alloc)
+}
+
+/// A script that runs.
+#[derive(Drop)]
+struct Script<W: Write + Drop> {
+    alloc: Global,
+    core: Core,
+    labels: Labels,
+    writer: W,
+}
+
+impl<W: Write + Drop> Script<W> {
+    fn run<R: Read + Drop>(&mut self, lines: Lines<R>) -> Result<(), ScriptFault>
+        ensures { IfErr result (λ fault. is_users_memory fault ≡ false) }
+    {
+        for line in lines {
+            self.take_line(line?.as_str())?;
+        }
+        Ok(())
+    }
+
+    fn take_line(&mut self, line: &str) -> Result<(), ScriptFault>
+        ensures { IfErr result (λ fault. is_users_memory fault ≡ false) }
+    {
+        if line.is_empty() || line.starts_with('#') {
+            return Ok(());
+        }
+        let words = words_of(self.alloc, line)?;
+        match words.split_first() {
+            Some((label, asked)) if is_label(label) => self.ask(label, asked),
+            _ => self.write_line("-", "fault line"),
+        }
+    }
+
+    /// Makes the step that a label's words ask for.
+    fn ask(&mut self, label: &str, words: &[&str]) -> Result<(), ScriptFault>
+        ensures { IfErr result (λ fault. is_users_memory fault ≡ false) }
+    {
+        match self.event_of(label, words) {
+            Ok(event) => self.step(label, event),
+            Err(WordFault::NoMemory) => Err(ScriptFault::Memory),
+            Err(fault) => {
+                let text = format!(in self.alloc; "fault {fault}")?;
+                self.write_line(label, text.as_str())
+            }
+        }
+    }
+
+    fn event_of(&self, label: &str, words: &[&str]) -> Result<Event, WordFault>
+        ensures { IfOk result (λ event. IsMadeBy event
+            (unwrap_or (newest_of self.now.labels label.now) Sid.NOBODY)) }
+    {
+        match words {
+            ["hello", key] => Ok(Event::Hello {
+                found: self.core.config().users.find(key.as_bytes()),
+            }),
+            ["hello", ..] => Err(WordFault::Usage),
+            _ => Ok(Event::Do {
+                sid: self.labels.newest(label).unwrap_or(Sid::NOBODY),
+                call: call_of_words(self.alloc, words)?,
+            }),
+        }
+    }
+
+    /// Steps the core, and writes its answers.
+    fn step(&mut self, label: &str, event: Event) -> Result<(), ScriptFault>
+        ensures { IfErr result (λ fault. is_users_memory fault ≡ false) }
+    {
+        let answers = self.core.step(self.alloc, event)?;
+        for (sid, answer) in &answers {
+            self.write_answer(label, *sid, answer)?;
+        }
+        Ok(())
+    }
+
+    /// Writes an answer under the label that started the session which it is for, and that of no
+    /// session under the line's own.
+    fn write_answer(&mut self, label: &str, sid: Sid, answer: &Answer) -> Result<(), ScriptFault>
+        ensures { IfErr result (λ fault. is_users_memory fault ≡ false) }
+    {
+        if let Answer::Started(started) = answer {
+            self.labels.start(self.alloc, label, *started)?;
+        }
+        let text = line_of_answer(self.alloc, answer)?;
+        let label = self.labels.starter(sid).unwrap_or(label);
+        let line = format!(in self.alloc; "{label} {text}\n")?;
+        self.write(line.as_str())
+    }
+
+    fn write_line(&mut self, label: &str, text: &str) -> Result<(), ScriptFault>
+        ensures { IfErr result (λ fault. is_users_memory fault ≡ false) }
+    {
+        let line = format!(in self.alloc; "{label} {text}\n")?;
+        self.write(line.as_str())
+    }
+
+    /// Writes a line at once, so that whoever reads it needn't wait for the next.
+    fn write(&mut self, line: &str) -> Result<(), ScriptFault>
+        ensures { IfErr result (λ fault. is_users_memory fault ≡ false) }
+    {
+        self.writer
+            .write_all(line.as_bytes())
+            .map_err(fault_of_writer)
+    }
+
+    fn flush(&mut self) -> Result<(), ScriptFault>
+        ensures { IfErr result (λ fault. is_users_memory fault ≡ false) }
+    {
+        self.writer.flush().map_err(fault_of_writer)
+    }
+}
+
+fn fault_of_writer(error: std::io::Error) -> ScriptFault
+    ensures { is_users_memory result ≡ false }
+{
+    match error.kind() {
+        ErrorKind::OutOfMemory => ScriptFault::Memory,
+        _ => ScriptFault::Write,
+    }
+}

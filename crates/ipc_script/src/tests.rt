@@ -1,0 +1,305 @@
+//! What no clause says: the text of a run, and the fault with which it ends.
+
+use crate::labels::{Labels, is_label};
+use crate::lines::{LONGEST_LINE, LineFault, Lines};
+use crate::{ScriptFault, run_script};
+use ipc_access::UserFault;
+use ipc_core::{Field, Limits};
+use ipc_terms::Sid;
+use std::alloc::{AllocError, Global};
+use std::io;
+use std::io::{ErrorKind, Read, Write};
+use std::process::Abort;
+use std::test::Fail;
+
+/// A user file and its end.
+const USERS: &str = "ann:ka1:1000:1000::\nbob:kb1:1001:1001::\n.\n";
+
+/// What a script after `USERS` writes, and the fault that it ends with.
+fn run_steps(alloc: Global, steps: &[u8]) -> Result<(String, Result<(), ScriptFault>), AllocError> {
+    let mut input = Vec::from_slice(alloc, USERS.as_bytes())?;
+    input.extend_from_slice(steps)?;
+    let mut output = Vec::new(alloc);
+    let outcome = run_script(alloc, Limits::STANDARD, input.as_slice(), &mut output);
+    Ok((String::from_utf8_lossy(alloc, &output)?, outcome))
+}
+
+fn assert_writes(rt: &(impl Abort + AllocGlobal), steps: &str, written: &str) {
+    let run = run_steps(rt.alloc(), steps.as_bytes()).expect(rt, "memory");
+    assert_eq!(rt; run.0.as_str(), written, "after {steps:?}");
+    assert_eq!(rt; run.1, Ok(()), "after {steps:?}");
+}
+
+fn assert_ends(rt: &(impl Abort + AllocGlobal), input: &[u8], fault: ScriptFault) {
+    let mut output = Vec::new(rt.alloc());
+    let outcome = run_script(rt.alloc(), Limits::STANDARD, input, &mut output);
+    assert_eq!(rt; outcome, Err(fault));
+    assert!(rt; output.is_empty());
+}
+
+#[test]
+fn faults_have_words_and_statuses(rt: HostRuntime) -> Result<(), Fail> {
+    let rows = [
+        (
+            ScriptFault::Users(UserFault::BadLine(2)),
+            "users BadLine 2",
+            3,
+        ),
+        (ScriptFault::Users(UserFault::TooMany), "users TooMany", 3),
+        (ScriptFault::Config(Field::MsgMax), "config MsgMax", 3),
+        (ScriptFault::Config(Field::QueuesMax), "config QueuesMax", 3),
+        (ScriptFault::Read, "read", 4),
+        (ScriptFault::Write, "write", 4),
+        (ScriptFault::Memory, "memory", 5),
+        (ScriptFault::Line(7), "line 7", 6),
+    ];
+    for (fault, words, status) in &rows {
+        assert_eq!(rt; format!(in rt.alloc(); "{fault}")?.as_str(), *words);
+        assert_eq!(rt; fault.status(), *status);
+    }
+    Ok(())
+}
+
+#[test]
+fn sessions_are_started_and_answered(rt: HostRuntime) {
+    assert_writes(&rt, "", "");
+    assert_writes(&rt, "a hello ka1", "a started 0\n");
+    assert_writes(
+        &rt,
+        "a hello ka1\nb hello kb1\na hello kb1\n",
+        "a started 0\nb started 1\na started 2\n",
+    );
+    let refused = "a refused 31 EACCES BadKey\n";
+    assert_writes(&rt, "a hello zz\n", refused);
+    assert_writes(&rt, "a hello\n", "a fault usage\n");
+    assert_writes(&rt, "a hello ka1 ka1\n", "a fault usage\n");
+}
+
+#[test]
+fn lines_are_words(rt: HostRuntime) {
+    assert_writes(&rt, "\n# a hello ka1\n#\n", "");
+    assert_writes(&rt, " \t\n", "- fault line\n");
+    assert_writes(&rt, " # a\n", "- fault line\n");
+    assert_writes(&rt, "\t a \t\thello  ka1\t \n", "a started 0\n");
+    assert_writes(&rt, "a\n", "a fault usage\n");
+    assert_writes(&rt, "a\r\n", "- fault line\n");
+    assert_writes(&rt, "Ann hello ka1\n", "- fault line\n");
+}
+
+#[test]
+fn labels_are_short_words(rt: HostRuntime) {
+    for word in ["a", "0", "z9", "abcdefghijklmnop", "0123456789azazaz"] {
+        assert!(rt; is_label(word), "{word}");
+    }
+    for word in [
+        "",
+        "A",
+        "a-b",
+        "a.",
+        "{",
+        "`",
+        "/",
+        ":",
+        "é",
+        "-",
+        "abcdefghijklmnopq",
+    ] {
+        assert!(rt; !is_label(word), "{word}");
+    }
+}
+
+#[test]
+fn answers_go_where_their_session_was_started(rt: HostRuntime) -> Result<(), Fail> {
+    let mut labels = Labels::new(rt.alloc());
+    assert_eq!(rt; labels.newest("a"), None);
+    labels.start(rt.alloc(), "a", Sid(0))?;
+    labels.start(rt.alloc(), "b", Sid(1))?;
+    labels.start(rt.alloc(), "a", Sid(2))?;
+    assert_eq!(rt; labels.newest("a"), Some(Sid(2)));
+    assert_eq!(rt; labels.newest("b"), Some(Sid(1)));
+    assert_eq!(rt; labels.newest("c"), None);
+    assert_eq!(rt; labels.starter(Sid(0)), Some("a"));
+    assert_eq!(rt; labels.starter(Sid(1)), Some("b"));
+    assert_eq!(rt; labels.starter(Sid(2)), Some("a"));
+    assert_eq!(rt; labels.starter(Sid::NOBODY), None);
+    Ok(())
+}
+
+#[test]
+fn lines_at_fault_are_named(rt: HostRuntime) {
+    assert_ends(&rt, b"", ScriptFault::Line(1));
+    assert_ends(&rt, b"ann:ka1:1000:1000::\n", ScriptFault::Line(2));
+    assert_ends(&rt, b"ann:ka1:1000:1000::\n. \n", ScriptFault::Line(3));
+    assert_ends(&rt, b"\xff\n.\n", ScriptFault::Line(1));
+    assert_ends(&rt, b"bad\n\xff\n", ScriptFault::Line(2));
+    assert_ends(
+        &rt,
+        b"bad\n.\n\xff\n",
+        ScriptFault::Users(UserFault::BadLine(1)),
+    );
+}
+
+#[test]
+fn faults_leave_what_was_written(rt: HostRuntime) -> Result<(), Fail> {
+    let (written, outcome) = run_steps(rt.alloc(), b"a hello ka1\na \xff\nb hello kb1\n")?;
+    assert_eq!(rt; written.as_str(), "a started 0\n");
+    assert_eq!(rt; outcome, Err(ScriptFault::Line(5)));
+    Ok(())
+}
+
+#[test]
+fn long_lines_are_faults(rt: HostRuntime) -> Result<(), Fail> {
+    let longest = LONGEST_LINE as usize;
+    let mut steps = vec![in rt.alloc(); b'#'; longest]?;
+    let (_, ends) = run_steps(rt.alloc(), &steps)?;
+    assert_eq!(rt; ends, Ok(()));
+    steps.extend_from_slice(b"\na hello ka1")?;
+    let (written, outcome) = run_steps(rt.alloc(), &steps)?;
+    assert_eq!(rt; outcome, Ok(()));
+    assert_eq!(rt; written.as_str(), "a started 0\n");
+    let longer = vec![in rt.alloc(); b'#'; longest + 1]?;
+    let (_, fault) = run_steps(rt.alloc(), &longer)?;
+    assert_eq!(rt; fault, Err(ScriptFault::Line(4)));
+    Ok(())
+}
+
+#[test]
+fn limits_are_tested_after_users(rt: HostRuntime) -> Result<(), Fail> {
+    let limits = Limits {
+        msg_max: 0,
+        msgsize_max: 8192,
+        queues_max: 256,
+    };
+    let alloc = rt.alloc();
+    let rows = [
+        (b".\n".as_slice(), ScriptFault::Config(Field::MsgMax)),
+        (
+            b"bad\n.\n".as_slice(),
+            ScriptFault::Users(UserFault::BadLine(1)),
+        ),
+    ];
+    for (input, fault) in &rows {
+        let mut output = Vec::new(alloc);
+        let outcome = run_script(alloc, limits, *input, &mut output);
+        assert_eq!(rt; outcome, Err(*fault));
+    }
+    Ok(())
+}
+
+/// A reader of a few bytes at a time that fails once.
+#[derive(Drop)]
+struct FailingReader<'a> {
+    rest: &'a [u8],
+    reads: u64,
+    fails_at: u64,
+    kind: ErrorKind,
+}
+
+impl Read for FailingReader<'_> {
+    fn read(&mut self, buffer: &mut [u8]) -> io::Result<usize> {
+        self.reads = self.reads.saturating_add(1);
+        if self.reads == self.fails_at {
+            return Err(io::Error::from(self.kind));
+        }
+        let most = buffer.len().min(7);
+        self.rest.read(&mut buffer[..most])
+    }
+}
+
+/// A writer to memory of a few bytes at a time that fails once.
+#[derive(Drop)]
+struct FailingWriter {
+    written: Vec<u8>,
+    writes: u64,
+    fails_at: u64,
+}
+
+impl Write for FailingWriter {
+    fn write(&mut self, buffer: &[u8]) -> io::Result<usize> {
+        self.writes = self.writes.saturating_add(1);
+        if self.writes == self.fails_at {
+            return Err(io::Error::from(ErrorKind::BrokenPipe));
+        }
+        let most = buffer.len().min(5);
+        self.written.write(&buffer[..most])
+    }
+
+    fn flush(&mut self) -> io::Result<()> {
+        Ok(())
+    }
+}
+
+/// A script, and what it writes.
+const SCRIPT: &str = "ann:ka1:1000:1000::\n.\na hello ka1\na hello\nb hello ka1\n";
+
+const WRITTEN: &str = "a started 0\na fault usage\nb started 1\n";
+
+#[test]
+fn each_read_fails_once(rt: HostRuntime) {
+    let mut faults = 0u64;
+    for k in 1..100u64 {
+        let reader = FailingReader {
+            rest: SCRIPT.as_bytes(),
+            reads: 0,
+            fails_at: k,
+            kind: ErrorKind::UnexpectedEof,
+        };
+        let mut output = Vec::new(rt.alloc());
+        let outcome = run_script(rt.alloc(), Limits::STANDARD, reader, &mut output);
+        assert!(rt; WRITTEN.as_bytes().starts_with(&output), "at read {k}");
+        match outcome {
+            Ok(()) => assert_eq!(rt; output.as_slice(), WRITTEN.as_bytes()),
+            Err(fault) => {
+                assert_eq!(rt; fault, ScriptFault::Read);
+                faults = faults.saturating_add(1);
+            }
+        }
+    }
+    // 54 bytes by sevens, and the read that finds the end.
+    assert_eq!(rt; faults, 9);
+}
+
+#[test]
+fn each_write_fails_once(rt: HostRuntime) {
+    let mut faults = 0u64;
+    for k in 1..100u64 {
+        let mut writer = FailingWriter {
+            written: Vec::new(rt.alloc()),
+            writes: 0,
+            fails_at: k,
+        };
+        let outcome = run_script(rt.alloc(), Limits::STANDARD, SCRIPT.as_bytes(), &mut writer);
+        let written = writer.written.as_slice();
+        assert!(rt; WRITTEN.as_bytes().starts_with(written), "at write {k}");
+        match outcome {
+            Ok(()) => assert_eq!(rt; written, WRITTEN.as_bytes()),
+            Err(fault) => {
+                assert_eq!(rt; fault, ScriptFault::Write);
+                faults = faults.saturating_add(1);
+            }
+        }
+    }
+    // Three lines of 12, 14 and 12 bytes by fives.
+    assert_eq!(rt; faults, 9);
+}
+
+#[test]
+fn interrupted_reads_are_made_again_and_counted(rt: HostRuntime) -> Result<(), Fail> {
+    let reader = |kind| FailingReader {
+        rest: b"a\nb\n".as_slice(),
+        reads: 0,
+        fails_at: 1,
+        kind,
+    };
+    // The interrupted read, that of all bytes and that of the end.
+    let mut lines = Lines::new(rt.alloc(), reader(ErrorKind::Interrupted), 3)?;
+    assert_eq!(rt; lines.next_number(), 1);
+    assert_eq!(rt; lines.next().transpose()?.ok_or("a line")?.as_str(), "a");
+    assert_eq!(rt; lines.next().transpose()?.ok_or("a line")?.as_str(), "b");
+    assert_eq!(rt; lines.next_number(), 3);
+    assert!(rt; lines.next().is_none());
+    let mut few = Lines::new(rt.alloc(), reader(ErrorKind::Interrupted), 1)?;
+    assert_eq!(rt; few.next().transpose().err(), Some(LineFault::Read));
+    assert!(rt; few.next().is_none());
+    Ok(())
+}

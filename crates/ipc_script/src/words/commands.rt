@@ -1,0 +1,91 @@
+//! The grammar of commands, read by `clap`. All values are text to it.
+
+ghost use Rattle.std.specs.Prelude.{◌≡◌, IfOk, false};
+ghost use Rattle.clap.specs.Simple.{app_of, shape_of};
+ghost use Rattle.clap.specs.Walk.{rule_of};
+ghost use Rattle.ipc_script.specs.WordsGrammar.{argument_rule, bare_app, flag_rule, grammar, mq_close_shape, mq_open_shape, option_rule, outer_app, umask_shape};
+
+use clap::{Arg, ArgAction, Command};
+use std::alloc::{AllocError, Global};
+
+/// The grammar: one of the commands, with no help and no version.
+#[tactic(auto, unfolding(crate::specs::WordsGrammar::grammar))]
+pub fn whole_grammar<'a>(alloc: Global) -> Result<Command<'a>, AllocError>
+    ensures { IfOk result (λ command. app_of command ≡ grammar) }
+{
+    let command = outer(alloc)
+        .subcommand(umask(alloc)?)?
+        .subcommand(mq_open(alloc)?)?
+        .subcommand(mq_close(alloc)?)?;
+    Ok(command)
+}
+
+fn outer<'a>(alloc: Global) -> Command<'a>
+    ensures { app_of result ≡ outer_app }
+{
+    Command::new(alloc, "command")
+        .no_binary_name(true)
+        .disable_help_flag(true)
+        .disable_version_flag(true)
+        .disable_help_subcommand(true)
+        .subcommand_required(true)
+}
+
+fn umask<'a>(alloc: Global) -> Result<Command<'a>, AllocError>
+    ensures { IfOk result (λ command. shape_of command ≡ umask_shape) }
+{
+    let command = bare(alloc, "umask").arg(argument(alloc, "octal"))?;
+    Ok(command)
+}
+
+fn mq_open<'a>(alloc: Global) -> Result<Command<'a>, AllocError>
+    ensures { IfOk result (λ command. shape_of command ≡ mq_open_shape) }
+{
+    let command = bare(alloc, "mq-open")
+        .arg(argument(alloc, "name"))?
+        .arg(argument(alloc, "access"))?
+        .arg(flag(alloc, "create"))?
+        .arg(flag(alloc, "excl"))?
+        .arg(flag(alloc, "nonblock"))?
+        .arg(option(alloc, "mode"))?
+        .arg(option(alloc, "maxmsg"))?
+        .arg(option(alloc, "msgsize"))?;
+    Ok(command)
+}
+
+fn mq_close<'a>(alloc: Global) -> Result<Command<'a>, AllocError>
+    ensures { IfOk result (λ command. shape_of command ≡ mq_close_shape) }
+{
+    let command = bare(alloc, "mq-close").arg(argument(alloc, "d"))?;
+    Ok(command)
+}
+
+/// A command without arguments.
+fn bare<'a>(alloc: Global, name: &'a str) -> Command<'a>
+    ensures { app_of result ≡ bare_app name.entry.now }
+{
+    Command::new(alloc, name)
+        .disable_help_flag(true)
+        .disable_version_flag(true)
+}
+
+fn argument<'a>(alloc: Global, name: &'a str) -> Arg<'a>
+    ensures rule { rule_of result ≡ argument_rule name.entry.now }
+    ensures local { result.global ≡ false }
+{
+    Arg::new(alloc, name).required(true).action(ArgAction::Set)
+}
+
+fn flag<'a>(alloc: Global, name: &'a str) -> Arg<'a>
+    ensures rule { rule_of result ≡ flag_rule name.entry.now }
+    ensures local { result.global ≡ false }
+{
+    Arg::new(alloc, name).long(name).action(ArgAction::SetTrue)
+}
+
+fn option<'a>(alloc: Global, name: &'a str) -> Arg<'a>
+    ensures rule { rule_of result ≡ option_rule name.entry.now }
+    ensures local { result.global ≡ false }
+{
+    Arg::new(alloc, name).long(name).action(ArgAction::Set)
+}

@@ -1,0 +1,123 @@
+//! What stands at a command's arguments, and the call that it means.
+
+ghost use Rattle.std.specs.Prelude.{◌≡◌};
+ghost use Rattle.ipc_script.specs.WordsCalls.{command_words, open_words, word_behind, Reads, attributes_of_counts, call_of_command, count_of_option, flags_of_options, mode_of_option, open_of_words};
+
+use crate::words::faults::WordFault;
+use crate::words::numbers::{read_count, read_decimal, read_octal};
+use crate::words::values::{read_access, read_name};
+use bitflags::Flags;
+use ipc_terms::{Attributes, Call, Desc, Mode, OpenFlags, QueueOpen};
+use std::alloc::Global;
+
+/// A command with the words that stand at its arguments.
+#[derive(Clone, Copy)]
+pub enum Entries<'a> {
+    Umask { octal: &'a str },
+    MqOpen(OpenEntries<'a>),
+    MqClose { d: &'a str },
+}
+
+/// The words of `mq-open`.
+#[derive(Clone, Copy)]
+pub struct OpenEntries<'a> {
+    pub name: &'a str,
+    pub access: &'a str,
+    pub creates: bool,
+    pub is_exclusive: bool,
+    pub is_nonblock: bool,
+    pub mode: Option<&'a str>,
+    pub maxmsg: Option<&'a str>,
+    pub msgsize: Option<&'a str>,
+}
+
+/// The mode of what an open without `--mode` creates.
+const DEFAULT_MODE: Mode = Mode(0o600);
+
+/// The call that the entries mean.
+#[tactic(auto, unfolding(crate::specs::WordsCalls::call_of_command))]
+pub fn meant_call(alloc: Global, entries: &Entries) -> Result<Call, WordFault>
+    ensures { Reads (call_of_command (command_words entries.now)) result }
+{
+    match entries {
+        Entries::Umask { octal } => {
+            let mask = read_octal(octal).ok_or(WordFault::BadValue("octal"))?;
+            Ok(Call::Umask(mask))
+        }
+        Entries::MqOpen(asked) => {
+            let open = meant_open(alloc, asked)?;
+            Ok(Call::MqOpen(open))
+        }
+        Entries::MqClose { d } => {
+            let number = read_decimal(d, u64::MAX).ok_or(WordFault::BadValue("d"))?;
+            Ok(Call::MqClose(Desc(number)))
+        }
+    }
+}
+
+#[tactic(auto, unfolding(crate::specs::WordsCalls::open_of_words))]
+fn meant_open(alloc: Global, asked: &OpenEntries) -> Result<QueueOpen, WordFault>
+    ensures { Reads (open_of_words (open_words asked.now)) result }
+{
+    let name = read_name(alloc, asked.name)?.ok_or(WordFault::BadValue("name"))?;
+    let access = read_access(asked.access).ok_or(WordFault::BadValue("access"))?;
+    let mode = meant_mode(asked.mode)?;
+    let maxmsg = meant_count(asked.maxmsg, "maxmsg")?;
+    let msgsize = meant_count(asked.msgsize, "msgsize")?;
+    let attributes = meant_attributes(maxmsg, msgsize)?;
+    Ok(QueueOpen {
+        name,
+        access,
+        flags: meant_flags(asked),
+        mode,
+        attributes,
+    })
+}
+
+#[tactic(auto, unfolding(crate::specs::WordsCalls::mode_of_option))]
+fn meant_mode(entry: Option<&str>) -> Result<Mode, WordFault>
+    ensures { Reads (mode_of_option (word_behind entry.entry)) result }
+{
+    match entry {
+        None => Ok(DEFAULT_MODE),
+        Some(text) => read_octal(text).ok_or(WordFault::BadValue("mode")),
+    }
+}
+
+#[tactic(auto, unfolding(crate::specs::WordsCalls::count_of_option))]
+fn meant_count(entry: Option<&str>, argument: &'static str) -> Result<Option<u32>, WordFault>
+    ensures { Reads (count_of_option argument.now (word_behind entry.entry)) result }
+{
+    match entry {
+        None => Ok(None),
+        Some(text) => match read_count(text) {
+            Some(count) => Ok(Some(count)),
+            None => Err(WordFault::BadValue(argument)),
+        },
+    }
+}
+
+#[tactic(auto, unfolding(crate::specs::WordsCalls::attributes_of_counts))]
+fn meant_attributes(
+    maxmsg: Option<u32>,
+    msgsize: Option<u32>,
+) -> Result<Option<Attributes>, WordFault>
+    ensures { Reads (attributes_of_counts maxmsg msgsize) result }
+{
+    match (maxmsg, msgsize) {
+        (None, None) => Ok(None),
+        (Some(maxmsg), Some(msgsize)) => Ok(Some(Attributes { maxmsg, msgsize })),
+        _ => Err(WordFault::BadValue("attributes")),
+    }
+}
+
+#[tactic(auto, unfolding(crate::specs::WordsCalls::flags_of_options))]
+fn meant_flags(asked: &OpenEntries) -> OpenFlags
+    ensures { result ≡ flags_of_options asked.now.creates asked.now.is_exclusive asked.now.is_nonblock }
+{
+    let mut flags = OpenFlags::empty();
+    flags.set(OpenFlags::CREATE, asked.creates);
+    flags.set(OpenFlags::EXCLUSIVE, asked.is_exclusive);
+    flags.set(OpenFlags::NONBLOCK, asked.is_nonblock);
+    flags
+}

@@ -1,0 +1,94 @@
+//! What `clap` finds in words.
+
+ghost use Rattle.std.specs.Prelude.{◌≡◌, map, option_and_then, option_map};
+ghost use Rattle.clap.specs.Simple.{subcommand_rows_of};
+ghost use Rattle.clap.specs.Walk.{first_of, rows_of};
+ghost use Rattle.clap.specs.Words.{found_of, kind_of};
+ghost use Rattle.ipc_script.specs.WordsCalls.{command_words, open_words, word_behind};
+ghost use Rattle.ipc_script.specs.WordsGrammar.{Finds, command_of_rows, fault_of_kind, is_given, open_of_rows};
+
+use crate::words::commands::whole_grammar;
+use crate::words::entries::{Entries, OpenEntries};
+use crate::words::faults::WordFault;
+use clap::error::ErrorKind;
+use clap::{ArgMatches, Error};
+use std::alloc::Global;
+
+/// The command that the words are, with what stands at its arguments.
+#[tactic(auto, unfolding(crate::specs::WordsGrammar::command_of))]
+pub fn entries_of_words<'a>(alloc: Global, words: &'a [&'a str]) -> Result<Entries<'a>, WordFault>
+    ensures { Finds (map (λ w. w.now) words.entry.now) result }
+{
+    match whole_grammar(alloc)?.try_get_matches_from(words) {
+        Ok(matches) => match entries_of_matches(&matches) {
+            Some(entries) => Ok(entries),
+            None => Err(WordFault::Usage),
+        },
+        Err(error) => Err(fault_of_error(&error)),
+    }
+}
+
+fn fault_of_error(error: &Error) -> WordFault
+    ensures { result ≡ fault_of_kind (kind_of error.now) }
+{
+    match error.kind() {
+        ErrorKind::OutOfMemory => WordFault::NoMemory,
+        _ => WordFault::Usage,
+    }
+}
+
+fn entries_of_matches<'a>(matches: &ArgMatches<'a>) -> Option<Entries<'a>>
+    ensures { option_map command_words result
+        ≡ option_and_then (λ found. command_of_rows found.0 found.1) (subcommand_rows_of matches.now) }
+{
+    let (command, found) = matches.subcommand()?;
+    entries_of_command(command, found)
+}
+
+#[tactic(auto, unfolding(crate::specs::WordsGrammar::command_of_rows))]
+fn entries_of_command<'a>(command: &str, found: &ArgMatches<'a>) -> Option<Entries<'a>>
+    ensures { option_map command_words result ≡ command_of_rows command.now (rows_of (found_of found.now)) }
+{
+    match command {
+        "umask" => Some(Entries::Umask {
+            octal: word_at(found, "octal")?,
+        }),
+        "mq-open" => Some(Entries::MqOpen(open_entries(found)?)),
+        "mq-close" => Some(Entries::MqClose {
+            d: word_at(found, "d")?,
+        }),
+        _ => None,
+    }
+}
+
+#[tactic(auto, unfolding(crate::specs::WordsGrammar::open_of_rows))]
+fn open_entries<'a>(found: &ArgMatches<'a>) -> Option<OpenEntries<'a>>
+    ensures { option_map open_words result ≡ open_of_rows (rows_of (found_of found.now)) }
+{
+    Some(OpenEntries {
+        name: word_at(found, "name")?,
+        access: word_at(found, "access")?,
+        creates: is_flag_given(found, "create"),
+        is_exclusive: is_flag_given(found, "excl"),
+        is_nonblock: is_flag_given(found, "nonblock"),
+        mode: word_at(found, "mode"),
+        maxmsg: word_at(found, "maxmsg"),
+        msgsize: word_at(found, "msgsize"),
+    })
+}
+
+fn word_at<'a>(found: &ArgMatches<'a>, argument: &str) -> Option<&'a str>
+    ensures { word_behind result ≡ first_of argument.now (rows_of (found_of found.now)) }
+{
+    found.get_str(argument)
+}
+
+/// A flag's value is the text `true` or `false`.
+fn is_flag_given(found: &ArgMatches, flag: &str) -> bool
+    ensures { result ≡ is_given flag.now (rows_of (found_of found.now)) }
+{
+    match word_at(found, flag) {
+        Some(value) => value == "true",
+        None => false,
+    }
+}

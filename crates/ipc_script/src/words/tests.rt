@@ -1,0 +1,394 @@
+//! Words and lines that the grammar names.
+
+use crate::words::{WordFault, call_of_words, line_of_answer, name_of_rule};
+use bitflags::Flags;
+use ipc_terms::{Access, Answer, Attributes, Call, Desc, Mode, OpenFlags, QueueOpen, Rule, Sid};
+use std::alloc::Global;
+use std::process::Abort;
+use std::test::Fail;
+
+fn fault_of(alloc: Global, words: &[&str]) -> Option<WordFault> {
+    match call_of_words(alloc, words) {
+        Ok(_) => None,
+        Err(fault) => Some(fault),
+    }
+}
+
+fn open_of(alloc: Global, words: &[&str]) -> Result<QueueOpen, Fail> {
+    let open = match call_of_words(alloc, words)? {
+        Call::MqOpen(open) => Some(open),
+        _ => None,
+    };
+    Ok(open.ok_or("another call")?)
+}
+
+#[test]
+fn umask_reads_octal(rt: HostRuntime) -> Result<(), Fail> {
+    for (word, bits) in [
+        ("0", 0),
+        ("22", 0o22),
+        ("022", 0o22),
+        ("0777", 0o777),
+        ("7777", 0o7777),
+    ] {
+        match call_of_words(rt.alloc(), &["umask", word])? {
+            Call::Umask(mask) => assert_eq!(rt; mask, Mode(bits), "at {word}"),
+            _ => panic!(&rt; "another call"),
+        }
+    }
+    Ok(())
+}
+
+#[test]
+fn close_reads_a_description(rt: HostRuntime) -> Result<(), Fail> {
+    for (word, number) in [("0", 0), ("17", 17), ("18446744073709551615", u64::MAX)] {
+        match call_of_words(rt.alloc(), &["mq-close", word])? {
+            Call::MqClose(description) => assert_eq!(rt; description, Desc(number), "at {word}"),
+            _ => panic!(&rt; "another call"),
+        }
+    }
+    Ok(())
+}
+
+#[test]
+fn open_has_defaults(rt: HostRuntime) -> Result<(), Fail> {
+    let open = open_of(rt.alloc(), &["mq-open", "/jobs", "r"])?;
+    assert_eq!(rt; open.name.as_slice(), b"/jobs".as_slice());
+    assert_eq!(rt; open.access, Access::Read);
+    assert_eq!(rt; open.flags, OpenFlags::empty());
+    assert_eq!(rt; open.mode, Mode(0o600));
+    assert_eq!(rt; open.attributes, None);
+    Ok(())
+}
+
+#[test]
+fn open_reads_each_option(rt: HostRuntime) -> Result<(), Fail> {
+    let words = [
+        "mq-open",
+        "--msgsize",
+        "4294967295",
+        "/jobs",
+        "--create",
+        "rw",
+        "--excl",
+        "--mode",
+        "640",
+        "--nonblock",
+        "--maxmsg",
+        "0",
+    ];
+    let open = open_of(rt.alloc(), &words)?;
+    assert_eq!(rt; open.name.as_slice(), b"/jobs".as_slice());
+    assert_eq!(rt; open.access, Access::Both);
+    assert_eq!(rt;
+        open.flags,
+        OpenFlags::CREATE | OpenFlags::EXCLUSIVE | OpenFlags::NONBLOCK
+    );
+    assert_eq!(rt; open.mode, Mode(0o640));
+    let attributes = Attributes {
+        maxmsg: 0,
+        msgsize: 4294967295,
+    };
+    assert_eq!(rt; open.attributes, Some(attributes));
+    let open = open_of(rt.alloc(), &["mq-open", "/jobs", "w", "--excl"])?;
+    assert_eq!(rt; open.access, Access::Write);
+    assert_eq!(rt; open.flags, OpenFlags::EXCLUSIVE);
+    let open = open_of(rt.alloc(), &["mq-open", "/jobs", "w", "--create"])?;
+    assert_eq!(rt; open.flags, OpenFlags::CREATE);
+    let open = open_of(rt.alloc(), &["mq-open", "/jobs", "w", "--nonblock"])?;
+    assert_eq!(rt; open.flags, OpenFlags::NONBLOCK);
+    Ok(())
+}
+
+#[test]
+fn names_are_bytes_or_pairs(rt: HostRuntime) -> Result<(), Fail> {
+    let open = open_of(rt.alloc(), &["mq-open", "hex:2d00ff", "r"])?;
+    assert_eq!(rt; open.name.as_slice(), [0x2d, 0, 0xff].as_slice());
+    let open = open_of(rt.alloc(), &["mq-open", "hex:", "r"])?;
+    assert!(rt; open.name.as_slice().is_empty());
+    let open = open_of(rt.alloc(), &["mq-open", "/é", "r"])?;
+    assert_eq!(rt; open.name.as_slice(), [b'/', 0xc3, 0xa9].as_slice());
+    let open = open_of(rt.alloc(), &["mq-open", "HEX:2d", "r"])?;
+    assert_eq!(rt; open.name.as_slice(), b"HEX:2d".as_slice());
+    for word in ["hex:2", "hex:2D", "hex:2g", "hex:2d ", "hex:hex:"] {
+        let fault = fault_of(rt.alloc(), &["mq-open", word, "r"]);
+        assert_eq!(rt; fault, Some(WordFault::BadValue("name")), "at {word}");
+    }
+    Ok(())
+}
+
+fn expect_usage(rt: &impl Abort, alloc: Global, words: &[&str]) {
+    assert_eq!(rt;
+        fault_of(alloc, words),
+        Some(WordFault::Usage),
+        "at {words:?}"
+    );
+}
+
+#[test]
+fn hyphens_are_usage(rt: HostRuntime) {
+    let alloc = rt.alloc();
+    expect_usage(&rt, alloc, &["umask", "-"]);
+    expect_usage(&rt, alloc, &["--", "umask", "022"]);
+    expect_usage(&rt, alloc, &["umask", "--", "022"]);
+    expect_usage(&rt, alloc, &["umask", "-22"]);
+    expect_usage(&rt, alloc, &["mq-open", "/a", "r", "--mode=0666"]);
+    expect_usage(&rt, alloc, &["mq-open", "/a", "r", "--creat"]);
+    expect_usage(&rt, alloc, &["mq-open", "-a", "r"]);
+    expect_usage(&rt, alloc, &["mq-open", "hex:2", "x", "--mode", "-1"]);
+    expect_usage(&rt, alloc, &["--help"]);
+    expect_usage(&rt, alloc, &["mq-open", "-h"]);
+    expect_usage(&rt, alloc, &["--version"]);
+    expect_usage(&rt, alloc, &["-V"]);
+}
+
+#[test]
+fn what_is_no_command_is_usage(rt: HostRuntime) {
+    let alloc = rt.alloc();
+    expect_usage(&rt, alloc, &[]);
+    expect_usage(&rt, alloc, &[""]);
+    expect_usage(&rt, alloc, &["help"]);
+    expect_usage(&rt, alloc, &["help", "umask"]);
+    expect_usage(&rt, alloc, &["umas", "022"]);
+    expect_usage(&rt, alloc, &["Umask", "022"]);
+    expect_usage(&rt, alloc, &["mq-opens", "/a", "r"]);
+    expect_usage(&rt, alloc, &["022", "umask"]);
+    expect_usage(&rt, alloc, &["--create", "mq-open", "/a", "r"]);
+}
+
+#[test]
+fn other_arguments_are_usage(rt: HostRuntime) {
+    let alloc = rt.alloc();
+    expect_usage(&rt, alloc, &["umask"]);
+    expect_usage(&rt, alloc, &["umask", "022", "022"]);
+    expect_usage(&rt, alloc, &["umask", "022", "--create"]);
+    expect_usage(&rt, alloc, &["mq-close"]);
+    expect_usage(&rt, alloc, &["mq-close", "1", "2"]);
+    expect_usage(&rt, alloc, &["mq-open", "/a"]);
+    expect_usage(&rt, alloc, &["mq-open", "/a", "r", "w"]);
+    expect_usage(&rt, alloc, &["mq-open", "/a", "r", "--value", "1"]);
+    expect_usage(&rt, alloc, &["mq-open", "/a", "r", "--mode"]);
+    expect_usage(&rt, alloc, &["mq-open", "/a", "r", "--mode", "--create"]);
+    expect_usage(&rt, alloc, &["mq-open", "/a", "r", "--create", "--create"]);
+    expect_usage(&rt, alloc, &["mq-open", "/a", "r", "--excl", "--excl"]);
+    expect_usage(
+        &rt,
+        alloc,
+        &["mq-open", "/a", "r", "--nonblock", "--nonblock"],
+    );
+    expect_usage(
+        &rt,
+        alloc,
+        &["mq-open", "/a", "r", "--mode", "600", "--mode", "600"],
+    );
+    expect_usage(
+        &rt,
+        alloc,
+        &["mq-open", "/a", "r", "--maxmsg", "1", "--maxmsg", "1"],
+    );
+    expect_usage(
+        &rt,
+        alloc,
+        &["mq-open", "/a", "r", "--msgsize", "1", "--msgsize", "1"],
+    );
+}
+
+fn expect_bad_value(rt: &impl Abort, alloc: Global, words: &[&str], argument: &'static str) {
+    let fault = fault_of(alloc, words);
+    assert_eq!(rt; fault, Some(WordFault::BadValue(argument)), "at {words:?}");
+}
+
+#[test]
+fn values_that_do_not_read_are_named(rt: HostRuntime) {
+    let alloc = rt.alloc();
+    for word in ["8", "00000", "", "0x2", "+22", "2 ", "1_0", "٧"] {
+        expect_bad_value(&rt, alloc, &["umask", word], "octal");
+        expect_bad_value(&rt, alloc, &["mq-open", "/a", "r", "--mode", word], "mode");
+    }
+    for word in [
+        "01",
+        "00",
+        "18446744073709551616",
+        "+1",
+        "",
+        "1a",
+        "0x1",
+        "1 ",
+        "٧",
+    ] {
+        expect_bad_value(&rt, alloc, &["mq-close", word], "d");
+    }
+    for word in ["x", "R", "wr", "", "rww"] {
+        expect_bad_value(&rt, alloc, &["mq-open", "/a", word], "access");
+    }
+    for word in ["4294967296", "01", "", "one"] {
+        expect_bad_value(
+            &rt,
+            alloc,
+            &["mq-open", "/a", "r", "--maxmsg", word, "--msgsize", "1"],
+            "maxmsg",
+        );
+        expect_bad_value(
+            &rt,
+            alloc,
+            &["mq-open", "/a", "r", "--msgsize", word, "--maxmsg", "1"],
+            "msgsize",
+        );
+    }
+}
+
+#[test]
+fn the_first_bad_value_is_named(rt: HostRuntime) {
+    let alloc = rt.alloc();
+    let open = [
+        "mq-open",
+        "hex:2",
+        "x",
+        "--msgsize",
+        "x",
+        "--maxmsg",
+        "x",
+        "--mode",
+        "x",
+    ];
+    expect_bad_value(&rt, alloc, &open, "name");
+    let open = [
+        "mq-open",
+        "/a",
+        "x",
+        "--msgsize",
+        "x",
+        "--maxmsg",
+        "x",
+        "--mode",
+        "x",
+    ];
+    expect_bad_value(&rt, alloc, &open, "access");
+    let open = [
+        "mq-open",
+        "/a",
+        "r",
+        "--msgsize",
+        "x",
+        "--maxmsg",
+        "x",
+        "--mode",
+        "x",
+    ];
+    expect_bad_value(&rt, alloc, &open, "mode");
+    let open = ["mq-open", "/a", "r", "--msgsize", "x", "--maxmsg", "x"];
+    expect_bad_value(&rt, alloc, &open, "maxmsg");
+    expect_bad_value(
+        &rt,
+        alloc,
+        &["mq-open", "/a", "r", "--msgsize", "x"],
+        "msgsize",
+    );
+    expect_bad_value(
+        &rt,
+        alloc,
+        &["mq-open", "/a", "r", "--msgsize", "1"],
+        "attributes",
+    );
+    expect_bad_value(
+        &rt,
+        alloc,
+        &["mq-open", "/a", "r", "--maxmsg", "1"],
+        "attributes",
+    );
+    expect_bad_value(
+        &rt,
+        alloc,
+        &["mq-open", "/a", "x", "--maxmsg", "1"],
+        "access",
+    );
+    expect_bad_value(
+        &rt,
+        alloc,
+        &["mq-open", "/a", "r", "--maxmsg", "1", "--mode", "8"],
+        "mode",
+    );
+}
+
+#[test]
+fn faults_are_shown(rt: HostRuntime) -> Result<(), Fail> {
+    let alloc = rt.alloc();
+    let usage = format!(in alloc; "fault {}", WordFault::Usage)?;
+    assert_eq!(rt; usage.as_str(), "fault usage");
+    let value = format!(in alloc; "fault {}", WordFault::BadValue("access"))?;
+    assert_eq!(rt; value.as_str(), "fault value access");
+    let memory = format!(in alloc; "fault {}", WordFault::NoMemory)?;
+    assert_eq!(rt; memory.as_str(), "fault memory");
+    Ok(())
+}
+
+#[test]
+fn answers_have_lines(rt: HostRuntime) -> Result<(), Fail> {
+    let rows = [
+        (Answer::Started(Sid(3)), "started 3"),
+        (Answer::Started(Sid::NOBODY), "started 18446744073709551615"),
+        (Answer::Done, "done"),
+        (Answer::Opened(Desc(0)), "opened 0"),
+        (Answer::Mask(Mode(0)), "mask 000"),
+        (Answer::Mask(Mode(0o22)), "mask 022"),
+        (Answer::Mask(Mode(0o777)), "mask 777"),
+        (Answer::Mask(Mode(0o1777)), "mask 1777"),
+        (
+            Answer::Refused(Rule::ModeDenied),
+            "refused 15 EACCES ModeDenied",
+        ),
+        (
+            Answer::Refused(Rule::NoSession),
+            "refused 1 ESRCH NoSession",
+        ),
+        (Answer::Refused(Rule::BadKey), "refused 31 EACCES BadKey"),
+    ];
+    for (answer, line) in rows {
+        let found = line_of_answer(rt.alloc(), &answer)?;
+        assert_eq!(rt; found.as_str(), line);
+    }
+    Ok(())
+}
+
+#[test]
+fn rules_have_the_names_of_their_variants(rt: HostRuntime) -> Result<(), Fail> {
+    let alloc = rt.alloc();
+    let rules = [
+        Rule::NoSession,
+        Rule::InCall,
+        Rule::NotInCall,
+        Rule::NameForm,
+        Rule::NameLong,
+        Rule::NotAdmin,
+        Rule::NoUser,
+        Rule::BadDescr,
+        Rule::NotForWrite,
+        Rule::NotForRead,
+        Rule::DirSearch,
+        Rule::DirRead,
+        Rule::Absent,
+        Rule::Present,
+        Rule::ModeDenied,
+        Rule::DirWrite,
+        Rule::Sticky,
+        Rule::NotOwner,
+        Rule::ChownDenied,
+        Rule::AttrRange,
+        Rule::ValueRange,
+        Rule::QueueCount,
+        Rule::ByteLimit,
+        Rule::DescrLimit,
+        Rule::PrioRange,
+        Rule::MessageLong,
+        Rule::BufferShort,
+        Rule::NotifyTaken,
+        Rule::WouldBlock,
+        Rule::Overflow,
+        Rule::BadKey,
+    ];
+    for rule in rules {
+        let shown = format!(in alloc; "{rule:?}")?;
+        assert_eq!(rt; shown.as_str(), name_of_rule(rule));
+    }
+    Ok(())
+}

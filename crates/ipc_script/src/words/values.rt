@@ -1,0 +1,56 @@
+//! Names and kinds of access in words.
+
+ghost use Rattle.std.specs.Prelude.{◌≡◌, IfOk};
+ghost use Rattle.std.specs.List.{list_all};
+ghost use Rattle.ipc_script.specs.WordsValues.{access_of_word, bytes_of_pairs, is_lower_hex, name_of_word};
+
+use hex::FromHexError;
+use ipc_terms::{Access, Bytes, Name, NoMemory};
+use std::alloc::Global;
+
+/// `r`, `w` or `rw`.
+#[tactic(auto, unfolding(crate::specs::WordsValues::access_of_word))]
+pub fn read_access(text: &str) -> Option<Access>
+    ensures { result ≡ access_of_word text.now }
+{
+    match text {
+        "r" => Some(Access::Read),
+        "w" => Some(Access::Write),
+        "rw" => Some(Access::Both),
+        _ => None,
+    }
+}
+
+/// The word's own bytes, or those of the pairs of lower-case hexadecimal digits behind `hex:`.
+/// `None` where what stands behind `hex:` is no such pairs.
+#[tactic(auto, unfolding(crate::specs::WordsValues::name_of_word))]
+pub fn read_name(alloc: Global, text: &str) -> Result<Option<Name>, NoMemory>
+    ensures { IfOk result (λ name. name ≡ name_of_word text.now) }
+{
+    let word = text.as_bytes();
+    match word.strip_prefix(b"hex:") {
+        Some(pairs) => Ok(read_pairs(alloc, pairs)?),
+        None => Ok(Some(Name::new(Bytes::from_slice(alloc, word)?))),
+    }
+}
+
+#[tactic(auto, unfolding(crate::specs::WordsValues::bytes_of_pairs))]
+fn read_pairs(alloc: Global, pairs: &[u8]) -> Result<Option<Name>, NoMemory>
+    ensures { IfOk result (λ name. name ≡ bytes_of_pairs pairs.now) }
+{
+    if !are_lower_hex(pairs) {
+        return Ok(None);
+    }
+    match hex::decode(alloc, pairs) {
+        Ok(bytes) => Ok(Some(Name::new(Bytes::new(bytes)))),
+        Err(FromHexError::OutOfMemory) => Err(NoMemory),
+        Err(_) => Ok(None),
+    }
+}
+
+fn are_lower_hex(word: &[u8]) -> bool
+    ensures { result ≡ list_all is_lower_hex word.now }
+{
+    word.iter()
+        .all(|byte| matches!(*byte, b'0'..=b'9' | b'a'..=b'f'))
+}

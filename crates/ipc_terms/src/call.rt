@@ -1,0 +1,57 @@
+//! What is asked, and what is answered.
+
+use crate::flags::OpenFlags;
+use crate::ids::{Desc, Mode, Sid};
+use crate::name::Name;
+use crate::rule::Rule;
+
+/// What the caller of an open wants to do with the object (`mq_open`: `O_RDONLY`, `O_WRONLY`, `O_RDWR`).
+#[derive(Clone, Copy, PartialEq, Eq, Debug)]
+pub enum Access {
+    Read,
+    Write,
+    Both,
+}
+
+/// The attributes of a queue (`mq_attr`): at most `maxmsg` messages of at most `msgsize` bytes each.
+#[derive(Clone, Copy, PartialEq, Eq, Debug)]
+pub struct Attributes {
+    pub maxmsg: u32,
+    pub msgsize: u32,
+}
+
+/// What `mq_open` is given. Mode and attributes count only where the open creates.
+#[derive(Drop)]
+pub struct QueueOpen {
+    pub name: Name,
+    pub access: Access,
+    pub flags: OpenFlags,
+    pub mode: Mode,
+    pub attributes: Option<Attributes>,
+}
+
+/// What a session asks for.
+#[derive(Drop)]
+pub enum Call {
+    /// Sets the session's mask to the low nine bits, and answers the mask before (POSIX.1-2017, `umask`).
+    Umask(Mode),
+    /// Opens a queue (POSIX.1-2017, `mq_open`).
+    MqOpen(QueueOpen),
+    /// Closes a queue's description (POSIX.1-2017, `mq_close`).
+    MqClose(Desc),
+}
+
+/// What is answered.
+#[derive(Clone, Copy, PartialEq, Eq, Debug)]
+pub enum Answer {
+    /// To a hello: the new session.
+    Started(Sid),
+    /// Nothing but that it was done.
+    Done,
+    /// To an open: the new description.
+    Opened(Desc),
+    /// To a umask: the mask before it.
+    Mask(Mode),
+    /// To anything: the rule of the lowest number that forbids it.
+    Refused(Rule),
+}

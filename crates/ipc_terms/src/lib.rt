@@ -1,0 +1,22 @@
+//! The words that every part of the server shares: who calls, what is asked, what is answered, and the rules.
+#![tactic(auto)]
+
+mod bytes;
+mod call;
+mod errors;
+mod flags;
+mod ids;
+mod name;
+mod record;
+mod rule;
+#[cfg(test)]
+mod tests;
+
+pub use bytes::Bytes;
+pub use call::{Access, Answer, Attributes, Call, QueueOpen};
+pub use errors::NoMemory;
+pub use flags::OpenFlags;
+pub use ids::{Desc, Family, Gid, Mode, Sid, Target, Uid};
+pub use name::Name;
+pub use record::{Event, Record};
+pub use rule::Rule;

@@ -1,0 +1,58 @@
+//! Names.
+
+ghost use Rattle.std.specs.Prelude.{◌≡◌, ℕ, List, IfOk};
+ghost use Rattle.ipc_terms.specs.Names.{same_name};
+
+use crate::bytes::Bytes;
+use std::alloc::AllocError;
+use std::marker::Model;
+
+/// The name of an object as a caller gave it, whether or not it has the form of one; seen as the
+/// list of its bytes.
+#[derive(Debug, Drop)]
+pub struct Name {
+    bytes: Bytes,
+}
+
+impl Model for Name {
+    ghost Value = { List ℕ };
+
+    ghost view = { λ n. n.bytes };
+}
+
+impl Name {
+    pub fn new(bytes: Bytes) -> Self
+        ensures { result ≡ bytes }
+    {
+        Name { bytes }
+    }
+
+    pub fn as_slice(&self) -> &[u8]
+        ensures { result.now ≡ self.now }
+    {
+        self.bytes.as_slice()
+    }
+
+    /// The bytes, given back. Takes no memory.
+    pub fn into_bytes(self) -> Bytes
+        ensures { result ≡ self }
+    {
+        let Name { bytes } = self;
+        bytes
+    }
+
+    pub fn try_clone(&self) -> Result<Name, AllocError>
+        ensures { IfOk result (λ copy. copy ≡ self.now) }
+    {
+        Ok(Name {
+            bytes: self.bytes.try_clone()?,
+        })
+    }
+
+    /// Whether both are the same bytes.
+    pub fn is(&self, other: &Name) -> bool
+        ensures { result ≡ same_name self.now other.now }
+    {
+        self.as_slice() == other.as_slice()
+    }
+}

@@ -1,0 +1,21 @@
+//! What happens, and what is recorded of it.
+
+use crate::call::Call;
+use crate::ids::{Sid, Uid};
+use crate::rule::Rule;
+
+/// One step of the server.
+#[derive(Drop)]
+pub enum Event {
+    /// Somebody came with a key. The user whose key it is was found, or none was.
+    Hello { found: Option<Uid> },
+    /// A session made a call.
+    Do { sid: Sid, call: Call },
+}
+
+/// An event, and the rule that refused it; with no rule it was accepted.
+#[derive(Drop)]
+pub struct Record {
+    pub event: Event,
+    pub rule: Option<Rule>,
+}

@@ -1,0 +1,51 @@
+//! Each public function once, with ample memory.
+
+use crate::{Bytes, Name, NoMemory, OpenFlags, Rule};
+use bitflags::Flags;
+use std::test::Fail;
+
+#[test]
+fn bytes_are_kept(rt: HostRuntime) -> Result<(), Fail> {
+    let bytes = Bytes::new([0, 200].to_vec(rt.alloc())?);
+    let copy = bytes.try_clone()?;
+    let other = Bytes::from_slice(rt.alloc(), b"\0")?;
+    assert_eq!(rt; bytes, copy);
+    assert_ne!(rt; bytes, other);
+    assert_eq!(rt; copy.into_vec().as_slice(), [0, 200].as_slice());
+    Ok(())
+}
+
+#[test]
+fn names_are_bytes(rt: HostRuntime) -> Result<(), Fail> {
+    let name = Name::new(Bytes::from_slice(rt.alloc(), b"/a")?);
+    let copy = name.try_clone()?;
+    assert!(rt; name.is(&copy));
+    assert_eq!(rt; name.as_slice(), b"/a".as_slice());
+    assert!(rt; !name.is(&Name::new(Bytes::from_slice(rt.alloc(), b"/ab")?)));
+    assert_eq!(rt; copy.into_bytes().as_slice(), b"/a".as_slice());
+    Ok(())
+}
+
+#[test]
+fn rules_have_numbers_and_error_words(rt: HostRuntime) {
+    assert_eq!(rt; Rule::NoSession.number(), 1);
+    assert_eq!(rt; Rule::BadKey.number(), 31);
+    assert_eq!(rt; Rule::NameLong.errno(), "ENAMETOOLONG");
+}
+
+#[test]
+fn flags_are_bits(rt: HostRuntime) {
+    let flags = OpenFlags::CREATE | OpenFlags::NONBLOCK;
+    assert!(rt; flags.creates());
+    assert!(rt; flags.is_nonblock());
+    assert!(rt; !flags.is_exclusive());
+    assert_eq!(rt; flags.bits(), 5);
+    assert!(rt; OpenFlags::from_bits_retain(2).is_exclusive());
+}
+
+#[test]
+fn want_of_memory_has_a_text(rt: HostRuntime) -> Result<(), Fail> {
+    let fault = NoMemory;
+    assert_eq!(rt; format!(in rt.alloc(); "{fault}")?.as_str(), "memory");
+    Ok(())
+}

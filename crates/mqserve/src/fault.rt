@@ -1,0 +1,71 @@
+//! Why the program ends.
+
+ghost use Rattle.mqserve.specs.Statuses.{IsStatus};
+
+use clap::error::ErrorKind;
+use ipc_script::ScriptFault;
+use std::alloc::AllocError;
+use std::io;
+
+/// Why the program ends before the end of its script, or without one.
+#[derive(Debug, Drop)]
+pub enum ProgramFault {
+    /// The arguments ask for nothing that there is, or for help.
+    Arguments(clap::Error),
+    /// An argument isn't UTF-8.
+    NotUtf8,
+    Script(ScriptFault),
+}
+
+impl ProgramFault {
+    /// The status to exit with.
+    pub fn status(&self) -> u8
+        ensures { IsStatus self.now result }
+    {
+        match self {
+            ProgramFault::Arguments(error) if !error.use_stderr() => 0,
+            ProgramFault::Arguments(_) | ProgramFault::NotUtf8 => 2,
+            ProgramFault::Script(fault) => fault.status(),
+        }
+    }
+
+    /// Says why. A standard error that can't be written to is passed over.
+    pub fn print(&self, rt: &(impl Print + Eprint)) {
+        let _ = match self {
+            ProgramFault::Arguments(error) => error.print(rt),
+            ProgramFault::NotUtf8 => eprintln!(rt; "error: an argument is not UTF-8"),
+            ProgramFault::Script(fault) => eprintln!(rt; "mqserve: {fault}"),
+        };
+    }
+}
+
+impl From<AllocError> for ProgramFault {
+    fn from(_error: AllocError) -> Self {
+        ProgramFault::Script(ScriptFault::Memory)
+    }
+}
+
+impl From<clap::Error> for ProgramFault {
+    fn from(error: clap::Error) -> Self {
+        match error.kind() {
+            ErrorKind::OutOfMemory => ProgramFault::Script(ScriptFault::Memory),
+            _ => ProgramFault::Arguments(error),
+        }
+    }
+}
+
+/// Of reading the arguments.
+impl From<io::Error> for ProgramFault {
+    fn from(error: io::Error) -> Self {
+        match error.kind() {
+            io::ErrorKind::OutOfMemory => ProgramFault::Script(ScriptFault::Memory),
+            _ => ProgramFault::NotUtf8,
+        }
+    }
+}
+
+impl From<ScriptFault> for ProgramFault {
+    fn from(fault: ScriptFault) -> Self {
+        ProgramFault::Script(fault)
+    }
+}

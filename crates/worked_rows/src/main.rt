@@ -1,0 +1,38 @@
+//! Runs scripts whose answers are known, and prints for each whether it writes them.
+//!
+//! `NAME.in` is a script and `NAME.out` what it writes. Where it ends by a fault, `NAME.err` has
+//! the fault's line and `NAME.status` its exit status.
+#![tactic(auto)]
+
+mod row;
+
+use row::judge;
+use std::io;
+
+/// The scripts, in the order in which they are run.
+const ROWS: [&str; 16] = [
+    "first_run",
+    "present_before_mode",
+    "name_forms",
+    "attribute_limits",
+    "thousand_descriptions",
+    "users_found_by_key",
+    "users_none",
+    "users_most",
+    "users_too_many",
+    "users_bad_line",
+    "users_duplicate_name",
+    "users_duplicate_key",
+    "users_duplicate_uid",
+    "limits_msg_max",
+    "limits_msgsize_max",
+    "limits_queues_max",
+];
+
+fn main(rt: HostRuntime) -> io::Result<()> {
+    for name in &ROWS {
+        let verdict = judge(&rt, name)?;
+        println!(rt; "{name}: {verdict}")?;
+    }
+    Ok(())
+}
