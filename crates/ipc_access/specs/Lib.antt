@@ -2,3 +2,4 @@ pub mod Class
 pub mod Users
 pub mod UserLine
 pub mod UserFile
+pub mod Sticky

@@ -5,10 +5,14 @@ mod class;
 mod fault;
 mod file;
 mod line;
+mod removal;
 #[cfg(test)]
 mod tests;
 mod users;
 
 pub use class::{Class, Cred, Groups, class_of, grants};
 pub use fault::UserFault;
+/// A directory's owner, group and mode.
+pub use ipc_terms::Facts as DirFacts;
+pub use removal::may_remove;
 pub use users::{User, Users};

@@ -1,6 +1,6 @@
 //! Each public function with ample memory, and what no clause says: the texts of the faults.
 
-use crate::{Class, Cred, Groups, UserFault, Users, class_of, grants};
+use crate::{Class, Cred, DirFacts, Groups, UserFault, Users, class_of, grants, may_remove};
 use ipc_terms::{Gid, Mode, Uid};
 use std::alloc::{AllocError, Global};
 use std::test::Fail;
@@ -56,6 +56,32 @@ fn one_class_decides(rt: HostRuntime) -> Result<(), Fail> {
         );
     }
     assert!(rt; grants(&root, Uid(7), Gid(7), Mode(0), 7));
+    Ok(())
+}
+
+#[test]
+fn sticky_directories_restrict_removal(rt: HostRuntime) -> Result<(), Fail> {
+    for (mode, uid, removes) in [
+        (0o1777, 1000, true),
+        (0o1777, 50, true),
+        (0o1777, 0, true),
+        (0o1777, 1001, false),
+        (0o1000, 1001, false),
+        (0o0777, 1001, true),
+        (0o0000, 1001, true),
+    ] {
+        let directory = DirFacts {
+            owner: Uid(50),
+            group: Gid(1001),
+            mode: Mode(mode),
+        };
+        let who = cred(rt.alloc(), uid, 1001, &[Gid(50)])?;
+        assert_eq!(rt;
+            may_remove(&who, &directory, Uid(1000)),
+            removes,
+            "at {mode:o} {uid}"
+        );
+    }
     Ok(())
 }
 

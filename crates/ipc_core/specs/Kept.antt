@@ -1,35 +1,21 @@
 -- What the core keeps so that it need not look back over the whole history, and what is looked up in it.
-use Rattle.std.specs.Prelude.{Bool, false, ℕ, ◌==◌, ◌&&◌, not, List, [], find, filter, slice_get, Option, Some, None, option_and_then}
+use Rattle.std.specs.Prelude.{Bool, false, ℕ, ◌==◌, ◌&&◌, ◌||◌, not, List, find, filter, slice_get, Option, Some, None, option_and_then}
+use Rattle.std.specs.List.{list_any}
 use Rattle.std.specs.Option.{option_map}
-use Rattle.ipc_terms.specs.Names.{same_name}
-use Rattle.ipc_terms.specs.declared.ids.Family.TheVariants.{Mq}
+use Rattle.ipc_terms.specs.Names.{same_family}
+use Rattle.ipc_terms.specs.declared.ids.Family.{Family}
+use Rattle.ipc_terms.specs.declared.ids.Family.TheVariants.{Mq, Sem}
+use Rattle.ipc_terms.specs.declared.ids.Target.{Target}
+use Rattle.ipc_terms.specs.declared.ids.Target.TheVariants.{Dir, Name}
+use Rattle.ipc_terms.specs.declared.facts.Facts.{Facts}
 use Rattle.ipc_access.specs.declared.class.Cred.{Cred}
 use Rattle.ipc_access.specs.Users.{cred_of}
-use Rattle.ipc_policy.specs.Names.{same_family}
+use Rattle.ipc_names.specs.Directory.{Directory, object_named, names_object}
 use Rattle.ipc_policy.specs.declared.config.Config.{Config}
-use Rattle.ipc_policy.specs.declared.config.Facts.{Facts}
 use Rattle.ipc_policy.specs.declared.config.Held.{Held}
-use Rattle.ipc_policy.specs.declared.config.Object.{Object}
-use Rattle.ipc_core.specs.declared.names.Binding.{Binding}
 use Rattle.ipc_core.specs.declared.descriptions.Row.{Row}
 use Rattle.ipc_core.specs.declared.tables.Session.{Session}
 use Rattle.ipc_core.specs.declared.tables.Made.{Made}
-
--- a family's names, in the order of binding, with the directory's owner, group and mode
-pub record Directory : Type 0 where
-  pub bindings : List Binding
-  pub facts : Facts
-
--- no names; user 0, group 0 and octal 1777
-abbrev pub first_directory : Directory
-first_directory = record { bindings = []; facts = record { owner = record { 0 = 0 }; group = record { 0 = 0 }; mode = record { 0 = 1023 } } }
-
--- the object of the first binding of the name
-abbrev pub object_named : List Binding → List ℕ → Option ℕ
-object_named bindings name = option_map (λ b. b.object) (find (λ b. same_name b.name name) bindings)
-
-abbrev pub without_name : List Binding → List ℕ → List Binding
-without_name bindings name = filter (λ b. not (same_name b.name name)) bindings
 
 -- the descriptions that are held, and how many were ever opened
 pub record Descriptions : Type 0 where
@@ -38,11 +24,15 @@ pub record Descriptions : Type 0 where
 
 -- whether the row is description d
 abbrev pub is_desc : ℕ → Row → Bool
-is_desc d row = row.desc.0 == d
+is_desc d row = d == row.desc.0
 
 -- whether the row is session s's
 abbrev pub is_of : ℕ → Row → Bool
-is_of s row = row.held.session.0 == s
+is_of s row = s == row.held.session.0
+
+-- whether the row gives object o
+abbrev pub is_to : ℕ → Row → Bool
+is_to o row = row.held.object == o
 
 -- what the row of description d gives
 abbrev pub held_by : List Row → ℕ → Option Held
@@ -51,6 +41,14 @@ held_by rows d = option_map (λ row. row.held) (find (is_desc d) rows)
 -- all but the row of description d of session s
 abbrev pub without_desc : List Row → ℕ → ℕ → List Row
 without_desc rows s d = filter (λ row. not (is_of s row && is_desc d row)) rows
+
+-- all but the rows of session s
+abbrev pub without_session : List Row → ℕ → List Row
+without_session rows s = filter (λ row. not (is_of s row)) rows
+
+-- whether a row gives object o
+abbrev pub is_open : List Row → ℕ → Bool
+is_open rows o = list_any (is_to o) rows
 
 -- whether this is object o
 abbrev pub is_number : ℕ → Made → Bool
@@ -68,13 +66,37 @@ facts_at objects o = option_map (λ row. row.facts) (made_at objects o)
 abbrev pub cred_at : Config → List Session → ℕ → Option Cred
 cred_at c sessions s = option_and_then (λ row. cred_of c.users row.user) (slice_get sessions s)
 
+-- whether there is a session, and it is live
+abbrev pub is_live_row : Option Session → Bool
+is_live_row None = false
+is_live_row (Some row) = row.is_live
+
+-- whether session s is live
+abbrev pub live_at : List Session → ℕ → Bool
+live_at sessions s = is_live_row (slice_get sessions s)
+
 -- all that the core keeps; sessions stand at their numbers
 pub record Kept : Type 0 where
   pub sessions : List Session
-  pub names : Directory
+  pub queues : Directory
+  pub semaphores : Directory
   pub objects : List Made
   pub created : ℕ
   pub descriptions : Descriptions
+
+-- the names of a family, and its directory
+abbrev pub directory_kept : Family → Kept → Directory
+directory_kept Mq t = t.queues
+directory_kept Sem t = t.semaphores
+
+-- a name is bound to object o, or a description gives it
+abbrev pub is_alive : Directory → Directory → List Row → ℕ → Bool
+is_alive queues semaphores rows o = names_object queues.bindings o || names_object semaphores.bindings o || is_open rows o
+
+-- the owner, group and mode of a directory, or of the object that a name has
+abbrev pub facts_kept : Kept → Target → Option Facts
+facts_kept t (Dir family) = Some (directory_kept family t).facts
+facts_kept t (Name family name) = option_and_then (facts_at t.objects) (object_named (directory_kept family t).bindings name)
 
 -- what is held is session s's, and its object is a queue
 abbrev pub is_queue_of : ℕ → Held → Option Made → Bool

@@ -1,8 +1,8 @@
 //! What an accepted event does to the tables.
 
 ghost use Rattle.std.specs.Prelude.{◌≡◌, ◌+◌, ◌^◌, ◌<◌, ◌∷◌, length, None, OnOk, OnErr};
-ghost use Rattle.ipc_terms.specs.declared.record.Event.TheVariants.{Hello, Do};
-ghost use Rattle.ipc_terms.specs.declared.call.Call.TheVariants.{Umask, MqOpen, MqClose};
+ghost use Rattle.ipc_terms.specs.declared.record.Event.TheVariants.{Hello, Do, Hangup};
+ghost use Rattle.ipc_terms.specs.declared.call.Call.TheVariants.{Umask, MqOpen, MqClose, MqUnlink};
 ghost use Rattle.ipc_policy.specs.Objects.{attributes_of, without_mask};
 ghost use Rattle.ipc_policy.specs.Verdict.{verdict};
 ghost use Rattle.ipc_core.specs.Agrees.{Agrees, IsCore};
@@ -10,8 +10,10 @@ ghost use Rattle.ipc_core.specs.Agrees.{Agrees, IsCore};
 use crate::tables::Tables;
 use crate::trail::Trail;
 use ipc_access::Cred;
-use ipc_policy::{Config, Facts, Object};
-use ipc_terms::{Attributes, Call, Desc, Event, Family, Mode, NoMemory, QueueOpen, Sid, Uid};
+use ipc_policy::{Config, Object};
+use ipc_terms::{
+    Attributes, Call, Desc, Event, Facts, Family, Mode, Name, NoMemory, QueueOpen, Sid, Uid,
+};
 
 /// Brings the tables up to date with an event that is accepted after this past. An `Err` changes nothing.
 pub fn accept(
@@ -38,7 +40,17 @@ pub fn accept(
                 accept_close(tables, config, past, *sid, *desc);
                 Ok(())
             }
+            Call::MqUnlink(name) => {
+                accept_unlink(tables, config, past, *sid, name);
+                Ok(())
+            }
+            Call::ListNames { .. } => Ok(()),
+            Call::StatName(_) => Ok(()),
         },
+        Event::Hangup { sid } => {
+            accept_hangup(tables, config, past, *sid);
+            Ok(())
+        }
     }
 }
 
@@ -78,6 +90,22 @@ fn accept_close(tables: &mut Tables, config: &Config, past: &Trail, sid: Sid, de
     tables.close(sid, desc);
 }
 
+fn accept_unlink(tables: &mut Tables, config: &Config, past: &Trail, sid: Sid, name: &Name)
+    requires core { IsCore config.now past.now.history tables.old }
+    requires accepted { verdict config.now past.now.history (Do sid (MqUnlink name.now)) ≡ None }
+    ensures { Agrees config.now (record { event = Do sid (MqUnlink name.now); rule = None } ∷ past.now.history) tables.new }
+{
+    tables.unlink(name);
+}
+
+fn accept_hangup(tables: &mut Tables, config: &Config, past: &Trail, sid: Sid)
+    requires core { IsCore config.now past.now.history tables.old }
+    requires accepted { verdict config.now past.now.history (Hangup sid) ≡ None }
+    ensures { Agrees config.now (record { event = Hangup sid; rule = None } ∷ past.now.history) tables.new }
+{
+    tables.end_session(sid);
+}
+
 fn accept_open(
     tables: &mut Tables,
     config: &Config,
@@ -91,7 +119,7 @@ fn accept_open(
     ensures ok { OnOk result (Agrees config.now (record { event = Do sid (MqOpen asked.now); rule = None } ∷ past.now.history) tables.new) }
     ensures err { OnErr result (tables.new ≡ tables.old) }
 {
-    if let Some(object) = tables.names().get(&asked.name) {
+    if let Some(object) = tables.names(Family::Mq).get(&asked.name) {
         tables.open_found(sid, object, asked.access)?;
         return Ok(());
     }

@@ -1,17 +1,18 @@
 //! The core.
 
-ghost use Rattle.std.specs.Prelude.{◌≡◌, ◌≤◌, ◌∷◌, [], Some, None, IfOk, IfErr, OnOk, OnErr, length, map, take, MatchOption};
-ghost use Rattle.ipc_policy.specs.Verdict.{verdict, answers, answers_at, accepted_answers, caller, Legal, after_event, after_events, all_answers};
+ghost use Rattle.std.specs.Prelude.{◌≡◌, ◌≤◌, [], Some, None, IfOk, IfErr, OnOk, OnErr, length, map, take, MatchOption};
+ghost use Rattle.ipc_policy.specs.Verdict.{verdict, answers, answers_at, Legal, after_event, after_events, all_answers};
 ghost use Rattle.ipc_core.specs.Agrees.{IsCore};
 ghost use Rattle.ipc_core.specs.Ranges.{first_bad};
 
 use crate::accept::accept;
+use crate::answer::{accepted_answers, caller_of, one};
 use crate::decide::decide;
 use crate::fault::{CoreFault, first_bad};
 use crate::tables::Tables;
 use crate::trail::Trail;
 use ipc_policy::Config;
-use ipc_terms::{Answer, Call, Desc, Event, NoMemory, Record, Rule, Sid};
+use ipc_terms::{Answer, Event, NoMemory, Record, Rule, Sid};
 use std::alloc::Global;
 use std::marker::Model;
 
@@ -91,7 +92,7 @@ impl Core {
         ensures err { OnErr result (self.new ≡ self.old) }
     {
         let rule = self.decide(&event);
-        let given = Vec::from_array(alloc, [self.answer_to(&event, rule)])?;
+        let given = self.answers_to(alloc, &event, rule)?;
         self.trail.reserve_one()?;
         if rule.is_none() {
             accept(&mut self.tables, &self.config, &self.trail, &event)?;
@@ -129,47 +130,18 @@ impl Core {
     }
 
     /// To whom an event is answered, and what, where this is the verdict on it.
-    fn answer_to(&self, event: &Event, rule: Option<Rule>) -> (Sid, Answer)
+    fn answers_to(
+        &self,
+        alloc: Global,
+        event: &Event,
+        rule: Option<Rule>,
+    ) -> Result<Vec<(Sid, Answer)>, NoMemory>
         requires { rule ≡ verdict self.now.config self.now.history event.now }
-        ensures { answers_at rule self.now.history event.now ≡ result ∷ [] }
+        ensures { IfOk result (λ given. given.items ≡ answers_at rule self.now.config self.now.history event.now) }
     {
         match rule {
-            Some(rule) => (caller_of(event), Answer::Refused(rule)),
-            None => accepted_answer(&self.tables, &self.config, &self.trail, event),
+            Some(rule) => one(alloc, caller_of(event), Answer::Refused(rule)),
+            None => accepted_answers(alloc, &self.tables, &self.config, &self.trail, event),
         }
-    }
-}
-
-/// To whom an event that is accepted after this past is answered, and what.
-fn accepted_answer(tables: &Tables, config: &Config, past: &Trail, event: &Event) -> (Sid, Answer)
-    requires core { IsCore config.now past.now.history tables.now }
-    requires accepted { verdict config.now past.now.history event.now ≡ None }
-    ensures { accepted_answers past.now.history event.now ≡ result ∷ [] }
-{
-    match event {
-        Event::Hello { found: _ } => {
-            let sid = Sid(tables.session_count() as u64);
-            (sid, Answer::Started(sid))
-        }
-        Event::Do { sid, call } => match call {
-            Call::Umask(_) => {
-                let Some(session) = tables.session(*sid) else {
-                    unreachable!();
-                };
-                (*sid, Answer::Mask(session.mask))
-            }
-            Call::MqOpen(_) => (*sid, Answer::Opened(Desc(tables.descriptions().opened()))),
-            Call::MqClose(_) => (*sid, Answer::Done),
-        },
-    }
-}
-
-/// The session that an event names; a hello names nobody.
-fn caller_of(event: &Event) -> Sid
-    ensures { result ≡ caller event.now }
-{
-    match event {
-        Event::Hello { found: _ } => Sid::NOBODY,
-        Event::Do { sid, call: _ } => *sid,
     }
 }

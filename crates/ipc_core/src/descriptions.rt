@@ -1,7 +1,8 @@
 //! The descriptions that are held.
 
 ghost use Rattle.std.specs.Prelude.{◌≡◌, ◌+◌, ◌^◌, ◌<◌, ◌==◌, ◌&&◌, [], ◌∷◌, ◌++◌, not, filter, count_by, IfOk, OnErr};
-ghost use Rattle.ipc_core.specs.Kept.{held_by, is_desc, is_of, without_desc};
+ghost use Rattle.std.specs.List.{list_any};
+ghost use Rattle.ipc_core.specs.Kept.{held_by, is_desc, is_of, is_to, is_open, without_desc, without_session};
 
 use ipc_policy::Held;
 use ipc_terms::{Access, Desc, NoMemory, Sid};
@@ -73,6 +74,20 @@ impl Descrs {
         remove_row(&mut self.rows, sid, desc);
     }
 
+    /// Closes all descriptions that the session holds.
+    pub fn close_all(&mut self, sid: Sid)
+        ensures { self.new ≡ record self.old { rows = without_session self.old.rows sid.0 } }
+    {
+        remove_session(&mut self.rows, sid);
+    }
+
+    /// Whether a description gives the object.
+    pub fn is_open(&self, object: u64) -> bool
+        ensures { result ≡ is_open self.now.rows object }
+    {
+        any_gives(&self.rows, object)
+    }
+
     /// How many descriptions the session holds.
     pub fn count(&self, sid: Sid) -> usize
         ensures { result ≡ count_by (is_of sid.0) self.now.rows }
@@ -92,20 +107,32 @@ fn find_row(rows: &[Row], desc: Desc) -> Option<Held>
     ensures { result ≡ held_by rows.now desc.0 }
 {
     rows.iter()
-        .find(|row| row.desc.0 == desc.0)
+        .find(|row| desc.0 == row.desc.0)
         .map(|row| row.held)
 }
 
 fn remove_row(rows: &mut Vec<Row>, sid: Sid, desc: Desc)
     ensures { rows.new.items ≡ without_desc rows.old.items sid.0 desc.0 }
 {
-    rows.retain(|row| !(row.held.session.0 == sid.0 && row.desc.0 == desc.0));
+    rows.retain(|row| !(sid.0 == row.held.session.0 && desc.0 == row.desc.0));
+}
+
+fn remove_session(rows: &mut Vec<Row>, sid: Sid)
+    ensures { rows.new.items ≡ without_session rows.old.items sid.0 }
+{
+    rows.retain(|row| !(sid.0 == row.held.session.0));
+}
+
+fn any_gives(rows: &[Row], object: u64) -> bool
+    ensures { result ≡ is_open rows.now object }
+{
+    rows.iter().any(|row| row.held.object == object)
 }
 
 fn count_rows(rows: &[Row], sid: Sid) -> usize
     ensures { result ≡ count_by (is_of sid.0) rows.now }
 {
     rows.iter()
-        .filter(|row| row.held.session.0 == sid.0)
+        .filter(|row| sid.0 == row.held.session.0)
         .count()
 }

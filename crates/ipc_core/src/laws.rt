@@ -1,3 +1,3 @@
 //! Laws of the policy, over every history of records.
 
-pub use ipc_policy::{grow, least, quiet};
+pub use ipc_policy::{grow, least, listed, quiet};

@@ -2,12 +2,13 @@
 #![tactic(auto)]
 
 mod accept;
+mod answer;
+mod conditions;
 mod core_state;
 mod decide;
 mod descriptions;
 mod fault;
 pub mod laws;
-mod names;
 mod push;
 mod tables;
 #[cfg(test)]
@@ -16,5 +17,5 @@ mod trail;
 
 pub use core_state::Core;
 pub use fault::{CoreFault, Field};
-pub use ipc_policy::{Config, Facts, Held, Limits, Object};
+pub use ipc_policy::{Config, Held, Limits, Object};
 pub use trail::Trail;

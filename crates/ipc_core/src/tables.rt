@@ -2,22 +2,26 @@
 
 ghost use Rattle.std.specs.Prelude.{◌≡◌, ◌+◌, ◌^◌, ◌<◌, [], ◌∷◌, ◌++◌, length, slice_get, None, OnOk, OnErr};
 ghost use Rattle.std.specs.Option.{option_map};
-ghost use Rattle.ipc_core.specs.Kept.{first_directory, object_named, made_at, held_by, without_desc};
-ghost use Rattle.ipc_core.specs.Steps.{with_mask, after_hello, after_umask, after_found, after_created, after_close};
+ghost use Rattle.ipc_terms.specs.declared.ids.Family.TheVariants.{Mq, Sem};
+ghost use Rattle.ipc_names.specs.Directory.{first_directory, object_named};
+ghost use Rattle.ipc_core.specs.Kept.{directory_kept, made_at, is_alive};
+ghost use Rattle.ipc_core.specs.Steps.{changed, hung_up, living, after_hello, after_umask, after_found, after_created, after_close, after_unlink, after_hangup};
 
 use crate::descriptions::Descrs;
-use crate::names::NameDir;
 use crate::push::push_within;
-use ipc_policy::{Facts, Object};
-use ipc_terms::{Access, Desc, Mode, Name, NoMemory, Sid, Uid};
+use ipc_names::NameDir;
+use ipc_policy::Object;
+use ipc_terms::{Access, Desc, Facts, Family, Mode, Name, NoMemory, Sid, Uid};
 use std::alloc::Global;
 use std::marker::Model;
 
-/// A session's user, and its present mask.
+/// A session's user, its present mask, and whether it is live. A session that hung up keeps its
+/// place, so that sessions stand at their numbers.
 #[derive(Clone, Copy, PartialEq, Eq, Debug)]
 pub struct Session {
     pub user: Uid,
     pub mask: Mode,
+    pub is_live: bool,
 }
 
 /// An object by its number, with its present owner, group and mode.
@@ -28,11 +32,13 @@ pub struct Made {
     pub facts: Facts,
 }
 
-/// Sessions stand at their numbers; objects are numbered by the objects created before them.
+/// Sessions stand at their numbers. Of the objects, those that are alive: numbered by the objects
+/// created before them, and in the order of their numbers.
 #[derive(Drop)]
 pub struct Tables {
     sessions: Vec<Session>,
-    names: NameDir,
+    queues: NameDir,
+    semaphores: NameDir,
     objects: Vec<Made>,
     created: u64,
     descriptions: Descrs,
@@ -43,7 +49,7 @@ impl Model for Tables {
 
     ghost Value = { Kept };
 
-    ghost view = { λ a. record { sessions = a.sessions.items; names = a.names; objects = a.objects.items; created = a.created; descriptions = a.descriptions } };
+    ghost view = { λ a. record { sessions = a.sessions.items; queues = a.queues; semaphores = a.semaphores; objects = a.objects.items; created = a.created; descriptions = a.descriptions } };
 }
 
 /// The mask of a session that has set none: octal 022.
@@ -51,11 +57,12 @@ const FIRST_MASK: Mode = Mode(0o22);
 
 impl Tables {
     pub fn new(alloc: Global) -> Self
-        ensures { result ≡ record { sessions = []; names = first_directory; objects = []; created = 0; descriptions = record { rows = []; opened = 0 } } }
+        ensures { result ≡ record { sessions = []; queues = first_directory Mq; semaphores = first_directory Sem; objects = []; created = 0; descriptions = record { rows = []; opened = 0 } } }
     {
         Tables {
             sessions: Vec::new(alloc),
-            names: NameDir::new(alloc),
+            queues: NameDir::new(alloc, Family::Mq),
+            semaphores: NameDir::new(alloc, Family::Sem),
             objects: Vec::new(alloc),
             created: 0,
             descriptions: Descrs::new(alloc),
@@ -74,10 +81,14 @@ impl Tables {
         self.sessions.len()
     }
 
-    pub fn names(&self) -> &NameDir
-        ensures { result.now ≡ self.now.names }
+    /// The names of the family, and its directory.
+    pub fn names(&self, family: Family) -> &NameDir
+        ensures { result.now ≡ directory_kept family self.now }
     {
-        &self.names
+        match family {
+            Family::Mq => &self.queues,
+            Family::Sem => &self.semaphores,
+        }
     }
 
     pub fn object(&self, number: u64) -> Option<Made>
@@ -100,6 +111,7 @@ impl Tables {
         self.sessions.push(Session {
             user,
             mask: FIRST_MASK,
+            is_live: true,
         })?;
         Ok(())
     }
@@ -132,7 +144,7 @@ impl Tables {
         object: Object,
         facts: Facts,
     ) -> Result<(), NoMemory>
-        requires unbound { object_named self.old.names.bindings name.now ≡ None }
+        requires unbound { object_named self.old.queues.bindings name.now ≡ None }
         requires opened { self.old.descriptions.opened + 1 < 2 ^ 64 }
         requires created { self.old.created + 1 < 2 ^ 64 }
         ensures ok { OnOk result (self.new ≡ after_created self.old sid name.now access object facts) }
@@ -140,9 +152,9 @@ impl Tables {
     {
         let number = self.created;
         self.objects.reserve(1)?;
-        self.names.bind(name.try_clone()?, number)?;
+        self.queues.bind(name.try_clone()?, number)?;
         if self.descriptions.open(sid, number, access).is_err() {
-            self.names.unbind(name);
+            self.queues.unbind(name);
             return Err(NoMemory);
         }
         push_within(
@@ -157,12 +169,74 @@ impl Tables {
         Ok(())
     }
 
-    /// Closes the description, if the session holds it.
+    /// Closes the description, if the session holds it. An object that nothing keeps is gone.
     pub fn close(&mut self, sid: Sid, desc: Desc)
         ensures { self.new ≡ after_close self.old sid.0 desc.0 }
     {
         self.descriptions.close(sid, desc);
+        remove_dead(
+            &mut self.objects,
+            &self.queues,
+            &self.semaphores,
+            &self.descriptions,
+        );
     }
+
+    /// Leaves the queue's name unbound. An object that nothing keeps is gone.
+    pub fn unlink(&mut self, name: &Name)
+        ensures { self.new ≡ after_unlink self.old name.now }
+    {
+        self.queues.unbind(name);
+        remove_dead(
+            &mut self.objects,
+            &self.queues,
+            &self.semaphores,
+            &self.descriptions,
+        );
+    }
+
+    /// Ends the session, and closes what it holds. An object that nothing keeps is gone.
+    pub fn end_session(&mut self, sid: Sid)
+        requires { sid.0 < length self.old.sessions }
+        ensures { self.new ≡ after_hangup self.old sid.0 }
+    {
+        self.mark_ended(sid);
+        self.descriptions.close_all(sid);
+        remove_dead(
+            &mut self.objects,
+            &self.queues,
+            &self.semaphores,
+            &self.descriptions,
+        );
+    }
+
+    /// The session is live no more.
+    fn mark_ended(&mut self, sid: Sid)
+        requires { sid.0 < length self.old.sessions }
+        ensures { self.new ≡ record self.old { sessions = changed hung_up self.old.sessions sid.0 } }
+    {
+        let session = &mut self.sessions[sid.0 as usize];
+        session.is_live = false;
+    }
+}
+
+/// Keeps the objects that have a name, or that a description gives.
+fn remove_dead(
+    objects: &mut Vec<Made>,
+    queues: &NameDir,
+    semaphores: &NameDir,
+    descriptions: &Descrs,
+)
+    ensures { objects.new.items ≡ living queues.now semaphores.now descriptions.now.rows objects.old.items }
+{
+    objects.retain(|made| keeps(queues, semaphores, descriptions, made.number));
+}
+
+/// Whether the object has a name, or a description gives it.
+fn keeps(queues: &NameDir, semaphores: &NameDir, descriptions: &Descrs, object: u64) -> bool
+    ensures { result ≡ is_alive queues.now semaphores.now descriptions.now.rows object }
+{
+    queues.names_object(object) || semaphores.names_object(object) || descriptions.is_open(object)
 }
 
 fn find_object(objects: &[Made], number: u64) -> Option<Made>

@@ -1,23 +1,23 @@
 -- What is held, how many, and what an open and a close make of it.
 use Rattle.std.proofs.Common.{◌≡◌, ℕ, zero, suc, ◌+◌, ◌-◌, ◌<◌, ◌≤◌, Bool, true, false, ◌&&◌, eqb, [], ◌∷◌, cond, Option, Some, None, inl, inr, ◌⊎◌, refl, sym, ap, ◌∙◌, arith, add-one}
-use Rattle.std.specs.Prelude.{is_some, option_and_then, unwrap_or}
+use Rattle.std.specs.Prelude.{is_some, option_and_then}
 use Rattle.std.specs.Option.{option_or}
-use Rattle.std.proofs.lemmas.Bool.{cases_eq, eqb-true, eqb-false, eq-eqb, ne_eqb, and_parts, and_from, and_left, and_right}
+use Rattle.std.proofs.lemmas.Bool.{cases_eq, eqb-true, eq-eqb, ne_eqb, and_parts, and_from, and_left, and_right}
 use Rattle.ipc_terms.specs.declared.rule.Rule.{Rule}
 use Rattle.ipc_terms.specs.declared.ids.Sid.{Sid}
 use Rattle.ipc_terms.specs.declared.ids.Desc.{Desc}
 use Rattle.ipc_terms.specs.declared.call.QueueOpen.{QueueOpen}
-use Rattle.ipc_terms.specs.declared.call.Call.TheVariants.{Umask, MqOpen, MqClose}
+use Rattle.ipc_terms.specs.declared.call.Call.TheVariants.{Umask, MqOpen, MqClose, MqUnlink, ListNames, StatName}
 use Rattle.ipc_terms.specs.declared.record.Event.{Event}
 use Rattle.ipc_terms.specs.declared.record.Record.{Record}
-use Rattle.ipc_terms.specs.declared.record.Event.TheVariants.{Hello, Do}
+use Rattle.ipc_terms.specs.declared.record.Event.TheVariants.{Hello, Do, Hangup}
 use Rattle.ipc_policy.specs.declared.config.Held.{Held}
 use Rattle.ipc_policy.specs.History.{History, kept, unended, how_many_below}
 use Rattle.ipc_policy.specs.Names.{Opening, opening, bound, creations}
 use Rattle.ipc_policy.specs.Descriptions.{opens, opened, gives, ends_held, held, if_of, holds, held_count}
-use Rattle.ipc_policy.specs.Grow.{held_after, held_count_after, opens_after}
+use Rattle.ipc_policy.specs.Grow.{held_after, held_count_after}
 
-kept_some : {A : Type 0} (p : A → Bool) (o : Option A) → is_some (kept p o) ≡ true → is_some o ≡ true
+pub kept_some : {A : Type 0} (p : A → Bool) (o : Option A) → is_some (kept p o) ≡ true → is_some o ≡ true
 kept_some p None e = e
 kept_some p (Some x) e = refl
 
@@ -75,6 +75,7 @@ unfolding held
 held_grows h (Hello found) d = refl
 held_grows h (Do sid (MqOpen asked)) d = or_cond (eqb (opens h) d) _ (unended (gives d) (λ x e before. ends_held d x e) h)
 held_grows h (Do sid call) d = refl
+held_grows h (Hangup sid) d = refl
 
 -- tests that agree below a limit have as many numbers below it
 pub how_many_below_same : (f g : ℕ → Bool) (n : ℕ) → ((d : ℕ) → d < n → f d ≡ g d) → how_many_below f n ≡ how_many_below g n
@@ -180,9 +181,43 @@ count_kept : (h k : History) (s : ℕ) → opens k ≡ opens h → ((d : ℕ) �
 unfolding held_count holds
 count_kept h k s n same = ap (how_many_below (λ d. is_some (option_and_then (if_of s) (held k d)))) n ∙ how_many_below_same _ _ (opens h) (λ d lt. ap (λ o. is_some (option_and_then (if_of s) o)) (same d))
 
+-- no numbers are of a kind that none is of
+how_many_below_none : (f : ℕ → Bool) (n : ℕ) → ((d : ℕ) → f d ≡ false) → how_many_below f n ≡ 0
+how_many_below_none f zero none = refl
+how_many_below_none f (suc n) none = rw (none n) (how_many_below_none f n none)
+
+-- after a hang-up a session holds nothing, and each other what it held
+left_at : (s : ℕ) (sid : Sid) (w : Option Held) (b : Bool) → eqb sid.0 s ≡ b → is_some (option_and_then (if_of s) (kept (λ x. eqb sid.0 x.session.0) w)) ≡ cond b false (is_some (option_and_then (if_of s) w))
+left_at s sid None true e = refl
+left_at s sid None false e = refl
+left_at s sid (Some x) b e = at (eqb sid.0 x.session.0) refl b e where
+  at : (k : Bool) → eqb sid.0 x.session.0 ≡ k → (b : Bool) → eqb sid.0 s ≡ b → is_some (option_and_then (if_of s) (cond k None (Some x))) ≡ cond b false (is_some (if_of s x))
+  at true t true e = refl
+  at true t false e = rw (ne_eqb x.session.0 s (λ (q : x.session.0 ≡ s). let same : sid.0 ≡ x.session.0 = eqb-true _ _ t in let yes' : eqb sid.0 s ≡ true = eq-eqb _ _ (same ∙ q) in let no' : true ≡ false = sym yes' ∙ e in cc)) refl
+  at false f true e = rw (ne_eqb x.session.0 s (λ (q : x.session.0 ≡ s). let same : sid.0 ≡ s = eqb-true _ _ e in let yes' : eqb sid.0 x.session.0 ≡ true = eq-eqb _ _ (same ∙ sym q) in let no' : true ≡ false = sym yes' ∙ f in cc)) refl
+  at false f false e = refl
+
+holds_left : (h : History) (sid : Sid) (s d : ℕ) (b : Bool) → eqb sid.0 s ≡ b → is_some (holds (record { event = Hangup sid; rule = None } ∷ h) s d) ≡ cond b false (is_some (holds h s d))
+unfolding holds
+holds_left h sid s d b e = ap (λ o. is_some (option_and_then (if_of s) o)) (held_grows h (Hangup sid) d) ∙ left_at s sid (held h d) b e
+
+count_left : (h : History) (sid : Sid) (s : ℕ) → held_count (record { event = Hangup sid; rule = None } ∷ h) s ≡ cond (eqb sid.0 s) 0 (held_count h s)
+unfolding held_count opens
+count_left h sid s = at (eqb sid.0 s) refl where
+  at : (b : Bool) → eqb sid.0 s ≡ b → how_many_below (λ d. is_some (holds (record { event = Hangup sid; rule = None } ∷ h) s d)) (opens h) ≡ cond b 0 (held_count h s)
+  at true e = how_many_below_none _ (opens h) (λ d. holds_left h sid s d true e)
+  at false e = how_many_below_same _ _ (opens h) (λ d lt. holds_left h sid s d false e)
+
+count_quiet : (h : History) (e : Event) (s : ℕ) → opens (record { event = e; rule = None } ∷ h) ≡ opens h → ((d : ℕ) → held (record { event = e; rule = None } ∷ h) d ≡ kept (λ x. false) (held h d)) → held_count (record { event = e; rule = None } ∷ h) s ≡ held_count h s
+count_quiet h e s n same = count_kept h _ s n (λ d. same d ∙ kept_all (held h d))
+
 pub count_grows : (h : History) (e : Event) (s : ℕ) → held_count (record { event = e; rule = None } ∷ h) s ≡ held_count_after s e (holds h) (held_count h s)
 unfolding opens
-count_grows h (Hello found) s = count_kept h _ s refl (λ d. held_grows h (Hello found) d ∙ kept_all (held h d))
-count_grows h (Do sid (Umask mode)) s = count_kept h _ s refl (λ d. held_grows h (Do sid (Umask mode)) d ∙ kept_all (held h d))
+count_grows h (Hello found) s = count_quiet h (Hello found) s refl (held_grows h (Hello found))
+count_grows h (Do sid (Umask mode)) s = count_quiet h (Do sid (Umask mode)) s refl (held_grows h (Do sid (Umask mode)))
 count_grows h (Do sid (MqOpen asked)) s = count_opened h sid asked s
 count_grows h (Do sid (MqClose desc)) s = count_closed h sid desc s
+count_grows h (Do sid (MqUnlink name)) s = count_quiet h (Do sid (MqUnlink name)) s refl (held_grows h (Do sid (MqUnlink name)))
+count_grows h (Do sid (ListNames family start count)) s = count_quiet h (Do sid (ListNames family start count)) s refl (held_grows h (Do sid (ListNames family start count)))
+count_grows h (Do sid (StatName target)) s = count_quiet h (Do sid (StatName target)) s refl (held_grows h (Do sid (StatName target)))
+count_grows h (Hangup sid) s = count_left h sid s

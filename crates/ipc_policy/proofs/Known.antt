@@ -1,29 +1,30 @@
 -- What holds of every history, or of every legal one.
 use Rattle.std.proofs.Common.{◌≡◌, ℕ, ◌+◌, ◌<◌, ◌≤◌, ◌%◌, Bool, true, false, not, ◌&&◌, eqb, List, [], ◌∷◌, ◌++◌, length, cond, Option, Some, None, is_some, is_none, refl, sym, ap, ◌∙◌, arith}
 use Rattle.std.specs.Prelude.{unwrap_or, option_and_then}
-use Rattle.std.specs.Option.{option_or}
+use Rattle.std.specs.Option.{option_or, option_map}
 use Rattle.std.proofs.lemmas.Bool.{eqb-true, and_parts}
 use Rattle.std.proofs.lemmas.Slice.Eq.{bytes_eq-Decides}
 use Rattle.ipc_terms.specs.Flags.{has_create}
-use Rattle.ipc_terms.specs.Names.{same_name}
+use Rattle.ipc_terms.specs.Names.{same_family, same_name}
 use Rattle.ipc_terms.specs.declared.rule.Rule.{Rule}
 use Rattle.ipc_terms.specs.declared.rule.Rule.TheVariants.{NoSession, BadKey}
 use Rattle.ipc_terms.specs.declared.ids.Uid.{Uid}
 use Rattle.ipc_terms.specs.declared.ids.Family.{Family}
 use Rattle.ipc_terms.specs.declared.ids.Family.TheVariants.{Mq, Sem}
-use Rattle.ipc_terms.specs.declared.call.Call.TheVariants.{Umask, MqOpen, MqClose}
+use Rattle.ipc_terms.specs.declared.call.Call.TheVariants.{Umask, MqOpen, MqUnlink}
 use Rattle.ipc_terms.specs.declared.record.Event.{Event}
-use Rattle.ipc_terms.specs.declared.record.Event.TheVariants.{Hello, Do}
+use Rattle.ipc_terms.specs.declared.record.Event.TheVariants.{Hello, Do, Hangup}
 use Rattle.ipc_access.specs.Users.{cred_of}
 use Rattle.ipc_policy.specs.declared.config.Config.{Config}
 use Rattle.ipc_policy.specs.declared.config.Object.{Object}
-use Rattle.ipc_policy.specs.History.{History, newest, how_many}
-use Rattle.ipc_policy.specs.Sessions.{hellos, is_hello, begins, user, live, cred, mask, sets_mask}
-use Rattle.ipc_policy.specs.Names.{Opening, opening, same_family, asks_name, is_bound, leaves_bound, creation, creations, binds, bound, creating}
-use Rattle.ipc_policy.specs.Objects.{creation_of, makes, object}
+use Rattle.ipc_policy.specs.History.{History, newest, kept, unended, how_many}
+use Rattle.ipc_policy.specs.Sessions.{hellos, is_hello, begins, hangs_up, user, live, cred, mask, sets_mask}
+use Rattle.ipc_policy.specs.Names.{Opening, opening, asks_name, unlinks, is_bound, leaves_bound, creation, creations, binds, bound, creating}
+use Rattle.ipc_policy.specs.Objects.{creation_of, makes, sets_facts, object, facts}
 use Rattle.ipc_policy.specs.Descriptions.{opens}
 use Rattle.ipc_policy.specs.Verdict.{verdict, Legal, answers, after_event, after_events, all_answers}
 use Rattle.ipc_policy.proofs.Verdicts.{queue_opening, verdict_hello, verdict_umask}
+use Rattle.ipc_policy.proofs.Holding.{kept_all, kept_some}
 
 -- no more events of a kind were accepted than there are records
 how_many_le-length : (is_one : Event → History → Bool) (h : History) → how_many is_one h ≤ length h
@@ -57,20 +58,31 @@ abbrev opened_to : Family → List ℕ → ℕ → Option Opening → Option ℕ
 opened_to f name n None = None
 opened_to f name n (Some a) = cond (asks_name a f name) (Some n) None
 
-open_iff : (asked : Opening) (f : Family) (name : List ℕ) (n : ℕ) (w : Option Bool) (v : Option ℕ) → unwrap_or w false ≡ is_some v → (b same u : Bool) → asks_name asked f name ≡ same → (same ≡ true → u ≡ unwrap_or w false) → unwrap_or (option_or (cond (b && same) (Some true) None) w) false ≡ is_some (option_or (opened_to f name n (cond (b && not u) (Some asked) None)) v)
-open_iff asked f name n w v known true true true q k = k refl ∙ known
+open_iff : (asked : Opening) (f : Family) (name : List ℕ) (n : ℕ) (w : Option Bool) (v : Option ℕ) → unwrap_or w false ≡ is_some v → (b same u : Bool) → asks_name asked f name ≡ same → (same ≡ true → u ≡ unwrap_or w false) → unwrap_or (option_or (cond (b && same) (Some true) None) w) false ≡ is_some (option_or (opened_to f name n (cond (b && not u) (Some asked) None)) (kept (λ x. false) v))
+open_iff asked f name n w v known true true true q k = k refl ∙ known ∙ sym (ap is_some (kept_all v))
 open_iff asked f name n w v known true true false q k = rw q refl
-open_iff asked f name n w v known true false true q k = known
-open_iff asked f name n w v known true false false q k = rw q known
-open_iff asked f name n w v known false true u q k = known
-open_iff asked f name n w v known false false u q k = known
+open_iff asked f name n w v known true false true q k = known ∙ sym (ap is_some (kept_all v))
+open_iff asked f name n w v known true false false q k = rw q (known ∙ sym (ap is_some (kept_all v)))
+open_iff asked f name n w v known false true u q k = known ∙ sym (ap is_some (kept_all v))
+open_iff asked f name n w v known false false u q k = known ∙ sym (ap is_some (kept_all v))
+
+unlinked_iff : (b : Bool) (w : Option Bool) (v : Option ℕ) → unwrap_or w false ≡ is_some v → unwrap_or (option_or (cond b (Some false) None) w) false ≡ is_some (kept (λ x. b) v)
+unlinked_iff true w None known = refl
+unlinked_iff true w (Some x) known = refl
+unlinked_iff false w v known = known ∙ sym (ap is_some (kept_all v))
+
+-- the object to which the name is bound, as it is defined
+abbrev bound_so_far : History → Family → List ℕ → Option ℕ
+bound_so_far h f name = unended (binds f name) (λ o e before. unlinks f name e) h
 
 iff_more : (h : History) (f : Family) (name : List ℕ) → is_bound h f name ≡ is_some (bound h f name) → (e : Event) (r : Option Rule) → is_bound (record { event = e; rule = r } ∷ h) f name ≡ is_some (bound (record { event = e; rule = r } ∷ h) f name)
 unfolding is_bound bound creating
 iff_more h f name known e (Some rule) = known
-iff_more h f name known (Hello found) None = known
-iff_more h f name known (Do sid (MqOpen given)) None = open_iff (queue_opening sid given) f name (creations h) (newest (leaves_bound f name) h) (newest (binds f name) h) known (has_create given.flags) (asks_name (queue_opening sid given) f name) (is_bound h Mq given.name) refl (asks_same h (queue_opening sid given) f name)
-iff_more h f name known (Do sid call) None = known
+iff_more h f name known (Hello found) None = known ∙ sym (ap is_some (kept_all (bound_so_far h f name)))
+iff_more h f name known (Do sid (MqOpen given)) None = open_iff (queue_opening sid given) f name (creations h) (newest (leaves_bound f name) h) (bound_so_far h f name) known (has_create given.flags) (asks_name (queue_opening sid given) f name) (is_bound h Mq given.name) refl (asks_same h (queue_opening sid given) f name)
+iff_more h f name known (Do sid (MqUnlink given)) None = unlinked_iff (unlinks f name (Do sid (MqUnlink given))) (newest (leaves_bound f name) h) (bound_so_far h f name) known
+iff_more h f name known (Do sid call) None = known ∙ sym (ap is_some (kept_all (bound_so_far h f name)))
+iff_more h f name known (Hangup sid) None = known ∙ sym (ap is_some (kept_all (bound_so_far h f name)))
 
 pub bound_iff : (h : History) (f : Family) (name : List ℕ) → is_bound h f name ≡ is_some (bound h f name)
 unfolding is_bound bound
@@ -94,6 +106,29 @@ unfolding object
 object_below c [] o k = absurd cc
 object_below c (r ∷ h) o k = object_more c h o (object_below c h o) r.event r.rule k
 
+-- what an object is and who may do what with it are known together
+newest_alike : {A B : Type 0} (f : Event → History → Option A) (g : Event → History → Option B) (h : History) → ((e : Event) (before : History) → is_some (f e before) ≡ is_some (g e before)) → is_some (newest f h) ≡ is_some (newest g h)
+newest_alike f g [] same = refl
+newest_alike {A = A} {B = B} f g (r ∷ h) same = at (is_none r.rule) (f r.event h) (g r.event h) (same r.event h) (newest_alike f g h same) where
+  at : (b : Bool) (v : Option A) (w : Option B) → is_some v ≡ is_some w → is_some (newest f h) ≡ is_some (newest g h) → is_some (option_or (cond b v None) (newest f h)) ≡ is_some (option_or (cond b w None) (newest g h))
+  at false v w e rest = rest
+  at true None None e rest = rest
+  at true None (Some y) e rest = absurd cc
+  at true (Some x) None e rest = absurd cc
+  at true (Some x) (Some y) e rest = refl
+
+mapped_alike : {A B X : Type 0} (f : X → A) (g : X → B) (w : Option X) → is_some (option_map f w) ≡ is_some (option_map g w)
+mapped_alike f g None = refl
+mapped_alike f g (Some x) = refl
+
+then_alike : {A B X : Type 0} (f : X → Option A) (g : X → Option B) (w : Option X) → ((x : X) → is_some (f x) ≡ is_some (g x)) → is_some (option_and_then f w) ≡ is_some (option_and_then g w)
+then_alike f g None same = refl
+then_alike f g (Some x) same = same x
+
+pub object_with_facts : (c : Config) (h : History) (o : ℕ) → is_some (object c h o) ≡ is_some (facts c h o)
+unfolding object facts
+object_with_facts c h o = newest_alike (makes c o) (sets_facts c o) h (λ e before. then_alike _ _ (creation_of o e before) (λ asked. mapped_alike _ _ (cred c before asked.session.0)))
+
 -- a mask has nine bits
 mask_more : (before : History) (s : ℕ) → mask before s < 512 → (e : Event) (o : Option Rule) → mask (record { event = e; rule = o } ∷ before) s < 512
 unfolding mask
@@ -104,6 +139,7 @@ mask_more before s known (Do sid (Umask m)) None = set_at (eqb sid.0 s) where
   set_at true = omega arith
   set_at false = known
 mask_more before s known (Do sid call) None = known
+mask_more before s known (Hangup sid) None = known
 
 pub mask_lt : (h : History) (s : ℕ) → mask h s < 512
 unfolding mask
@@ -124,6 +160,7 @@ user_more c before s uid known (Hello (Some who)) None legal h = begun_at (eqb (
   begun_at true k = let same : who ≡ uid = cc in rw (← same) (some_of_not_none (cred_of c.users who) (legal ∙ verdict_hello c before (Some who)))
   begun_at false k = known k
 user_more c before s uid known (Do sid call) None legal h = known h
+user_more c before s uid known (Hangup sid) None legal h = known h
 
 pub known_user : (c : Config) (h : History) → Legal c h → (s : ℕ) (uid : Uid) → user h s ≡ Some uid → is_some (cred_of c.users uid) ≡ true
 unfolding user
@@ -139,30 +176,47 @@ user_below_more before s known (Hello found) None h = begun_at (eqb (hellos befo
   begun_at true e k = let same : hellos before ≡ s = eqb-true _ _ e in let same' : how_many is_hello before ≡ s = same in omega arith
   begun_at false e k = let below : s < how_many is_hello before = known k in omega arith
 user_below_more before s known (Do sid call) None h = known h
+user_below_more before s known (Hangup sid) None h = known h
 
 pub user_below : (h : History) (s : ℕ) → is_some (user h s) ≡ true → s < hellos h
 unfolding user
 user_below [] s h = absurd cc
 user_below (r ∷ before) s h = user_below_more before s (user_below before s) r.event r.rule h
 
+-- what was begun and not ended was begun
+begun_at : {A : Type 0} (b : Bool) (w u v : Option A) (p : A → Bool) → (is_some u ≡ true → is_some v ≡ true) → is_some (cond b (option_or w (kept p u)) u) ≡ true → is_some (option_or (cond b w None) v) ≡ true
+begun_at true None u v p known k = known (kept_some p u k)
+begun_at true (Some x) u v p known k = refl
+begun_at false w u v p known k = known k
+
+unended_newest : {A : Type 0} (starts : Event → History → Option A) (ends : A → Event → History → Bool) (h : History) → is_some (unended starts ends h) ≡ true → is_some (newest starts h) ≡ true
+unended_newest starts ends [] k = k
+unended_newest starts ends (r ∷ h) k = begun_at (is_none r.rule) (starts r.event h) (unended starts ends h) (newest starts h) (λ x. ends x r.event h) (unended_newest starts ends h) k
+
+-- a session that is live has a user
+pub live_user : (h : History) (s : ℕ) → live h s ≡ true → is_some (user h s) ≡ true
+unfolding live user
+live_user h s k = unended_newest (begins s) (λ who e before. hangs_up s e) h k
+
 live_of_none : (b : Bool) → None ≡ cond (not b) (Some NoSession) None → b ≡ true
 live_of_none true h = refl
 live_of_none false h = absurd cc
 
 first_mask_more : (c : Config) (before : History) (s : ℕ) → (hellos before ≤ s → mask before s ≡ 18) → (e : Event) (o : Option Rule) → o ≡ verdict c before e → hellos (record { event = e; rule = o } ∷ before) ≤ s → mask (record { event = e; rule = o } ∷ before) s ≡ 18
-unfolding mask hellos live
+unfolding mask hellos
 first_mask_more c before s known e (Some rule) legal h = known h
 first_mask_more c before s known (Hello found) None legal h = known (let k : how_many is_hello before + 1 ≤ s = h in let k' : how_many is_hello before ≤ s = omega arith in k')
 first_mask_more c before s known (Do sid (Umask m)) None legal h = set_at (eqb sid.0 s) refl where
   set_at : (b : Bool) → eqb sid.0 s ≡ b → unwrap_or (option_or (cond b (Some (m.0 % 512)) None) (newest (sets_mask s) before)) 18 ≡ 18
   set_at true e =
       let same : sid.0 ≡ s = eqb-true _ _ e in
-      let lives : is_some (user before sid.0) ≡ true = live_of_none _ (legal ∙ verdict_umask c before sid m) in
+      let lives : is_some (user before sid.0) ≡ true = live_user before sid.0 (live_of_none _ (legal ∙ verdict_umask c before sid m)) in
       let below : sid.0 < hellos before = user_below before sid.0 lives in
       let k : hellos before ≤ s = h in
       absurd (omega arith)
   set_at false e = known h
 first_mask_more c before s known (Do sid call) None legal h = known h
+first_mask_more c before s known (Hangup sid) None legal h = known h
 
 pub first_mask : (c : Config) (h : History) → Legal c h → (s : ℕ) → hellos h ≤ s → mask h s ≡ 18
 unfolding mask

@@ -1,6 +1,10 @@
 pub mod FirstPassing
 pub mod Verdicts
+pub mod Gathering
 pub mod Holding
 pub mod Growing
+pub mod Living
+pub mod Grown
 pub mod Known
+pub mod Listing
 pub mod Refused

@@ -1,9 +1,9 @@
 -- Open descriptions.
-use Rattle.std.specs.Prelude.{Bool, true, false, ℕ, ◌&&◌, ◌==◌, Option, Some, None, is_some, if◌then◌else◌, unwrap_or, option_and_then}
+use Rattle.std.specs.Prelude.{Bool, false, ℕ, ◌&&◌, ◌==◌, Option, Some, None, is_some, if◌then◌else◌, unwrap_or, option_and_then}
 use Rattle.ipc_terms.specs.Flags.{has_nonblock}
 use Rattle.ipc_terms.specs.declared.call.Call.TheVariants.{MqClose}
 use Rattle.ipc_terms.specs.declared.record.Event.{Event}
-use Rattle.ipc_terms.specs.declared.record.Event.TheVariants.{Do}
+use Rattle.ipc_terms.specs.declared.record.Event.TheVariants.{Do, Hangup}
 use Rattle.ipc_policy.specs.declared.config.Held.{Held}
 use Rattle.ipc_policy.specs.History.{History, newest, unended, how_many, how_many_below}
 use Rattle.ipc_policy.specs.Names.{Opening, opening, bound, creations}
@@ -26,9 +26,10 @@ gives d e before = given_by (opening e) where
       then Some (record { session = asked.session; object = opened before asked; access = asked.access })
       else None
 
--- it ends when its session closes it
+-- it ends when its session closes it or hangs up
 abbrev pub ends_held : ℕ → Held → Event → Bool
 ends_held d held (Do sid (MqClose desc)) = (sid.0 == held.session.0) && (desc.0 == d)
+ends_held d held (Hangup sid) = sid.0 == held.session.0
 ends_held d held _ = false
 
 -- what description d gives, and to which session

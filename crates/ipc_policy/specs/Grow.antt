@@ -1,19 +1,22 @@
 -- What one accepted event does to each value, by the values before it alone.
-use Rattle.std.specs.Prelude.{◌≡◌, Bool, false, ℕ, ◌+◌, ◌-◌, ◌%◌, ◌&&◌, ◌||◌, ◌==◌, not, List, ◌∷◌, Option, Some, None, is_some, if◌then◌else◌, unwrap_or}
+use Rattle.std.specs.Prelude.{◌≡◌, Bool, false, ℕ, ◌+◌, ◌-◌, ◌%◌, ◌&&◌, ◌||◌, ◌==◌, not, List, [], ◌∷◌, ◌++◌, filter, Option, Some, None, is_some, if◌then◌else◌, unwrap_or}
 use Rattle.std.specs.Option.{option_or, option_map}
 use Rattle.ipc_terms.specs.Flags.{has_create, has_nonblock}
+use Rattle.ipc_terms.specs.Names.{same_family, same_name}
+use Rattle.ipc_terms.specs.declared.binding.Binding.{Binding}
 use Rattle.ipc_terms.specs.declared.ids.Uid.{Uid}
 use Rattle.ipc_terms.specs.declared.ids.Family.{Family}
 use Rattle.ipc_terms.specs.declared.call.Call.TheVariants.{Umask, MqOpen, MqClose}
 use Rattle.ipc_terms.specs.declared.record.Event.{Event}
-use Rattle.ipc_terms.specs.declared.record.Event.TheVariants.{Hello, Do}
+use Rattle.ipc_terms.specs.declared.record.Event.TheVariants.{Hello, Do, Hangup}
 use Rattle.ipc_policy.specs.declared.config.Config.{Config}
 use Rattle.ipc_policy.specs.declared.config.Held.{Held}
-use Rattle.ipc_policy.specs.History.{History, kept}
+use Rattle.ipc_policy.specs.History.{History, kept, any_below}
 use Rattle.ipc_policy.specs.Sessions.{hellos, user, live, cred, mask}
-use Rattle.ipc_policy.specs.Names.{Opening, opening, asks_name, is_bound, creations, bound}
+use Rattle.ipc_policy.specs.Names.{Opening, Naming, opening, unlinking, unlinks, asks_name, is_bound, creations, bound}
 use Rattle.ipc_policy.specs.Objects.{object, facts, directory, made_by, first_facts}
 use Rattle.ipc_policy.specs.Descriptions.{opens, held, holds, held_count, is_nonblock, ends_held}
+use Rattle.ipc_policy.specs.Life.{named, bindings, names, alive, gives_object}
 
 abbrev pub hellos_after : Event → ℕ → ℕ
 hellos_after (Hello found) hellos = hellos + 1
@@ -22,6 +25,11 @@ hellos_after _ hellos = hellos
 abbrev pub user_after : ℕ → Event → ℕ → Option Uid → Option Uid
 user_after s (Hello found) hellos was = option_or (if hellos == s then found else None) was
 user_after s _ hellos was = was
+
+abbrev pub live_after : ℕ → Event → ℕ → Bool → Bool
+live_after s (Hello found) hellos was = ((hellos == s) && is_some found) || was
+live_after s (Hangup sid) hellos was = not (sid.0 == s) && was
+live_after s _ hellos was = was
 
 abbrev pub mask_after : ℕ → Event → ℕ → ℕ
 mask_after s (Do sid (Umask mask)) was = if sid.0 == s then mask.0 % 512 else was
@@ -34,7 +42,7 @@ is_new asked is_bound = has_create asked.flags && not (is_bound asked.family ask
 abbrev pub is_bound_after : Family → List ℕ → Event → Bool → Bool
 is_bound_after f name e was = by_open (opening e) where
   by_open : Option Opening → Bool
-  by_open None = was
+  by_open None = if unlinks f name e then false else was
   by_open (Some asked) = (has_create asked.flags && asks_name asked f name) || was
 
 abbrev pub creations_after : Event → (Family → List ℕ → Bool) → ℕ → ℕ
@@ -46,7 +54,7 @@ creations_after e is_bound was = by_open (opening e) where
 abbrev pub bound_after : Family → List ℕ → Event → (Family → List ℕ → Bool) → ℕ → Option ℕ → Option ℕ
 bound_after f name e is_bound creations was = by_open (opening e) where
   by_open : Option Opening → Option ℕ
-  by_open None = was
+  by_open None = if unlinks f name e then None else was
   by_open (Some asked) = if is_new asked is_bound && asks_name asked f name then Some creations else was
 
 -- what the open that creates object o gives it, else what it had
@@ -74,6 +82,7 @@ held_after d e opens bound creations was = by_open (opening e) where
 abbrev pub held_count_after : ℕ → Event → (ℕ → ℕ → Option Held) → ℕ → ℕ
 held_count_after s (Do sid (MqOpen asked)) holds was = if sid.0 == s then was + 1 else was
 held_count_after s (Do sid (MqClose desc)) holds was = if (sid.0 == s) && is_some (holds s desc.0) then was - 1 else was
+held_count_after s (Hangup sid) holds was = if sid.0 == s then 0 else was
 held_count_after s _ holds was = was
 
 abbrev pub nonblock_after : ℕ → ℕ → Event → ℕ → Bool → Bool
@@ -82,10 +91,41 @@ nonblock_after s d e opens was = by_open (opening e) where
   by_open None = was
   by_open (Some asked) = if (asked.session.0 == s) && (opens == d) then has_nonblock asked.flags else was
 
+abbrev pub named_after : ℕ → Event → (Family → List ℕ → Bool) → ℕ → Option Opening → Option Opening
+named_after o e is_bound creations was = by_open (opening e) where
+  by_open : Option Opening → Option Opening
+  by_open None = kept (λ asked. unlinks asked.family asked.name e) was
+  by_open (Some asked) = if is_new asked is_bound && (creations == o) then Some asked else was
+
+abbrev pub bindings_after : Family → Event → (Family → List ℕ → Bool) → ℕ → List Binding → List Binding
+bindings_after f e is_bound creations was = by_open (opening e) where
+  without : Option Naming → List Binding
+  without None = was
+  without (Some what) = filter (λ b. not (same_family what.family f && same_name b.name what.name)) was
+
+  by_open : Option Opening → List Binding
+  by_open None = without (unlinking e)
+  by_open (Some asked) = if is_new asked is_bound && same_family asked.family f then was ++ record { name = asked.name; object = creations } ∷ [] else was
+
+abbrev pub names_after : Family → Event → (Family → List ℕ → Bool) → List (List ℕ) → List (List ℕ)
+names_after f e is_bound was = by_open (opening e) where
+  without : Option Naming → List (List ℕ)
+  without None = was
+  without (Some what) = filter (λ name. not (same_family what.family f && same_name name what.name)) was
+
+  by_open : Option Opening → List (List ℕ)
+  by_open None = without (unlinking e)
+  by_open (Some asked) = if is_new asked is_bound && same_family asked.family f then was ++ asked.name ∷ [] else was
+
+-- what the object is named by, and what each description gives, after the event
+abbrev pub alive_after : ℕ → Option Opening → (ℕ → Option Held) → ℕ → Bool
+alive_after o named held opens = is_some named || any_below (λ d. gives_object o (held d)) opens
+
 -- each value after an accepted event, by the values before it
 pub record Grows (c : Config) (h k : History) (e : Event) : Type 0 where
   pub hello_count : hellos k ≡ hellos_after e (hellos h)
   pub user_of : (s : ℕ) → user k s ≡ user_after s e (hellos h) (user h s)
+  pub live_or_not : (s : ℕ) → live k s ≡ live_after s e (hellos h) (live h s)
   pub mask_of : (s : ℕ) → mask k s ≡ mask_after s e (mask h s)
   pub bound_or_not : (f : Family) (name : List ℕ) → is_bound k f name ≡ is_bound_after f name e (is_bound h f name)
   pub creation_count : creations k ≡ creations_after e (is_bound h) (creations h)
@@ -97,6 +137,10 @@ pub record Grows (c : Config) (h k : History) (e : Event) : Type 0 where
   pub held_by : (d : ℕ) → held k d ≡ held_after d e (opens h) (bound h) (creations h) (held h d)
   pub count_of : (s : ℕ) → held_count k s ≡ held_count_after s e (holds h) (held_count h s)
   pub nonblock_of : (s d : ℕ) → is_nonblock k s d ≡ nonblock_after s d e (opens h) (is_nonblock h s d)
+  pub named_by : (o : ℕ) → named k o ≡ named_after o e (is_bound h) (creations h) (named h o)
+  pub bindings_of : (f : Family) → bindings k f ≡ bindings_after f e (is_bound h) (creations h) (bindings h f)
+  pub names_of : (f : Family) → names k f ≡ names_after f e (is_bound h) (names h f)
+  pub alive_or_not : (o : ℕ) → alive k o ≡ alive_after o (named_after o e (is_bound h) (creations h) (named h o)) (λ d. held_after d e (opens h) (bound h) (creations h) (held h d)) (opens_after e (opens h))
 
 -- an accepted event changes each value as stated, by the values before it
 abbrev pub AcceptedGrows : Type 0

@@ -2,7 +2,7 @@
 -- A question about a history is asked in one of three ways: what does the newest accepted event
 -- that says something about it say; what did the newest one begin, unless a later one ended it;
 -- and how many accepted events are of a kind. Refused events say, begin and end nothing.
-use Rattle.std.specs.Prelude.{Bool, ℕ, zero, suc, ◌+◌, ◌&&◌, ◌==◌, length, List, [], ◌∷◌, Option, Some, None, is_none, if◌then◌else◌}
+use Rattle.std.specs.Prelude.{Bool, false, ℕ, zero, suc, ◌+◌, ◌&&◌, ◌||◌, ◌==◌, length, List, [], ◌∷◌, ◌++◌, Option, Some, None, is_none, if◌then◌else◌}
 use Rattle.std.specs.Option.{option_or}
 use Rattle.ipc_terms.specs.declared.record.Event.{Event}
 use Rattle.ipc_terms.specs.declared.record.Record.{Record}
@@ -43,6 +43,21 @@ unended begins ends (r ∷ before) =
 abbrev pub how_many_below : (ℕ → Bool) → ℕ → ℕ
 how_many_below is_one zero = 0
 how_many_below is_one (suc n) = if is_one n then how_many_below is_one n + 1 else how_many_below is_one n
+
+-- whether a number below a limit is of a kind
+abbrev pub any_below : (ℕ → Bool) → ℕ → Bool
+any_below is_one zero = false
+any_below is_one (suc n) = is_one n || any_below is_one n
+
+-- what there is, as a list
+abbrev pub listed : {A : Type 0} → Option A → List A
+listed None = []
+listed (Some x) = x ∷ []
+
+-- what the numbers below a limit give, in their order
+abbrev pub gathered_below : {A : Type 0} → (ℕ → Option A) → ℕ → List A
+gathered_below give zero = []
+gathered_below give (suc n) = gathered_below give n ++ listed (give n)
 
 -- the record that has so many records before it
 abbrev pub record_at : ℕ → History → Option Record

@@ -1,5 +1,7 @@
 -- Laws that hold of every history.
-use Rattle.std.specs.Prelude.{◌≡◌, ℕ, ◌≤◌, false, IsTrue, List, ◌∷◌, Some, MatchOption}
+use Rattle.std.specs.Prelude.{◌≡◌, ℕ, ◌≤◌, false, IsTrue, List, ◌∷◌, find, Some, MatchOption}
+use Rattle.std.specs.Option.{option_map}
+use Rattle.ipc_terms.specs.Names.{same_name}
 use Rattle.ipc_terms.specs.Rules.{number_of}
 use Rattle.ipc_terms.specs.declared.rule.Rule.{Rule}
 use Rattle.ipc_terms.specs.declared.ids.Family.{Family}
@@ -10,6 +12,7 @@ use Rattle.ipc_policy.specs.Sessions.{hellos, user, live, cred, mask}
 use Rattle.ipc_policy.specs.Names.{is_bound, creations, bound}
 use Rattle.ipc_policy.specs.Objects.{object, facts, directory}
 use Rattle.ipc_policy.specs.Descriptions.{opens, held, holds, held_count, is_nonblock}
+use Rattle.ipc_policy.specs.Life.{named, bindings, names, alive}
 use Rattle.ipc_policy.specs.Rules.{forbids}
 use Rattle.ipc_policy.specs.Verdict.{verdict}
 
@@ -42,9 +45,19 @@ pub record SameValues (c : Config) (h k : History) : Type 0 where
   pub holds : (s d : ℕ) → holds h s d ≡ holds k s d
   pub held_count : (s : ℕ) → held_count h s ≡ held_count k s
   pub is_nonblock : (s d : ℕ) → is_nonblock h s d ≡ is_nonblock k s d
+  pub named : (o : ℕ) → named h o ≡ named k o
+  pub bindings : (f : Family) → bindings h f ≡ bindings k f
+  pub names : (f : Family) → names h f ≡ names k f
+  pub alive : (o : ℕ) → alive h o ≡ alive k o
 
 -- a refused event changes no value
 abbrev pub RefusedIsQuiet : Type 0
 RefusedIsQuiet =
     (c : Config) (h : History) (e : Event) (rule : Rule) →
     SameValues c (record { event = e; rule = Some rule } ∷ h) h
+
+-- the names in the list are those that are bound, each to its object
+abbrev pub ListedIsBound : Type 0
+ListedIsBound =
+    (h : History) (f : Family) (name : List ℕ) →
+    option_map (λ b. b.object) (find (λ b. same_name b.name name) (bindings h f)) ≡ bound h f name

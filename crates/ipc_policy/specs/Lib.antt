@@ -3,6 +3,7 @@ pub mod Sessions
 pub mod Names
 pub mod Objects
 pub mod Descriptions
+pub mod Life
 pub mod Rules
 pub mod Verdict
 pub mod Laws

@@ -1,24 +1,19 @@
--- Opens, the names that they bind, and the objects that they create.
-use Rattle.std.specs.Prelude.{Bool, true, false, ℕ, ◌&&◌, ◌==◌, not, List, Option, Some, None, if◌then◌else◌, unwrap_or, is_some}
+-- Opens and unlinks, the names that they bind and unbind, and the objects that opens create.
+use Rattle.std.specs.Prelude.{Bool, true, false, ℕ, ◌&&◌, not, List, Option, Some, None, if◌then◌else◌, unwrap_or, is_some}
 use Rattle.ipc_terms.specs.Flags.{has_create}
-use Rattle.ipc_terms.specs.Names.{same_name}
+use Rattle.ipc_terms.specs.Names.{same_family, same_name}
 use Rattle.ipc_terms.specs.declared.ids.Sid.{Sid}
 use Rattle.ipc_terms.specs.declared.ids.Mode.{Mode}
 use Rattle.ipc_terms.specs.declared.ids.Family.{Family}
-use Rattle.ipc_terms.specs.declared.ids.Family.TheVariants.{Mq, Sem}
+use Rattle.ipc_terms.specs.declared.ids.Family.TheVariants.{Mq}
+use Rattle.ipc_terms.specs.declared.ids.Target.TheVariants.{Name}
 use Rattle.ipc_terms.specs.declared.call.Attributes.{Attributes}
 use Rattle.ipc_terms.specs.declared.flags.OpenFlags.{OpenFlags}
 use Rattle.ipc_terms.specs.declared.call.Access.{Access}
-use Rattle.ipc_terms.specs.declared.call.Call.TheVariants.{MqOpen}
+use Rattle.ipc_terms.specs.declared.call.Call.TheVariants.{MqOpen, MqUnlink, StatName}
 use Rattle.ipc_terms.specs.declared.record.Event.{Event}
 use Rattle.ipc_terms.specs.declared.record.Event.TheVariants.{Do}
-use Rattle.ipc_policy.specs.History.{History, newest, how_many}
-
--- whether both are the same family
-abbrev pub same_family : Family → Family → Bool
-same_family Mq Mq = true
-same_family Sem Sem = true
-same_family _ _ = false
+use Rattle.ipc_policy.specs.History.{History, newest, unended, how_many}
 
 -- what an open asks for
 pub record Opening : Type 0 where
@@ -35,15 +30,40 @@ abbrev pub opening : Event → Option Opening
 opening (Do sid (MqOpen asked)) = Some (record { session = sid; family = Mq; name = asked.name; flags = asked.flags; access = asked.access; mode = asked.mode; attributes = asked.attributes })
 opening _ = None
 
+-- whose call it is, and the name of which family it names
+pub record Naming : Type 0 where
+  pub session : Sid
+  pub family : Family
+  pub name : List ℕ
+
+-- what an unlink names, if the event is one
+abbrev pub unlinking : Event → Option Naming
+unlinking (Do sid (MqUnlink name)) = Some (record { session = sid; family = Mq; name = name })
+unlinking _ = None
+
+-- what a named call names, if the event is one: an open, an unlink, or a stat of a name
+abbrev pub naming : Event → Option Naming
+naming (Do sid (MqOpen asked)) = Some (record { session = sid; family = Mq; name = asked.name })
+naming (Do sid (MqUnlink name)) = Some (record { session = sid; family = Mq; name = name })
+naming (Do sid (StatName (Name family name))) = Some (record { session = sid; family = family; name = name })
+naming _ = None
+
+-- the event is an unlink of this name of this family
+abbrev pub unlinks : Family → List ℕ → Event → Bool
+unlinks family name e = unlinked (unlinking e) where
+  unlinked : Option Naming → Bool
+  unlinked None = false
+  unlinked (Some named) = same_family named.family family && same_name name named.name
+
 -- it asks for this name of this family
 abbrev pub asks_name : Opening → Family → List ℕ → Bool
 asks_name asked family name = same_family asked.family family && same_name asked.name name
 
--- an accepted open with CREAT leaves its name bound, whether it made the object or found it
+-- an accepted open with CREAT leaves its name bound, whether it made the object or found it; an unlink leaves it unbound
 abbrev pub leaves_bound : Family → List ℕ → Event → History → Option Bool
 leaves_bound family name e before = left_by (opening e) where
   left_by : Option Opening → Option Bool
-  left_by None = None
+  left_by None = if unlinks family name e then Some false else None
   left_by (Some asked) = if has_create asked.flags && asks_name asked family name then Some true else None
 
 -- whether the name is bound
@@ -72,6 +92,6 @@ binds family name e before = bound_by (creation e before) where
   bound_by None = None
   bound_by (Some asked) = if asks_name asked family name then Some (creations before) else None
 
--- the object to which the name is bound
+-- the object to which the name is bound, until the name is unlinked
 unfoldable pub bound : History → Family → List ℕ → Option ℕ
-bound h family name = newest (binds family name) h
+bound h family name = unended (binds family name) (λ o e before. unlinks family name e) h

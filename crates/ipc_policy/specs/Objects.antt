@@ -8,7 +8,7 @@ use Rattle.ipc_terms.specs.declared.record.Event.{Event}
 use Rattle.ipc_access.specs.declared.class.Cred.{Cred}
 use Rattle.ipc_policy.specs.declared.config.Config.{Config}
 use Rattle.ipc_policy.specs.declared.config.Object.{Object}
-use Rattle.ipc_policy.specs.declared.config.Facts.{Facts}
+use Rattle.ipc_terms.specs.declared.facts.Facts.{Facts}
 use Rattle.ipc_policy.specs.History.{History, newest}
 use Rattle.ipc_policy.specs.Sessions.{cred, mask}
 use Rattle.ipc_policy.specs.Names.{Opening, creation, creations}

@@ -1,28 +1,28 @@
 -- What each rule forbids. A condition that speaks of a user, an object or a description holds only
 -- where there is one, but for the rules 8 and 31.
-use Rattle.std.specs.Prelude.{Bool, true, false, ℕ, ◌&&◌, ◌||◌, ◌==◌, not, List, [], ◌∷◌, length, nat_lt, nat_le, codes, Option, Some, None, is_none, if◌then◌else◌, option_and_then}
-use Rattle.std.specs.List.{list_any}
+use Rattle.std.specs.Prelude.{Bool, false, ℕ, ◌&&◌, ◌||◌, ◌==◌, not, nat_lt, nat_le, Option, Some, None, is_none, if◌then◌else◌, option_and_then}
 use Rattle.ipc_terms.specs.Flags.{has_create, has_exclusive}
-use Rattle.ipc_terms.specs.Names.{same_name}
+use Rattle.ipc_terms.specs.Names.{same_family, has_name_form, is_long_name}
 use Rattle.ipc_terms.specs.declared.rule.Rule.{Rule}
-use Rattle.ipc_terms.specs.declared.rule.Rule.TheVariants.{NoSession, NameForm, NameLong, BadDescr, DirSearch, Absent, Present, ModeDenied, DirWrite, AttrRange, DescrLimit, BadKey}
+use Rattle.ipc_terms.specs.declared.rule.Rule.TheVariants.{NoSession, NameForm, NameLong, BadDescr, DirSearch, DirRead, Absent, Present, ModeDenied, DirWrite, Sticky, AttrRange, DescrLimit, BadKey}
 use Rattle.ipc_terms.specs.declared.ids.Family.{Family}
-use Rattle.ipc_terms.specs.declared.ids.Family.TheVariants.{Mq, Sem}
+use Rattle.ipc_terms.specs.declared.ids.Family.TheVariants.{Mq}
 use Rattle.ipc_terms.specs.declared.call.Access.{Access}
 use Rattle.ipc_terms.specs.declared.call.Access.TheVariants.{Read, Write, Both}
 use Rattle.ipc_terms.specs.declared.call.Attributes.{Attributes}
-use Rattle.ipc_terms.specs.declared.call.Call.TheVariants.{MqClose}
+use Rattle.ipc_terms.specs.declared.call.Call.TheVariants.{MqClose, ListNames}
 use Rattle.ipc_terms.specs.declared.record.Event.{Event}
-use Rattle.ipc_terms.specs.declared.record.Event.TheVariants.{Hello, Do}
+use Rattle.ipc_terms.specs.declared.record.Event.TheVariants.{Hello, Do, Hangup}
 use Rattle.ipc_access.specs.declared.class.Cred.{Cred}
 use Rattle.ipc_access.specs.Class.{granted}
+use Rattle.ipc_access.specs.Sticky.{lets_remove}
 use Rattle.ipc_access.specs.Users.{cred_of}
 use Rattle.ipc_policy.specs.declared.config.Config.{Config}
-use Rattle.ipc_policy.specs.declared.config.Facts.{Facts}
+use Rattle.ipc_terms.specs.declared.facts.Facts.{Facts}
 use Rattle.ipc_policy.specs.declared.config.Object.{Object}
 use Rattle.ipc_policy.specs.History.{History}
 use Rattle.ipc_policy.specs.Sessions.{live, cred}
-use Rattle.ipc_policy.specs.Names.{Opening, opening, same_family, is_bound, creating, bound}
+use Rattle.ipc_policy.specs.Names.{opening, unlinking, naming, is_bound, creating, bound, Opening}
 use Rattle.ipc_policy.specs.Objects.{object, facts, directory}
 use Rattle.ipc_policy.specs.Descriptions.{holds, held_count}
 
@@ -42,18 +42,6 @@ bits_wanted Read = 4
 bits_wanted Write = 2
 bits_wanted Both = 6
 
--- a slash and then one or more bytes, none of them a slash or zero, and neither /. nor /..
-abbrev pub has_name_form : List ℕ → Bool
-has_name_form [] = false
-has_name_form (first ∷ rest) =
-    (first == 47) && nat_lt 0 (length rest) && not (list_any (λ b. (b == 47) || (b == 0)) rest)
-    && not (same_name rest (codes ".")) && not (same_name rest (codes ".."))
-
--- the most bytes that a name of the family may have, the slash counted
-abbrev pub name_limit : Family → ℕ
-name_limit Mq = 256
-name_limit Sem = 252
-
 -- the attributes are given, and one of them is 0 or above the caller's limit
 abbrev pub out_of_range : Config → Option Cred → Option Attributes → Bool
 out_of_range c (Some who) (Some given) =
@@ -62,12 +50,15 @@ out_of_range c (Some who) (Some given) =
     || nat_lt (if who.uid.0 == 0 then 16777216 else c.limits.msgsize_max) given.msgsize
 out_of_range c _ _ = false
 
--- an open of which this holds
-abbrev pub is_open_with : (Opening → Bool) → Event → Bool
-is_open_with test e = tested (opening e) where
-  tested : Option Opening → Bool
-  tested None = false
-  tested (Some asked) = test asked
+-- there is one, and this holds of it
+abbrev pub there_is : {A : Type 0} → (A → Bool) → Option A → Bool
+there_is test None = false
+there_is test (Some x) = test x
+
+-- there are a user and an object, and the directory does not let the user remove the object's name
+abbrev pub removal_denied : Option Cred → Facts → Option Facts → Bool
+removal_denied (Some who) directory (Some at) = not (lets_remove who directory at.owner)
+removal_denied _ directory _ = false
 
 -- there is an object, and it is of the family
 abbrev pub is_of_family : Family → Option Object → Bool
@@ -78,56 +69,72 @@ is_of_family family (Some x) = same_family x.family family
 abbrev pub not_held : Config → History → ℕ → Family → ℕ → Bool
 not_held c h s family d = not (is_of_family family (option_and_then (λ x. object c h x.object) (holds h s d)))
 
--- 1: a call of a session that is not live
+-- 1: a call or a hang-up of a session that is not live
 unfoldable pub no_session : Config → History → Event → Bool
-no_session c h (Do sid call) = not (live h sid.0)
 no_session c h (Hello found) = false
+no_session c h (Do sid call) = not (live h sid.0)
+no_session c h (Hangup sid) = not (live h sid.0)
 
--- 4: the name has not the form of a name
+-- 4: a named call, and the name has not the form of a name
 unfoldable pub name_form : Config → History → Event → Bool
-name_form c h e = is_open_with (λ asked. not (has_name_form asked.name)) e
+name_form c h e = there_is (λ what. not (has_name_form what.name)) (naming e)
 
--- 5: the name has more bytes in all than its family's limit
+-- 5: a named call, and the name has more bytes in all than its family's limit
 unfoldable pub name_long : Config → History → Event → Bool
-name_long c h e = is_open_with (λ asked. nat_lt (name_limit asked.family) (length asked.name)) e
+name_long c h e = there_is (λ what. is_long_name what.family what.name) (naming e)
 
 -- 8: the session does not hold the description, or it gives an object of the other family
 unfoldable pub bad_descr : Config → History → Event → Bool
 bad_descr c h (Do sid (MqClose desc)) = not_held c h sid.0 Mq desc.0
 bad_descr c h _ = false
 
--- 11: search on the family's directory is not granted
+-- 11: a named call, and search on the family's directory is not granted
 unfoldable pub dir_search : Config → History → Event → Bool
-dir_search c h e = is_open_with (λ asked. denied (cred c h asked.session.0) (directory h asked.family) 1) e
+dir_search c h e = there_is (λ what. denied (cred c h what.session.0) (directory h what.family) 1) (naming e)
 
--- 13: an open without CREAT, and the name is unbound
+-- 12: a listing, and read on the directory is not granted
+unfoldable pub dir_read : Config → History → Event → Bool
+dir_read c h (Do sid (ListNames family start count)) = denied (cred c h sid.0) (directory h family) 4
+dir_read c h _ = false
+
+-- 13: an open without CREAT, or a named call that is no open, and the name is unbound
 unfoldable pub absent : Config → History → Event → Bool
-absent c h e = is_open_with (λ asked. not (has_create asked.flags) && not (is_bound h asked.family asked.name)) e
+absent c h e = by_open (opening e) where
+  by_open : Option Opening → Bool
+  by_open None = there_is (λ what. not (is_bound h what.family what.name)) (naming e)
+  by_open (Some asked) = not (has_create asked.flags) && not (is_bound h asked.family asked.name)
 
 -- 14: an open with CREAT and EXCL, and the name is bound
 unfoldable pub present : Config → History → Event → Bool
-present c h e = is_open_with (λ asked. has_create asked.flags && has_exclusive asked.flags && is_bound h asked.family asked.name) e
+present c h e = there_is (λ asked. has_create asked.flags && has_exclusive asked.flags && is_bound h asked.family asked.name) (opening e)
 
 -- 15: an open of a bound name, and the object does not grant the wanted access
 unfoldable pub mode_denied : Config → History → Event → Bool
-mode_denied c h e = is_open_with (λ asked. denied_at (cred c h asked.session.0) (option_and_then (facts c h) (bound h asked.family asked.name)) (bits_wanted asked.access)) e
+mode_denied c h e = there_is (λ asked. denied_at (cred c h asked.session.0) (option_and_then (facts c h) (bound h asked.family asked.name)) (bits_wanted asked.access)) (opening e)
 
--- 16: a creating open, and write on the directory is not granted
+-- 16: a creating open, or an unlink, and write on the directory is not granted
 unfoldable pub dir_write : Config → History → Event → Bool
-dir_write c h e = is_open_with (λ asked. creating h asked && denied (cred c h asked.session.0) (directory h asked.family) 2) e
+dir_write c h e = by_open (opening e) where
+  by_open : Option Opening → Bool
+  by_open None = there_is (λ what. denied (cred c h what.session.0) (directory h what.family) 2) (unlinking e)
+  by_open (Some asked) = creating h asked && denied (cred c h asked.session.0) (directory h asked.family) 2
+
+-- 17: an unlink of a bound name in a sticky directory, by another than user 0, the object's owner and the directory's
+unfoldable pub sticky : Config → History → Event → Bool
+sticky c h e = there_is (λ what. removal_denied (cred c h what.session.0) (directory h what.family) (option_and_then (facts c h) (bound h what.family what.name))) (unlinking e)
 
 -- 20: a creating open with attributes that are 0 or above the caller's limits
 unfoldable pub attr_range : Config → History → Event → Bool
-attr_range c h e = is_open_with (λ asked. creating h asked && out_of_range c (cred c h asked.session.0) asked.attributes) e
+attr_range c h e = there_is (λ asked. creating h asked && out_of_range c (cred c h asked.session.0) asked.attributes) (opening e)
 
 -- 24: an open while the session holds 1,024 descriptions
 unfoldable pub descr_limit : Config → History → Event → Bool
-descr_limit c h e = is_open_with (λ asked. nat_le 1024 (held_count h asked.session.0)) e
+descr_limit c h e = there_is (λ asked. nat_le 1024 (held_count h asked.session.0)) (opening e)
 
 -- 31: a hello for no user of the file
 unfoldable pub bad_key : Config → History → Event → Bool
 bad_key c h (Hello found) = is_none (option_and_then (cred_of c.users) found)
-bad_key c h (Do sid call) = false
+bad_key c h _ = false
 
 -- whether the rule forbids the event after the history; a rule that is not named here forbids nothing yet
 unfoldable pub forbids : Rule → Config → History → Event → Bool
@@ -136,10 +143,12 @@ forbids NameForm = name_form
 forbids NameLong = name_long
 forbids BadDescr = bad_descr
 forbids DirSearch = dir_search
+forbids DirRead = dir_read
 forbids Absent = absent
 forbids Present = present
 forbids ModeDenied = mode_denied
 forbids DirWrite = dir_write
+forbids Sticky = sticky
 forbids AttrRange = attr_range
 forbids DescrLimit = descr_limit
 forbids BadKey = bad_key

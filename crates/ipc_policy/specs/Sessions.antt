@@ -3,11 +3,11 @@ use Rattle.std.specs.Prelude.{Bool, true, false, ℕ, ◌%◌, ◌==◌, Option,
 use Rattle.ipc_terms.specs.declared.ids.Uid.{Uid}
 use Rattle.ipc_terms.specs.declared.call.Call.TheVariants.{Umask}
 use Rattle.ipc_terms.specs.declared.record.Event.{Event}
-use Rattle.ipc_terms.specs.declared.record.Event.TheVariants.{Hello, Do}
+use Rattle.ipc_terms.specs.declared.record.Event.TheVariants.{Hello, Do, Hangup}
 use Rattle.ipc_access.specs.declared.class.Cred.{Cred}
 use Rattle.ipc_access.specs.Users.{cred_of}
 use Rattle.ipc_policy.specs.declared.config.Config.{Config}
-use Rattle.ipc_policy.specs.History.{History, newest, how_many}
+use Rattle.ipc_policy.specs.History.{History, newest, unended, how_many}
 
 abbrev pub is_hello : Event → History → Bool
 is_hello (Hello found) before = true
@@ -26,9 +26,14 @@ begins s _ before = None
 unfoldable pub user : History → ℕ → Option Uid
 user h s = newest (begins s) h
 
--- whether session s is live
+-- a hang-up ends its session
+abbrev pub hangs_up : ℕ → Event → Bool
+hangs_up s (Hangup sid) = sid.0 == s
+hangs_up s _ = false
+
+-- session s is live from its hello until its hang-up
 unfoldable pub live : History → ℕ → Bool
-live h s = is_some (user h s)
+live h s = is_some (unended (begins s) (λ who e before. hangs_up s e) h)
 
 -- who the user of session s is, by the user file
 unfoldable pub cred : Config → History → ℕ → Option Cred

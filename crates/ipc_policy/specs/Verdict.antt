@@ -1,17 +1,24 @@
 -- The verdict on an event, what is answered, and which histories are legal.
-use Rattle.std.specs.Prelude.{◌≡◌, Bool, if◌then◌else◌, find, List, [], ◌∷◌, Option, Some, None}
+use Rattle.std.specs.Prelude.{◌≡◌, find, List, [], ◌∷◌, Option, Some, None, option_and_then}
 use Rattle.ipc_terms.specs.Rules.{every_rule}
 use Rattle.ipc_terms.specs.declared.rule.Rule.{Rule}
+use Rattle.ipc_terms.specs.Pages.{page}
 use Rattle.ipc_terms.specs.declared.ids.Sid.{Sid}
+use Rattle.ipc_terms.specs.declared.ids.Target.{Target}
+use Rattle.ipc_terms.specs.declared.ids.Target.TheVariants.{Dir, Name}
+use Rattle.ipc_terms.specs.declared.facts.Facts.{Facts}
 use Rattle.ipc_terms.specs.declared.call.Answer.{Answer}
-use Rattle.ipc_terms.specs.declared.call.Answer.TheVariants.{Started, Done, Opened, Mask, Refused}
-use Rattle.ipc_terms.specs.declared.call.Call.TheVariants.{Umask, MqOpen, MqClose}
+use Rattle.ipc_terms.specs.declared.call.Answer.TheVariants.{Started, Done, Opened, Mask, Names, Stat, Refused}
+use Rattle.ipc_terms.specs.declared.call.Call.TheVariants.{Umask, MqOpen, MqClose, MqUnlink, ListNames, StatName}
 use Rattle.ipc_terms.specs.declared.record.Event.{Event}
-use Rattle.ipc_terms.specs.declared.record.Event.TheVariants.{Hello, Do}
+use Rattle.ipc_terms.specs.declared.record.Event.TheVariants.{Hello, Do, Hangup}
 use Rattle.ipc_policy.specs.declared.config.Config.{Config}
 use Rattle.ipc_policy.specs.History.{History}
 use Rattle.ipc_policy.specs.Sessions.{hellos, mask}
+use Rattle.ipc_policy.specs.Names.{bound}
+use Rattle.ipc_policy.specs.Objects.{facts, directory}
 use Rattle.ipc_policy.specs.Descriptions.{opens}
+use Rattle.ipc_policy.specs.Life.{names}
 use Rattle.ipc_policy.specs.Rules.{forbids}
 
 -- the first rule that forbids, in the order of the rules' numbers, or that none does
@@ -22,22 +29,37 @@ verdict c h e = find (λ rule. forbids rule c h e) every_rule
 abbrev pub caller : Event → Sid
 caller (Hello found) = record { 0 = 18446744073709551615 }
 caller (Do sid call) = sid
+caller (Hangup sid) = sid
+
+-- the owner, group and mode of a directory, or of the object to which a name is bound
+abbrev pub facts_meant : Config → History → Target → Option Facts
+facts_meant c h (Dir family) = Some (directory h family)
+facts_meant c h (Name family name) = option_and_then (facts c h) (bound h family name)
+
+-- a session is told what there is
+abbrev pub told : Sid → Option Facts → List (Sid × Answer)
+told sid None = []
+told sid (Some found) = (sid, Stat found) ∷ []
 
 -- to whom an accepted event is answered, and what
-abbrev pub accepted_answers : History → Event → List (Sid × Answer)
-accepted_answers h (Hello found) = (record { 0 = hellos h }, Started (record { 0 = hellos h })) ∷ []
-accepted_answers h (Do sid (Umask mask')) = (sid, Mask (record { 0 = mask h sid.0 })) ∷ []
-accepted_answers h (Do sid (MqOpen asked)) = (sid, Opened (record { 0 = opens h })) ∷ []
-accepted_answers h (Do sid (MqClose desc)) = (sid, Done) ∷ []
+abbrev pub accepted_answers : Config → History → Event → List (Sid × Answer)
+accepted_answers c h (Hello found) = (record { 0 = hellos h }, Started (record { 0 = hellos h })) ∷ []
+accepted_answers c h (Do sid (Umask mask')) = (sid, Mask (record { 0 = mask h sid.0 })) ∷ []
+accepted_answers c h (Do sid (MqOpen asked)) = (sid, Opened (record { 0 = opens h })) ∷ []
+accepted_answers c h (Do sid (MqClose desc)) = (sid, Done) ∷ []
+accepted_answers c h (Do sid (MqUnlink name)) = (sid, Done) ∷ []
+accepted_answers c h (Do sid (ListNames family start count)) = (sid, Names (page start count (names h family))) ∷ []
+accepted_answers c h (Do sid (StatName target)) = told sid (facts_meant c h target)
+accepted_answers c h (Hangup sid) = []
 
 -- what is answered where this is the verdict
-abbrev pub answers_at : Option Rule → History → Event → List (Sid × Answer)
-answers_at (Some rule) h e = (caller e, Refused rule) ∷ []
-answers_at None h e = accepted_answers h e
+abbrev pub answers_at : Option Rule → Config → History → Event → List (Sid × Answer)
+answers_at (Some rule) c h e = (caller e, Refused rule) ∷ []
+answers_at None c h e = accepted_answers c h e
 
 -- to whom an event is answered, and what
 unfoldable pub answers : Config → History → Event → List (Sid × Answer)
-answers c h e = answers_at (verdict c h e) h e
+answers c h e = answers_at (verdict c h e) c h e
 
 -- at every place the record's rule is the verdict on its event after what came before
 abbrev pub Legal : Config → History → Type 0

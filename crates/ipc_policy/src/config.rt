@@ -1,7 +1,7 @@
 //! What the policy speaks of, beside events and records.
 
 use ipc_access::Users;
-use ipc_terms::{Access, Attributes, Family, Gid, Mode, Sid, Uid};
+use ipc_terms::{Access, Attributes, Family, Sid, Uid};
 
 /// Limits that are given at the start (`mq_overview(7)`): `msg_max`, 1 to 65,536, bounds the
 /// messages of a queue; `msgsize_max`, 1 to 16,777,216, the bytes of a message; `queues_max`, 0 to
@@ -35,14 +35,6 @@ pub struct Object {
     pub family: Family,
     pub creator: Uid,
     pub attributes: Attributes,
-}
-
-/// What decides who may do what with an object or a directory (POSIX.1-2017, XBD 4.5).
-#[derive(Clone, Copy, PartialEq, Eq, Debug)]
-pub struct Facts {
-    pub owner: Uid,
-    pub group: Gid,
-    pub mode: Mode,
 }
 
 /// What a description gives, and to which session.

@@ -1,6 +1,6 @@
 //! Laws of the policy, over every history. These functions do nothing: what they ensure is what is proved.
 
-ghost use Rattle.ipc_policy.specs.Laws.{VerdictIsLeast, RefusedIsQuiet};
+ghost use Rattle.ipc_policy.specs.Laws.{VerdictIsLeast, RefusedIsQuiet, ListedIsBound};
 ghost use Rattle.ipc_policy.specs.Grow.{AcceptedGrows};
 
 /// The verdict is the least of the rules that forbid, or none where no rule does.
@@ -16,4 +16,9 @@ pub fn quiet()
 /// An accepted event changes each value as stated, by the values before it alone.
 pub fn grow()
     ensures { AcceptedGrows }
+{}
+
+/// The names that are listed are those that are bound, each to its object.
+pub fn listed()
+    ensures { ListedIsBound }
 {}

@@ -5,5 +5,5 @@
 mod config;
 mod laws;
 
-pub use config::{Config, Facts, Held, Limits, Object};
-pub use laws::{grow, least, quiet};
+pub use config::{Config, Held, Limits, Object};
+pub use laws::{grow, least, listed, quiet};

@@ -1,2 +1,3 @@
 pub mod WordsNumberLemmas
 pub mod WordsAnswerLemmas
+pub mod WordsPrintingLemmas

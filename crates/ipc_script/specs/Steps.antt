@@ -1,10 +1,15 @@
--- As whom a label's words are an event.
-use Rattle.std.specs.Prelude.{◌≡◌, ⊤}
+-- The event that a label's words ask for.
+use Rattle.std.specs.Prelude.{◌≡◌, ℕ, List, [], ◌∷◌, codes, Ok}
+use Rattle.ipc_access.specs.Users.{user_of_key}
+use Rattle.ipc_access.specs.declared.users.User.{User}
 use Rattle.ipc_terms.specs.declared.ids.Sid.{Sid}
 use Rattle.ipc_terms.specs.declared.record.Event.{Event}
-use Rattle.ipc_terms.specs.declared.record.Event.TheVariants.{Hello, Do}
+use Rattle.ipc_terms.specs.declared.record.Event.TheVariants.{Hello, Do, Hangup}
+use Rattle.ipc_script.specs.WordsGrammar.{Means}
 
--- a call is made by that session
-abbrev pub IsMadeBy : Event → Sid → Type 0
-IsMadeBy (Hello found) sid = ⊤
-IsMadeBy (Do caller call) sid = caller ≡ sid
+-- `hello KEY` is a hello of the user whose key it is; `hangup` alone is a hang-up of the session that acts
+-- for the label; any other call is that session's, and the one that the words mean
+abbrev pub AsksFor : List User → Sid → List (List ℕ) → Event → Type 0
+AsksFor users sid words (Hello found) = (key : List ℕ) × (words ≡ codes "hello" ∷ key ∷ []) × (found ≡ user_of_key users key)
+AsksFor users sid words (Do caller call) = (caller ≡ sid) × Means words (Ok call)
+AsksFor users sid words (Hangup caller) = (caller ≡ sid) × (words ≡ codes "hangup" ∷ [])

@@ -1,12 +1,13 @@
 -- The lines of answers.
-use Rattle.std.specs.Prelude.{ℕ, ◌-◌, List, ◌++◌, length, codes}
+use Rattle.std.specs.Prelude.{ℕ, ◌-◌, List, ◌++◌, length, flat_map, codes}
 use Rattle.std.specs.Prelude.{replicate, false}
 use Rattle.std.specs.Fmt.{decimal, digits}
 use Rattle.ipc_terms.specs.Rules.{number_of, error_word}
 use Rattle.ipc_terms.specs.declared.rule.Rule.{Rule}
 use Rattle.ipc_terms.specs.declared.rule.Rule.TheVariants as rule
 use Rattle.ipc_terms.specs.declared.call.Answer.{Answer}
-use Rattle.ipc_terms.specs.declared.call.Answer.TheVariants.{Started, Done, Opened, Mask, Refused}
+use Rattle.ipc_terms.specs.declared.call.Answer.TheVariants.{Started, Done, Opened, Mask, Names, Stat, Refused}
+use Rattle.ipc_script.specs.WordsPrinting.{printed_bytes}
 
 -- each rule's name
 unfoldable pub rule_word : Rule → List ℕ
@@ -46,10 +47,16 @@ rule_word rule.BadKey = codes "BadKey"
 abbrev pub octal_at_least : ℕ → ℕ → List ℕ
 octal_at_least least number = replicate (least - length (digits 8 false number)) 48 ++ digits 8 false number
 
+-- each name as it is printed, behind a space
+abbrev pub spaced_names : List (List ℕ) → List ℕ
+spaced_names names = flat_map (λ name. codes " " ++ printed_bytes name) names
+
 -- the line of an answer, without a line end
 unfoldable pub answer_line : Answer → List ℕ
 answer_line (Started session) = codes "started " ++ decimal session.0
 answer_line Done = codes "done"
 answer_line (Opened description) = codes "opened " ++ decimal description.0
 answer_line (Mask mask) = codes "mask " ++ octal_at_least 3 mask.0
+answer_line (Names names) = codes "names " ++ decimal (length names) ++ spaced_names names
+answer_line (Stat facts) = codes "stat " ++ decimal facts.owner.0 ++ codes " " ++ decimal facts.group.0 ++ codes " " ++ octal_at_least 4 facts.mode.0
 answer_line (Refused rule) = codes "refused " ++ decimal (number_of rule) ++ codes " " ++ error_word rule ++ codes " " ++ rule_word rule

@@ -6,13 +6,16 @@ use Rattle.ipc_terms.specs.declared.call.Call.{Call}
 use Rattle.ipc_terms.specs.declared.call.Call.TheVariants as call
 use Rattle.ipc_terms.specs.declared.flags.OpenFlags.{OpenFlags}
 use Rattle.ipc_terms.specs.declared.ids.Mode.{Mode}
+use Rattle.ipc_terms.specs.declared.ids.Target.{Target}
+use Rattle.ipc_terms.specs.declared.ids.Target.TheVariants as target
 use Rattle.ipc_script.specs.declared.words.faults.WordFault.{WordFault}
 use Rattle.ipc_script.specs.declared.words.faults.WordFault.TheVariants.{Usage, BadValue, NoMemory}
 use Rattle.ipc_script.specs.declared.words.entries.Entries.{Entries}
-use Rattle.ipc_script.specs.declared.words.entries.Entries.TheVariants.{Umask, MqOpen, MqClose}
+use Rattle.ipc_script.specs.declared.words.entries.Entries.TheVariants.{Umask, MqOpen, MqClose, MqUnlink, Ls, Stat}
+use Rattle.ipc_script.specs.declared.words.entries.ListEntries.{ListEntries}
 use Rattle.ipc_script.specs.declared.words.entries.OpenEntries.{OpenEntries}
 use Rattle.ipc_script.specs.WordsNumbers.{decimal_within, octal_mode}
-use Rattle.ipc_script.specs.WordsValues.{access_of_word, name_of_word}
+use Rattle.ipc_script.specs.WordsValues.{access_of_word, family_of_word, name_of_word}
 use denote.Ref.{Bor}
 
 -- What stands at the arguments and options of `mq-open`.
@@ -26,11 +29,20 @@ pub record OpenWords : Type 0 where
   pub maxmsg : Option (List ℕ)
   pub msgsize : Option (List ℕ)
 
+-- What stands at the arguments of `ls`.
+pub record ListWords : Type 0 where
+  pub family : List ℕ
+  pub start : List ℕ
+  pub count : List ℕ
+
 -- A command with what stands at its arguments.
 pub data CommandWords : Type 0 where
   umask : List ℕ → CommandWords
   mq_open : OpenWords → CommandWords
   mq_close : List ℕ → CommandWords
+  mq_unlink : List ℕ → CommandWords
+  ls : ListWords → CommandWords
+  stat : List ℕ → Option (List ℕ) → CommandWords
 
 -- The meaning of words: a value, or the name of the argument that doesn't read.
 abbrev pub Meaning : Type 0 → Type 0
@@ -85,10 +97,29 @@ open_of_words words =
       attributes = attributes;
     })
 
+-- each argument of a listing in this order: the start is a u32, the count a u16
+unfoldable pub list_of_words : ListWords → Meaning Call
+list_of_words words =
+    of_argument (codes "family") (family_of_word words.family) >>= λ family.
+    of_argument (codes "start") (decimal_within (2 ^ 32 - 1) words.start) >>= λ start.
+    of_argument (codes "count") (decimal_within (2 ^ 16 - 1) words.count) >>= λ count.
+    Ok (call.ListNames family start count)
+
+-- a family and a name in it; without a name the family's directory
+unfoldable pub target_of_words : List ℕ → Option (List ℕ) → Meaning Target
+target_of_words family None = of_argument (codes "family") (family_of_word family) >>= λ family. Ok (target.Dir family)
+target_of_words family (Some name) =
+    of_argument (codes "family") (family_of_word family) >>= λ family.
+    of_argument (codes "name") (name_of_word name) >>= λ name.
+    Ok (target.Name family name)
+
 unfoldable pub call_of_command : CommandWords → Meaning Call
 call_of_command (umask octal) = of_argument (codes "octal") (octal_mode octal) >>= λ mask. Ok (call.Umask mask)
 call_of_command (mq_open words) = open_of_words words >>= λ asked. Ok (call.MqOpen asked)
 call_of_command (mq_close d) = of_argument (codes "d") (decimal_within (2 ^ 64 - 1) d) >>= λ number. Ok (call.MqClose (record { 0 = number }))
+call_of_command (mq_unlink name) = of_argument (codes "name") (name_of_word name) >>= λ name. Ok (call.MqUnlink name)
+call_of_command (ls words) = list_of_words words
+call_of_command (stat family name) = target_of_words family name >>= λ asked. Ok (call.StatName asked)
 
 -- the fault is want of memory, or names the argument that doesn't read
 abbrev pub IsFaultOf : {A : Type 0} → Meaning A → WordFault → Type 0
@@ -118,7 +149,13 @@ open_words asked = record {
   msgsize = word_behind asked.msgsize;
 }
 
+abbrev pub list_words : ListEntries → ListWords
+list_words asked = record { family = asked.family.now; start = asked.start.now; count = asked.count.now }
+
 abbrev pub command_words : Entries → CommandWords
 command_words (Umask octal) = umask octal.now
 command_words (MqOpen asked) = mq_open (open_words asked)
 command_words (MqClose d) = mq_close d.now
+command_words (MqUnlink name) = mq_unlink name.now
+command_words (Ls asked) = ls (list_words asked)
+command_words (Stat family name) = stat family.now (word_behind name)

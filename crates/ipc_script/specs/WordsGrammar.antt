@@ -12,11 +12,15 @@ use Rattle.ipc_terms.specs.declared.call.Call.{Call}
 use Rattle.ipc_script.specs.declared.words.entries.Entries.{Entries}
 use Rattle.ipc_script.specs.declared.words.faults.WordFault.{WordFault}
 use Rattle.ipc_script.specs.declared.words.faults.WordFault.TheVariants.{Usage, BadValue, NoMemory}
-use Rattle.ipc_script.specs.WordsCalls.{CommandWords, OpenWords, command_words, Reads, call_of_command, mq_close, mq_open, umask}
+use Rattle.ipc_script.specs.WordsCalls.{CommandWords, ListWords, OpenWords, command_words, Reads, call_of_command, ls, mq_close, mq_open, mq_unlink, stat, umask}
 
 -- an argument that must be given
 abbrev pub argument_rule : List ℕ → Rule
 argument_rule name = record (new_rule name) { required = true; action = Some Set }
+
+-- an argument that may be left out
+abbrev pub optional_rule : List ℕ → Rule
+optional_rule name = record (new_rule name) { action = Some Set }
 
 -- `--NAME` and a value
 abbrev pub option_rule : List ℕ → Rule
@@ -46,6 +50,15 @@ mq_open_shape = command_shape (codes "mq-open") (
 abbrev pub mq_close_shape : Shape
 mq_close_shape = command_shape (codes "mq-close") (argument_rule (codes "d") ∷ [])
 
+abbrev pub mq_unlink_shape : Shape
+mq_unlink_shape = command_shape (codes "mq-unlink") (argument_rule (codes "name") ∷ [])
+
+abbrev pub ls_shape : Shape
+ls_shape = command_shape (codes "ls") (argument_rule (codes "family") ∷ argument_rule (codes "start") ∷ argument_rule (codes "count") ∷ [])
+
+abbrev pub stat_shape : Shape
+stat_shape = command_shape (codes "stat") (argument_rule (codes "family") ∷ optional_rule (codes "name") ∷ [])
+
 -- one of the commands must be given; there is no help and no version
 abbrev pub outer_app : App
 outer_app = record {
@@ -62,7 +75,7 @@ outer_app = record {
 unfoldable pub grammar : App
 grammar = record {
   top = record outer_app.top { is_leaf = false };
-  subs = umask_shape ∷ mq_open_shape ∷ mq_close_shape ∷ [];
+  subs = umask_shape ∷ mq_open_shape ∷ mq_close_shape ∷ mq_unlink_shape ∷ ls_shape ∷ stat_shape ∷ [];
 }
 
 -- ---- what clap found
@@ -83,12 +96,22 @@ open_of_rows rows = option_and_then (λ name. option_map (λ access. record {
   msgsize = first_of (codes "msgsize") rows;
 }) (first_of (codes "access") rows)) (first_of (codes "name") rows)
 
+unfoldable pub list_of_rows : List Row → Option ListWords
+list_of_rows rows = option_and_then (λ family. option_and_then (λ start. option_map (λ count. record {
+  family = family;
+  start = start;
+  count = count;
+}) (first_of (codes "count") rows)) (first_of (codes "start") rows)) (first_of (codes "family") rows)
+
 -- the command of this name, with its rows
 unfoldable pub command_of_rows : List ℕ → List Row → Option CommandWords
 command_of_rows name rows =
     if bytes_eq name (codes "umask") then option_map umask (first_of (codes "octal") rows)
     else if bytes_eq name (codes "mq-open") then option_map mq_open (open_of_rows rows)
     else if bytes_eq name (codes "mq-close") then option_map mq_close (first_of (codes "d") rows)
+    else if bytes_eq name (codes "mq-unlink") then option_map mq_unlink (first_of (codes "name") rows)
+    else if bytes_eq name (codes "ls") then option_map ls (list_of_rows rows)
+    else if bytes_eq name (codes "stat") then option_map (λ family. stat family (first_of (codes "name") rows)) (first_of (codes "family") rows)
     else None
 
 -- the command that clap finds in words

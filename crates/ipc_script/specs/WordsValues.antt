@@ -1,4 +1,4 @@
--- Names and kinds of access in words.
+-- Names, families and kinds of access in words.
 use Rattle.std.specs.Prelude.{ℕ, Bool, List, take, drop, Option, Some, None, nat_le, ◌&&◌, ◌||◌, if◌then◌else◌, codes}
 use Rattle.std.specs.List.{list_all}
 use Rattle.std.specs.Result.{result_ok}
@@ -6,6 +6,8 @@ use Rattle.std.specs.Str.{bytes_eq}
 use Rattle.hex.specs.Hex.{decode_of}
 use Rattle.ipc_terms.specs.declared.call.Access.{Access}
 use Rattle.ipc_terms.specs.declared.call.Access.TheVariants.{Read, Write, Both}
+use Rattle.ipc_terms.specs.declared.ids.Family.{Family}
+use Rattle.ipc_terms.specs.declared.ids.Family.TheVariants.{Mq, Sem}
 
 -- r, w or rw
 unfoldable pub access_of_word : List ℕ → Option Access
@@ -13,6 +15,13 @@ access_of_word word =
     if bytes_eq word (codes "r") then Some Read
     else if bytes_eq word (codes "w") then Some Write
     else if bytes_eq word (codes "rw") then Some Both
+    else None
+
+-- mq or sem
+unfoldable pub family_of_word : List ℕ → Option Family
+family_of_word word =
+    if bytes_eq word (codes "mq") then Some Mq
+    else if bytes_eq word (codes "sem") then Some Sem
     else None
 
 -- '0' to '9' and 'a' to 'f'

@@ -1,9 +1,9 @@
 //! Running a script.
 
-ghost use Rattle.std.specs.Prelude.{◌≡◌, IfOk, IfErr, false, unwrap_or};
+ghost use Rattle.std.specs.Prelude.{◌≡◌, IfOk, IfErr, false, map, unwrap_or};
 ghost use Rattle.ipc_script.specs.Faults.{is_users_memory};
 ghost use Rattle.ipc_script.specs.Labels.{newest_of};
-ghost use Rattle.ipc_script.specs.Steps.{IsMadeBy};
+ghost use Rattle.ipc_script.specs.Steps.{AsksFor};
 
 use crate::fault::ScriptFault;
 use crate::labels::{Labels, is_label};
@@ -21,9 +21,10 @@ const MOST_READS: u64 = 1_000_000_000;
 /// Runs a script.
 ///
 /// The input is a user file, a line `.`, and then one step a line: a label and what its session
-/// does, parted by spaces or tabs. `LABEL hello KEY` starts a session; other words are a call of
-/// the session that the label started last. Empty lines and lines that begin with `#` are skipped.
-/// Each answer is written as a line, under the label that started the session which it is for.
+/// does, parted by spaces or tabs. `LABEL hello KEY` starts a session; `LABEL hangup` ends the
+/// session that the label started last, and other words are a call of that session. Empty lines and
+/// lines that begin with `#` are skipped. Each answer is written as a line, under the label that
+/// started the session which it is for.
 ///
 /// # Errors
 ///
@@ -124,20 +125,31 @@ impl<W: Write + Drop> Script<W> {
         }
     }
 
+    /// The event that a label's words ask for.
     fn event_of(&self, label: &str, words: &[&str]) -> Result<Event, WordFault>
-        ensures { IfOk result (λ event. IsMadeBy event
-            (unwrap_or (newest_of self.now.labels label.now) Sid.NOBODY)) }
+        ensures { IfOk result (λ event. AsksFor self.now.core.config.users
+            (unwrap_or (newest_of self.now.labels label.now) Sid.NOBODY) (map (λ w. w.now) words.now) event) }
     {
+        let sid = self.session_of(label);
         match words {
             ["hello", key] => Ok(Event::Hello {
                 found: self.core.config().users.find(key.as_bytes()),
             }),
-            ["hello", ..] => Err(WordFault::Usage),
+            ["hangup"] => Ok(Event::Hangup { sid }),
+            ["hello", ..] | ["hangup", ..] => Err(WordFault::Usage),
             _ => Ok(Event::Do {
-                sid: self.labels.newest(label).unwrap_or(Sid::NOBODY),
+                sid,
                 call: call_of_words(self.alloc, words)?,
             }),
         }
+    }
+
+    /// The session that acts for the label: the one that it started last, live or not, and nobody
+    /// where it never started one.
+    fn session_of(&self, label: &str) -> Sid
+        ensures { result ≡ unwrap_or (newest_of self.now.labels label.now) Sid.NOBODY }
+    {
+        self.labels.newest(label).unwrap_or(Sid::NOBODY)
     }
 
     /// Steps the core, and writes its answers.

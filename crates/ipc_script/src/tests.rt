@@ -76,6 +76,76 @@ fn sessions_are_started_and_answered(rt: HostRuntime) {
 }
 
 #[test]
+fn hang_ups_end_the_newest_session(rt: HostRuntime) {
+    assert_writes(&rt, "a hello ka1\na hangup\n", "a started 0\n");
+    assert_writes(
+        &rt,
+        "a hello ka1\na hangup\na umask 022\na hangup\n",
+        "a started 0\na refused 1 ESRCH NoSession\na refused 1 ESRCH NoSession\n",
+    );
+    // An older session of the label lives on, and doesn't act for it.
+    assert_writes(
+        &rt,
+        "a hello ka1\na hello kb1\na hangup\na umask 022\n",
+        "a started 0\na started 1\na refused 1 ESRCH NoSession\n",
+    );
+    assert_writes(
+        &rt,
+        "a hello ka1\nb hello kb1\na hangup\nb umask 022\na umask 022\n",
+        "a started 0\nb started 1\nb mask 022\na refused 1 ESRCH NoSession\n",
+    );
+}
+
+#[test]
+fn labels_keep_their_session_until_the_next(rt: HostRuntime) {
+    assert_writes(
+        &rt,
+        "a hello ka1\na hello zz\na umask 022\n",
+        "a started 0\na refused 31 EACCES BadKey\na mask 022\n",
+    );
+    assert_writes(
+        &rt,
+        "a hello ka1\na hangup\na hello zz\na umask 022\na hello kb1\na umask 022\n",
+        "a started 0\na refused 31 EACCES BadKey\na refused 1 ESRCH NoSession\na started 1\na mask 022\n",
+    );
+}
+
+#[test]
+fn hang_ups_of_nobody_are_refused(rt: HostRuntime) {
+    assert_writes(&rt, "a hangup\n", "a refused 1 ESRCH NoSession\n");
+    assert_writes(
+        &rt,
+        "a hello zz\na hangup\n",
+        "a refused 31 EACCES BadKey\na refused 1 ESRCH NoSession\n",
+    );
+    assert_writes(&rt, "hangup hangup\n", "hangup refused 1 ESRCH NoSession\n");
+}
+
+#[test]
+fn hang_ups_are_one_word(rt: HostRuntime) {
+    assert_writes(&rt, "a hangup 0\n", "a fault usage\n");
+    assert_writes(&rt, "a hangup hangup\n", "a fault usage\n");
+    assert_writes(&rt, "a hangup --create\n", "a fault usage\n");
+    assert_writes(&rt, "a Hangup\n", "a fault usage\n");
+    assert_writes(&rt, "hangup\n", "hangup fault usage\n");
+    // A hang-up with other words ends nothing.
+    assert_writes(
+        &rt,
+        "a hello ka1\na hangup 0\na umask 022\n",
+        "a started 0\na fault usage\na mask 022\n",
+    );
+}
+
+#[test]
+fn names_are_listed_and_unlinked(rt: HostRuntime) {
+    assert_writes(
+        &rt,
+        "a hello ka1\na mq-open /v r --create\na ls mq 0 10\na stat mq /v\na mq-unlink /v\na ls mq 0 10\na stat mq /v\na stat sem\n",
+        "a started 0\na opened 0\na names 1 /v\na stat 1000 1000 0600\na done\na names 0\na refused 13 ENOENT Absent\na stat 0 0 1777\n",
+    );
+}
+
+#[test]
 fn lines_are_words(rt: HostRuntime) {
     assert_writes(&rt, "\n# a hello ka1\n#\n", "");
     assert_writes(&rt, " \t\n", "- fault line\n");

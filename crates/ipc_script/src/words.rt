@@ -12,6 +12,7 @@ mod faults;
 mod hyphens;
 mod numbers;
 mod parses;
+mod printing;
 mod rules;
 #[cfg(test)]
 mod tests;
@@ -20,13 +21,14 @@ mod values;
 use crate::words::hyphens::any_is_refused;
 use crate::words::parses::entries_of_words;
 pub use answers::line_of_answer;
-pub use entries::{Entries, OpenEntries, meant_call};
+pub use entries::{Entries, ListEntries, OpenEntries, meant_call};
 pub use faults::WordFault;
 use ipc_terms::Call;
 pub use numbers::{read_decimal, read_octal};
+pub use printing::print_bytes;
 pub use rules::name_of_rule;
 use std::alloc::Global;
-pub use values::{read_access, read_name};
+pub use values::{read_access, read_family, read_name};
 
 /// The call that a command's words mean, as `mq-open /jobs rw --create`.
 ///

@@ -1,8 +1,9 @@
 //! What is asked, and what is answered.
 
+use crate::facts::Facts;
 use crate::flags::OpenFlags;
-use crate::ids::{Desc, Mode, Sid};
-use crate::name::Name;
+use crate::ids::{Desc, Family, Mode, Sid, Target};
+use crate::name::{Name, Names};
 use crate::rule::Rule;
 
 /// What the caller of an open wants to do with the object (`mq_open`: `O_RDONLY`, `O_WRONLY`, `O_RDWR`).
@@ -39,10 +40,22 @@ pub enum Call {
     MqOpen(QueueOpen),
     /// Closes a queue's description (POSIX.1-2017, `mq_close`).
     MqClose(Desc),
+    /// Leaves a queue's name unbound at once. The queue lives until its last description is closed
+    /// (POSIX.1-2017, `mq_unlink`).
+    MqUnlink(Name),
+    /// Lists names of a family in the order in which they were created: from the position `start`
+    /// on, counted from 0, at most `count` and at most 1,000.
+    ListNames {
+        family: Family,
+        start: u32,
+        count: u16,
+    },
+    /// Asks for the owner, group and mode of what is meant.
+    StatName(Target),
 }
 
 /// What is answered.
-#[derive(Clone, Copy, PartialEq, Eq, Debug)]
+#[derive(PartialEq, Debug, Drop)]
 pub enum Answer {
     /// To a hello: the new session.
     Started(Sid),
@@ -52,6 +65,10 @@ pub enum Answer {
     Opened(Desc),
     /// To a umask: the mask before it.
     Mask(Mode),
+    /// To a listing: its names.
+    Names(Names),
+    /// To a stat: the owner, group and mode.
+    Stat(Facts),
     /// To anything: the rule of the lowest number that forbids it.
     Refused(Rule),
 }

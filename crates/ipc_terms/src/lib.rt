@@ -1,9 +1,11 @@
 //! The words that every part of the server shares: who calls, what is asked, what is answered, and the rules.
 #![tactic(auto)]
 
+mod binding;
 mod bytes;
 mod call;
 mod errors;
+mod facts;
 mod flags;
 mod ids;
 mod name;
@@ -12,11 +14,13 @@ mod rule;
 #[cfg(test)]
 mod tests;
 
+pub use binding::Binding;
 pub use bytes::Bytes;
 pub use call::{Access, Answer, Attributes, Call, QueueOpen};
 pub use errors::NoMemory;
+pub use facts::Facts;
 pub use flags::OpenFlags;
 pub use ids::{Desc, Family, Gid, Mode, Sid, Target, Uid};
-pub use name::Name;
+pub use name::{Name, Names};
 pub use record::{Event, Record};
 pub use rule::Rule;

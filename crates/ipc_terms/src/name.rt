@@ -1,6 +1,9 @@
 //! Names.
 
-ghost use Rattle.std.specs.Prelude.{◌≡◌, ℕ, List, IfOk};
+ghost use Rattle.std.specs.Prelude.{◌≡◌, ◌==◌, ℕ, List, IfOk};
+ghost use Rattle.std.specs.Cmp.Lexicographic.{pointwise};
+ghost use Rattle.std.specs.Cmp.Rules.{comparing};
+ghost use Rattle.std.proofs.Common.{rules};
 ghost use Rattle.ipc_terms.specs.Names.{same_name};
 
 use crate::bytes::Bytes;
@@ -54,5 +57,60 @@ impl Name {
         ensures { result ≡ same_name self.now other.now }
     {
         self.as_slice() == other.as_slice()
+    }
+}
+
+impl PartialEq for Name {
+    ghost eq = { pointwise ◌==◌ };
+
+    ghost laws = { Prim.search (comparing, rules) };
+
+    fn eq(&self, other: &Name) -> bool {
+        self.as_slice() == other.as_slice()
+    }
+}
+
+/// A list of names.
+#[derive(Debug, Drop)]
+pub struct Names {
+    names: Vec<Name>,
+}
+
+impl Model for Names {
+    ghost Value = { List (List ℕ) };
+
+    ghost view = { λ n. n.names.items };
+}
+
+impl Names {
+    /// These names. Takes no memory.
+    pub fn new(names: Vec<Name>) -> Self
+        ensures { result ≡ names.items }
+    {
+        Names { names }
+    }
+
+    pub fn as_slice(&self) -> &[Name]
+        ensures { result.now ≡ self.now }
+    {
+        &self.names
+    }
+
+    /// The names, given back. Takes no memory.
+    pub fn into_vec(self) -> Vec<Name>
+        ensures { result.items ≡ self }
+    {
+        let Names { names } = self;
+        names
+    }
+}
+
+impl PartialEq for Names {
+    ghost eq = { pointwise (pointwise ◌==◌) };
+
+    ghost laws = { Prim.search (comparing, rules) };
+
+    fn eq(&self, other: &Names) -> bool {
+        self.names.as_slice() == other.names.as_slice()
     }
 }

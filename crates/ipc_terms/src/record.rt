@@ -11,6 +11,8 @@ pub enum Event {
     Hello { found: Option<Uid> },
     /// A session made a call.
     Do { sid: Sid, call: Call },
+    /// A session hung up. It has no answer if it is accepted.
+    Hangup { sid: Sid },
 }
 
 /// An event, and the rule that refused it; with no rule it was accepted.

@@ -1,7 +1,8 @@
 //! Each public function once, with ample memory.
 
-use crate::{Bytes, Name, NoMemory, OpenFlags, Rule};
+use crate::{Bytes, Name, Names, NoMemory, OpenFlags, Rule};
 use bitflags::Flags;
+use std::alloc::Global;
 use std::test::Fail;
 
 #[test]
@@ -22,7 +23,31 @@ fn names_are_bytes(rt: HostRuntime) -> Result<(), Fail> {
     assert!(rt; name.is(&copy));
     assert_eq!(rt; name.as_slice(), b"/a".as_slice());
     assert!(rt; !name.is(&Name::new(Bytes::from_slice(rt.alloc(), b"/ab")?)));
+    assert_eq!(rt; name, copy);
+    assert_ne!(rt; name, Name::new(Bytes::from_slice(rt.alloc(), b"/b")?));
     assert_eq!(rt; copy.into_bytes().as_slice(), b"/a".as_slice());
+    Ok(())
+}
+
+/// A list of these two names.
+fn names(alloc: Global, first: &[u8], second: &[u8]) -> Result<Names, Fail> {
+    let mut names = Vec::new(alloc);
+    names.push(Name::new(Bytes::from_slice(alloc, first)?))?;
+    names.push(Name::new(Bytes::from_slice(alloc, second)?))?;
+    Ok(Names::new(names))
+}
+
+#[test]
+fn lists_of_names_are_their_names_in_order(rt: HostRuntime) -> Result<(), Fail> {
+    let listed = names(rt.alloc(), b"/b", b"/a")?;
+    assert_eq!(rt; listed.as_slice().len(), 2);
+    assert_eq!(rt; listed.as_slice()[0].as_slice(), b"/b".as_slice());
+    assert_eq!(rt; listed, names(rt.alloc(), b"/b", b"/a")?);
+    assert_ne!(rt; listed, names(rt.alloc(), b"/a", b"/b")?);
+    assert_ne!(rt; listed, Names::new(Vec::new(rt.alloc())));
+    let given_back = listed.into_vec();
+    assert_eq!(rt; given_back.len(), 2);
+    assert_eq!(rt; given_back[1].as_slice(), b"/a".as_slice());
     Ok(())
 }
 

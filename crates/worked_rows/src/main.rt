@@ -10,12 +10,19 @@ use row::judge;
 use std::io;
 
 /// The scripts, in the order in which they are run.
-const ROWS: [&str; 16] = [
+const ROWS: [&str; 23] = [
     "first_run",
     "present_before_mode",
     "name_forms",
     "attribute_limits",
     "thousand_descriptions",
+    "names_unlinked_and_listed",
+    "class_decides_alone",
+    "sticky_directory",
+    "hung_up",
+    "name_made_again",
+    "pages_and_targets",
+    "thousand_names_a_page",
     "users_found_by_key",
     "users_none",
     "users_most",

@@ -3,7 +3,7 @@
 ghost use Rattle.std.specs.Prelude.{◌≡◌, IfOk, false};
 ghost use Rattle.clap.specs.Simple.{app_of, shape_of};
 ghost use Rattle.clap.specs.Walk.{rule_of};
-ghost use Rattle.ipc_script.specs.WordsGrammar.{argument_rule, bare_app, flag_rule, grammar, mq_close_shape, mq_open_shape, option_rule, outer_app, umask_shape};
+ghost use Rattle.ipc_script.specs.WordsGrammar.{argument_rule, bare_app, flag_rule, grammar, ls_shape, mq_close_shape, mq_open_shape, mq_unlink_shape, option_rule, optional_rule, outer_app, stat_shape, umask_shape};
 
 use clap::{Arg, ArgAction, Command};
 use std::alloc::{AllocError, Global};
@@ -16,7 +16,10 @@ pub fn whole_grammar<'a>(alloc: Global) -> Result<Command<'a>, AllocError>
     let command = outer(alloc)
         .subcommand(umask(alloc)?)?
         .subcommand(mq_open(alloc)?)?
-        .subcommand(mq_close(alloc)?)?;
+        .subcommand(mq_close(alloc)?)?
+        .subcommand(mq_unlink(alloc)?)?
+        .subcommand(ls(alloc)?)?
+        .subcommand(stat(alloc)?)?;
     Ok(command)
 }
 
@@ -60,6 +63,32 @@ fn mq_close<'a>(alloc: Global) -> Result<Command<'a>, AllocError>
     Ok(command)
 }
 
+fn mq_unlink<'a>(alloc: Global) -> Result<Command<'a>, AllocError>
+    ensures { IfOk result (λ command. shape_of command ≡ mq_unlink_shape) }
+{
+    let command = bare(alloc, "mq-unlink").arg(argument(alloc, "name"))?;
+    Ok(command)
+}
+
+fn ls<'a>(alloc: Global) -> Result<Command<'a>, AllocError>
+    ensures { IfOk result (λ command. shape_of command ≡ ls_shape) }
+{
+    let command = bare(alloc, "ls")
+        .arg(argument(alloc, "family"))?
+        .arg(argument(alloc, "start"))?
+        .arg(argument(alloc, "count"))?;
+    Ok(command)
+}
+
+fn stat<'a>(alloc: Global) -> Result<Command<'a>, AllocError>
+    ensures { IfOk result (λ command. shape_of command ≡ stat_shape) }
+{
+    let command = bare(alloc, "stat")
+        .arg(argument(alloc, "family"))?
+        .arg(optional(alloc, "name"))?;
+    Ok(command)
+}
+
 /// A command without arguments.
 fn bare<'a>(alloc: Global, name: &'a str) -> Command<'a>
     ensures { app_of result ≡ bare_app name.entry.now }
@@ -74,6 +103,13 @@ fn argument<'a>(alloc: Global, name: &'a str) -> Arg<'a>
     ensures local { result.global ≡ false }
 {
     Arg::new(alloc, name).required(true).action(ArgAction::Set)
+}
+
+fn optional<'a>(alloc: Global, name: &'a str) -> Arg<'a>
+    ensures rule { rule_of result ≡ optional_rule name.entry.now }
+    ensures local { result.global ≡ false }
+{
+    Arg::new(alloc, name).action(ArgAction::Set)
 }
 
 fn flag<'a>(alloc: Global, name: &'a str) -> Arg<'a>

@@ -1,21 +1,33 @@
 //! What stands at a command's arguments, and the call that it means.
 
 ghost use Rattle.std.specs.Prelude.{◌≡◌};
-ghost use Rattle.ipc_script.specs.WordsCalls.{command_words, open_words, word_behind, Reads, attributes_of_counts, call_of_command, count_of_option, flags_of_options, mode_of_option, open_of_words};
+ghost use Rattle.ipc_script.specs.WordsCalls.{command_words, list_words, open_words, word_behind, Reads, attributes_of_counts, call_of_command, count_of_option, flags_of_options, list_of_words, mode_of_option, open_of_words, target_of_words};
 
 use crate::words::faults::WordFault;
-use crate::words::numbers::{read_count, read_decimal, read_octal};
-use crate::words::values::{read_access, read_name};
+use crate::words::numbers::{read_count, read_decimal, read_octal, read_page_count};
+use crate::words::values::{read_access, read_family, read_name};
 use bitflags::Flags;
-use ipc_terms::{Attributes, Call, Desc, Mode, OpenFlags, QueueOpen};
+use ipc_terms::{Attributes, Call, Desc, Mode, OpenFlags, QueueOpen, Target};
 use std::alloc::Global;
 
 /// A command with the words that stand at its arguments.
 #[derive(Clone, Copy)]
 pub enum Entries<'a> {
-    Umask { octal: &'a str },
+    Umask {
+        octal: &'a str,
+    },
     MqOpen(OpenEntries<'a>),
-    MqClose { d: &'a str },
+    MqClose {
+        d: &'a str,
+    },
+    MqUnlink {
+        name: &'a str,
+    },
+    Ls(ListEntries<'a>),
+    Stat {
+        family: &'a str,
+        name: Option<&'a str>,
+    },
 }
 
 /// The words of `mq-open`.
@@ -29,6 +41,14 @@ pub struct OpenEntries<'a> {
     pub mode: Option<&'a str>,
     pub maxmsg: Option<&'a str>,
     pub msgsize: Option<&'a str>,
+}
+
+/// The words of `ls`.
+#[derive(Clone, Copy)]
+pub struct ListEntries<'a> {
+    pub family: &'a str,
+    pub start: &'a str,
+    pub count: &'a str,
 }
 
 /// The mode of what an open without `--mode` creates.
@@ -52,6 +72,15 @@ pub fn meant_call(alloc: Global, entries: &Entries) -> Result<Call, WordFault>
             let number = read_decimal(d, u64::MAX).ok_or(WordFault::BadValue("d"))?;
             Ok(Call::MqClose(Desc(number)))
         }
+        Entries::MqUnlink { name } => {
+            let name = read_name(alloc, name)?.ok_or(WordFault::BadValue("name"))?;
+            Ok(Call::MqUnlink(name))
+        }
+        Entries::Ls(asked) => meant_list(asked),
+        Entries::Stat { family, name } => {
+            let target = meant_target(alloc, family, *name)?;
+            Ok(Call::StatName(target))
+        }
     }
 }
 
@@ -72,6 +101,34 @@ fn meant_open(alloc: Global, asked: &OpenEntries) -> Result<QueueOpen, WordFault
         mode,
         attributes,
     })
+}
+
+#[tactic(auto, unfolding(crate::specs::WordsCalls::list_of_words))]
+fn meant_list(asked: &ListEntries) -> Result<Call, WordFault>
+    ensures { Reads (list_of_words (list_words asked.now)) result }
+{
+    let family = read_family(asked.family).ok_or(WordFault::BadValue("family"))?;
+    let start = read_count(asked.start).ok_or(WordFault::BadValue("start"))?;
+    let count = read_page_count(asked.count).ok_or(WordFault::BadValue("count"))?;
+    Ok(Call::ListNames {
+        family,
+        start,
+        count,
+    })
+}
+
+#[tactic(auto, unfolding(crate::specs::WordsCalls::target_of_words))]
+fn meant_target(alloc: Global, family: &str, name: Option<&str>) -> Result<Target, WordFault>
+    ensures { Reads (target_of_words family.now (word_behind name.entry)) result }
+{
+    let family = read_family(family).ok_or(WordFault::BadValue("family"))?;
+    match name {
+        None => Ok(Target::Dir(family)),
+        Some(name) => {
+            let name = read_name(alloc, name)?.ok_or(WordFault::BadValue("name"))?;
+            Ok(Target::Name(family, name))
+        }
+    }
 }
 
 #[tactic(auto, unfolding(crate::specs::WordsCalls::mode_of_option))]

@@ -30,6 +30,15 @@ pub fn read_count(text: &str) -> Option<u32>
     Some(count as u32)
 }
 
+/// A decimal number within the type of how many entries a page may have.
+#[tactic(auto, unfolding(crate::specs::WordsNumbers::decimal_within))]
+pub fn read_page_count(text: &str) -> Option<u16>
+    ensures { result ≡ decimal_within u16.MAX text.now }
+{
+    let count = read_decimal(text, u64::from(u16::MAX))?;
+    Some(count as u16)
+}
+
 /// Permission bits in one to four octal digits.
 #[tactic(auto, unfolding(crate::specs::WordsNumbers::octal_mode))]
 pub fn read_octal(text: &str) -> Option<Mode>

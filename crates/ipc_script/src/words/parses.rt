@@ -4,11 +4,11 @@ ghost use Rattle.std.specs.Prelude.{◌≡◌, map, option_and_then, option_map}
 ghost use Rattle.clap.specs.Simple.{subcommand_rows_of};
 ghost use Rattle.clap.specs.Walk.{first_of, rows_of};
 ghost use Rattle.clap.specs.Words.{found_of, kind_of};
-ghost use Rattle.ipc_script.specs.WordsCalls.{command_words, open_words, word_behind};
-ghost use Rattle.ipc_script.specs.WordsGrammar.{Finds, command_of_rows, fault_of_kind, is_given, open_of_rows};
+ghost use Rattle.ipc_script.specs.WordsCalls.{command_words, list_words, open_words, word_behind};
+ghost use Rattle.ipc_script.specs.WordsGrammar.{Finds, command_of_rows, fault_of_kind, is_given, list_of_rows, open_of_rows};
 
 use crate::words::commands::whole_grammar;
-use crate::words::entries::{Entries, OpenEntries};
+use crate::words::entries::{Entries, ListEntries, OpenEntries};
 use crate::words::faults::WordFault;
 use clap::error::ErrorKind;
 use clap::{ArgMatches, Error};
@@ -57,6 +57,14 @@ fn entries_of_command<'a>(command: &str, found: &ArgMatches<'a>) -> Option<Entri
         "mq-close" => Some(Entries::MqClose {
             d: word_at(found, "d")?,
         }),
+        "mq-unlink" => Some(Entries::MqUnlink {
+            name: word_at(found, "name")?,
+        }),
+        "ls" => Some(Entries::Ls(list_entries(found)?)),
+        "stat" => Some(Entries::Stat {
+            family: word_at(found, "family")?,
+            name: word_at(found, "name"),
+        }),
         _ => None,
     }
 }
@@ -74,6 +82,17 @@ fn open_entries<'a>(found: &ArgMatches<'a>) -> Option<OpenEntries<'a>>
         mode: word_at(found, "mode"),
         maxmsg: word_at(found, "maxmsg"),
         msgsize: word_at(found, "msgsize"),
+    })
+}
+
+#[tactic(auto, unfolding(crate::specs::WordsGrammar::list_of_rows))]
+fn list_entries<'a>(found: &ArgMatches<'a>) -> Option<ListEntries<'a>>
+    ensures { option_map list_words result ≡ list_of_rows (rows_of (found_of found.now)) }
+{
+    Some(ListEntries {
+        family: word_at(found, "family")?,
+        start: word_at(found, "start")?,
+        count: word_at(found, "count")?,
     })
 }
 

@@ -1,8 +1,11 @@
 //! Words and lines that the grammar names.
 
-use crate::words::{WordFault, call_of_words, line_of_answer, name_of_rule};
+use crate::words::{WordFault, call_of_words, line_of_answer, name_of_rule, print_bytes};
 use bitflags::Flags;
-use ipc_terms::{Access, Answer, Attributes, Call, Desc, Mode, OpenFlags, QueueOpen, Rule, Sid};
+use ipc_terms::{
+    Access, Answer, Attributes, Bytes, Call, Desc, Facts, Family, Gid, Mode, Name, Names,
+    OpenFlags, QueueOpen, Rule, Sid, Target, Uid,
+};
 use std::alloc::Global;
 use std::process::Abort;
 use std::test::Fail;
@@ -101,6 +104,76 @@ fn open_reads_each_option(rt: HostRuntime) -> Result<(), Fail> {
 }
 
 #[test]
+fn unlink_reads_a_name(rt: HostRuntime) -> Result<(), Fail> {
+    for (word, bytes) in [
+        ("/jobs", b"/jobs".as_slice()),
+        ("hex:2fff", [b'/', 0xff].as_slice()),
+        ("hex:", b"".as_slice()),
+        ("jobs", b"jobs".as_slice()),
+    ] {
+        match call_of_words(rt.alloc(), &["mq-unlink", word])? {
+            Call::MqUnlink(name) => assert_eq!(rt; name.as_slice(), bytes, "at {word}"),
+            _ => panic!(&rt; "another call"),
+        }
+    }
+    Ok(())
+}
+
+#[test]
+fn listing_reads_a_page(rt: HostRuntime) -> Result<(), Fail> {
+    for (words, page) in [
+        (["mq", "0", "10"], (Family::Mq, 0, 10)),
+        (["sem", "17", "0"], (Family::Sem, 17, 0)),
+        (
+            ["mq", "4294967295", "65535"],
+            (Family::Mq, u32::MAX, u16::MAX),
+        ),
+    ] {
+        match call_of_words(rt.alloc(), &["ls", words[0], words[1], words[2]])? {
+            Call::ListNames {
+                family,
+                start,
+                count,
+            } => assert_eq!(rt; (family, start, count), page, "at {words:?}"),
+            _ => panic!(&rt; "another call"),
+        }
+    }
+    Ok(())
+}
+
+/// The family of the target that the words ask for, and the name's bytes where it is a name.
+fn target_of(alloc: Global, words: &[&str]) -> Result<(Family, Option<Name>), Fail> {
+    let target = match call_of_words(alloc, words)? {
+        Call::StatName(target) => Some(target),
+        _ => None,
+    };
+    match target.ok_or("another call")? {
+        Target::Dir(family) => Ok((family, None)),
+        Target::Name(family, name) => Ok((family, Some(name))),
+    }
+}
+
+#[test]
+fn stat_reads_a_target(rt: HostRuntime) -> Result<(), Fail> {
+    let alloc = rt.alloc();
+    let (family, name) = target_of(alloc, &["stat", "mq"])?;
+    assert_eq!(rt; family, Family::Mq);
+    assert!(rt; name.is_none());
+    let (family, name) = target_of(alloc, &["stat", "sem"])?;
+    assert_eq!(rt; family, Family::Sem);
+    assert!(rt; name.is_none());
+    let (family, name) = target_of(alloc, &["stat", "mq", "/jobs"])?;
+    assert_eq!(rt; family, Family::Mq);
+    assert_eq!(rt; name.ok_or("a name")?.as_slice(), b"/jobs".as_slice());
+    let (family, name) = target_of(alloc, &["stat", "sem", "hex:2f2d"])?;
+    assert_eq!(rt; family, Family::Sem);
+    assert_eq!(rt; name.ok_or("a name")?.as_slice(), b"/-".as_slice());
+    let (_, name) = target_of(alloc, &["stat", "mq", "hex:"])?;
+    assert!(rt; name.ok_or("a name")?.as_slice().is_empty());
+    Ok(())
+}
+
+#[test]
 fn names_are_bytes_or_pairs(rt: HostRuntime) -> Result<(), Fail> {
     let open = open_of(rt.alloc(), &["mq-open", "hex:2d00ff", "r"])?;
     assert_eq!(rt; open.name.as_slice(), [0x2d, 0, 0xff].as_slice());
@@ -135,6 +208,9 @@ fn hyphens_are_usage(rt: HostRuntime) {
     expect_usage(&rt, alloc, &["mq-open", "/a", "r", "--mode=0666"]);
     expect_usage(&rt, alloc, &["mq-open", "/a", "r", "--creat"]);
     expect_usage(&rt, alloc, &["mq-open", "-a", "r"]);
+    expect_usage(&rt, alloc, &["mq-unlink", "-a"]);
+    expect_usage(&rt, alloc, &["stat", "mq", "-a"]);
+    expect_usage(&rt, alloc, &["ls", "mq", "-1", "1"]);
     expect_usage(&rt, alloc, &["mq-open", "hex:2", "x", "--mode", "-1"]);
     expect_usage(&rt, alloc, &["--help"]);
     expect_usage(&rt, alloc, &["mq-open", "-h"]);
@@ -164,6 +240,17 @@ fn other_arguments_are_usage(rt: HostRuntime) {
     expect_usage(&rt, alloc, &["umask", "022", "--create"]);
     expect_usage(&rt, alloc, &["mq-close"]);
     expect_usage(&rt, alloc, &["mq-close", "1", "2"]);
+    expect_usage(&rt, alloc, &["mq-unlink"]);
+    expect_usage(&rt, alloc, &["mq-unlink", "/a", "/b"]);
+    expect_usage(&rt, alloc, &["mq-unlink", "/a", "--create"]);
+    expect_usage(&rt, alloc, &["ls"]);
+    expect_usage(&rt, alloc, &["ls", "mq"]);
+    expect_usage(&rt, alloc, &["ls", "mq", "0"]);
+    expect_usage(&rt, alloc, &["ls", "mq", "0", "1", "2"]);
+    expect_usage(&rt, alloc, &["ls", "mq", "0", "--value", "1"]);
+    expect_usage(&rt, alloc, &["stat"]);
+    expect_usage(&rt, alloc, &["stat", "mq", "/a", "/b"]);
+    expect_usage(&rt, alloc, &["stat", "mq", "--mode", "600"]);
     expect_usage(&rt, alloc, &["mq-open", "/a"]);
     expect_usage(&rt, alloc, &["mq-open", "/a", "r", "w"]);
     expect_usage(&rt, alloc, &["mq-open", "/a", "r", "--value", "1"]);
@@ -220,6 +307,21 @@ fn values_that_do_not_read_are_named(rt: HostRuntime) {
     }
     for word in ["x", "R", "wr", "", "rww"] {
         expect_bad_value(&rt, alloc, &["mq-open", "/a", word], "access");
+    }
+    for word in ["", "MQ", "mqs", "m", "queue", "hex:6d71", "mq "] {
+        expect_bad_value(&rt, alloc, &["ls", word, "0", "1"], "family");
+        expect_bad_value(&rt, alloc, &["stat", word], "family");
+        expect_bad_value(&rt, alloc, &["stat", word, "/a"], "family");
+    }
+    for word in ["65536", "4294967296", "00", "01", "", "+1", "x"] {
+        expect_bad_value(&rt, alloc, &["ls", "mq", "0", word], "count");
+    }
+    for word in ["hex:2", "hex:2D", "hex:-1"] {
+        expect_bad_value(&rt, alloc, &["mq-unlink", word], "name");
+        expect_bad_value(&rt, alloc, &["stat", "sem", word], "name");
+    }
+    for word in ["4294967296", "00", "01", "", "+1", "one"] {
+        expect_bad_value(&rt, alloc, &["ls", "mq", word, "1"], "start");
     }
     for word in ["4294967296", "01", "", "one"] {
         expect_bad_value(
@@ -311,6 +413,16 @@ fn the_first_bad_value_is_named(rt: HostRuntime) {
 }
 
 #[test]
+fn the_first_bad_value_of_a_listing_is_named(rt: HostRuntime) {
+    let alloc = rt.alloc();
+    expect_bad_value(&rt, alloc, &["ls", "x", "x", "x"], "family");
+    expect_bad_value(&rt, alloc, &["ls", "mq", "x", "x"], "start");
+    expect_bad_value(&rt, alloc, &["ls", "mq", "0", "x"], "count");
+    expect_bad_value(&rt, alloc, &["stat", "x", "hex:2"], "family");
+    expect_bad_value(&rt, alloc, &["stat", "mq", "hex:2"], "name");
+}
+
+#[test]
 fn faults_are_shown(rt: HostRuntime) -> Result<(), Fail> {
     let alloc = rt.alloc();
     let usage = format!(in alloc; "fault {}", WordFault::Usage)?;
@@ -345,6 +457,75 @@ fn answers_have_lines(rt: HostRuntime) -> Result<(), Fail> {
     ];
     for (answer, line) in rows {
         let found = line_of_answer(rt.alloc(), &answer)?;
+        assert_eq!(rt; found.as_str(), line);
+    }
+    Ok(())
+}
+
+/// The line of a listing's answer with these names.
+fn listing_of(alloc: Global, names: &[&[u8]]) -> Result<String, Fail> {
+    let mut listed = Vec::new(alloc);
+    for name in names {
+        listed.push(Name::new(Bytes::from_slice(alloc, name)?))?;
+    }
+    Ok(line_of_answer(alloc, &Answer::Names(Names::new(listed)))?)
+}
+
+#[test]
+fn listings_have_lines(rt: HostRuntime) -> Result<(), Fail> {
+    let alloc = rt.alloc();
+    let none = listing_of(alloc, &[])?;
+    assert_eq!(rt; none.as_str(), "names 0");
+    let one = listing_of(alloc, &[b"/a"])?;
+    assert_eq!(rt; one.as_str(), "names 1 /a");
+    let two = listing_of(alloc, &[b"/b", b"/a"])?;
+    assert_eq!(rt; two.as_str(), "names 2 /b /a");
+    let mixed = listing_of(alloc, &[b"/ ", b"/a", b"", b"/\xff"])?;
+    assert_eq!(rt; mixed.as_str(), "names 4 hex:2f20 /a hex: hex:2fff");
+    Ok(())
+}
+
+#[test]
+fn bytes_are_printed_as_words(rt: HostRuntime) -> Result<(), Fail> {
+    let rows = [
+        (b"/jobs".as_slice(), "/jobs"),
+        (b"!~".as_slice(), "!~"),
+        (b"-a".as_slice(), "-a"),
+        (b"hex".as_slice(), "hex"),
+        (b"hexa:".as_slice(), "hexa:"),
+        (b"/hex:".as_slice(), "/hex:"),
+        (b"".as_slice(), "hex:"),
+        (b"hex:".as_slice(), "hex:6865783a"),
+        (b"hex:2f".as_slice(), "hex:6865783a3266"),
+        (b"/a b".as_slice(), "hex:2f612062"),
+        (b"\x7f".as_slice(), "hex:7f"),
+        (b"a\0".as_slice(), "hex:6100"),
+        ("/é".as_bytes(), "hex:2fc3a9"),
+        ([0xab, 0xcd, 0xef].as_slice(), "hex:abcdef"),
+    ];
+    for (bytes, text) in rows {
+        let printed = print_bytes(rt.alloc(), bytes)?;
+        assert_eq!(rt; printed.as_str(), text);
+    }
+    Ok(())
+}
+
+#[test]
+fn stats_have_lines(rt: HostRuntime) -> Result<(), Fail> {
+    let rows = [
+        (1000, 1000, 0o600, "stat 1000 1000 0600"),
+        (0, 0, 0o1777, "stat 0 0 1777"),
+        (1, 4294967295, 0, "stat 1 4294967295 0000"),
+        (7, 8, 0o22, "stat 7 8 0022"),
+        (7, 8, 0o10777, "stat 7 8 10777"),
+    ];
+    for (owner, group, mode, line) in rows {
+        let facts = Facts {
+            owner: Uid(owner),
+            group: Gid(group),
+            mode: Mode(mode),
+        };
+        let found = line_of_answer(rt.alloc(), &Answer::Stat(facts))?;
         assert_eq!(rt; found.as_str(), line);
     }
     Ok(())

@@ -1,11 +1,11 @@
-//! Names and kinds of access in words.
+//! Names, families and kinds of access in words.
 
 ghost use Rattle.std.specs.Prelude.{◌≡◌, IfOk};
 ghost use Rattle.std.specs.List.{list_all};
-ghost use Rattle.ipc_script.specs.WordsValues.{access_of_word, bytes_of_pairs, is_lower_hex, name_of_word};
+ghost use Rattle.ipc_script.specs.WordsValues.{access_of_word, bytes_of_pairs, family_of_word, is_lower_hex, name_of_word};
 
 use hex::FromHexError;
-use ipc_terms::{Access, Bytes, Name, NoMemory};
+use ipc_terms::{Access, Bytes, Family, Name, NoMemory};
 use std::alloc::Global;
 
 /// `r`, `w` or `rw`.
@@ -17,6 +17,18 @@ pub fn read_access(text: &str) -> Option<Access>
         "r" => Some(Access::Read),
         "w" => Some(Access::Write),
         "rw" => Some(Access::Both),
+        _ => None,
+    }
+}
+
+/// `mq` or `sem`.
+#[tactic(auto, unfolding(crate::specs::WordsValues::family_of_word))]
+pub fn read_family(text: &str) -> Option<Family>
+    ensures { result ≡ family_of_word text.now }
+{
+    match text {
+        "mq" => Some(Family::Mq),
+        "sem" => Some(Family::Sem),
         _ => None,
     }
 }

@@ -1,8 +1,10 @@
-use Rattle.std.proofs.Common.{◌≡◌, ◌<◌, ◌∙◌, sym, ap, arith, is_some, None, true, cond}
+use Rattle.std.proofs.Common.{◌∙◌, sym, ap, arith, is_some}
 use Rattle.std.specs.Option.{option_copied}
-use Rattle.ipc_policy.proofs.Known.{opens_le-length, creations_le-length, mask_lt, known_user, bound_iff}
-use Rattle.ipc_policy.proofs.Verdicts.{queue_opening}
-use Rattle.ipc_core.specs.Kept.{object_named}
+use Rattle.ipc_policy.proofs.Known.{opens_le-length, creations_le-length, mask_lt, known_user}
+use Rattle.ipc_names.specs.Directory.{object_named}
+use Rattle.ipc_core.specs.Kept.{is_live_row}
+use Rattle.ipc_terms.specs.declared.ids.Family.TheVariants.{Mq}
+use Rattle.ipc_core.proofs.Lookups.{found_is}
 use Rattle.ipc_core.proofs.Decisions.{open_accepted, cred_row, user_row, unbound_new}
 use Rattle.ipc_core.proofs.Accepting.{agrees_found, agrees_created}
 use Rattle.ipc_core.proofs.accept.accept_open.Goals as goal
@@ -16,14 +18,14 @@ open_found-requires c =
 pub returns-in-Some-clause-ok : goal.returns-in-Some-clause-ok
 returns-in-Some-clause-ok c =
     let named = c.get.ensures ∙ ap (λ t. object_named t.bindings c.args.asked.now.name) c.names.ensures in
-    let bound = sym (c.requires.core.agrees.names.named c.args.asked.now.name) ∙ sym named ∙ c.in-Some.is in
+    let bound = sym (found_is c.args.past.now.history Mq c.args.tables.now.queues c.args.asked.now.name c.requires.core.agrees.queues) ∙ sym named ∙ c.in-Some.is in
     rw c.in_ok-open_found.ensures.ok (agrees_found c.args.config.now c.args.past.now.history c.args.tables.now c.args.sid c.args.asked.now c.in-Some.object c.requires.core.agrees bound)
 
 pub unreachable-requires : goal.unreachable-requires
 unreachable-requires c =
     let lives = (open_accepted c.args.config.now c.args.past.now.history c.args.tables.now c.args.sid c.args.asked.now c.requires.core.agrees c.requires.accepted).0 in
     let none = sym c.session.ensures ∙ c.in_default-session.is in
-    let no = sym (ap is_some none) ∙ lives in
+    let no = sym (ap is_live_row none) ∙ lives in
     cc
 
 pub unreachable-requires-in_default-cred : goal.unreachable-requires-in_default-cred
@@ -63,7 +65,7 @@ returns-clause-ok c =
     let row = sym c.session.ensures ∙ c.in-Some-session.is in
     let m = a.sessions.masks c.args.sid.0 c.in-Some-session.session row in
     let unnamed = sym (c.get.ensures ∙ ap (λ t. object_named t.bindings asked.name) c.names.ensures) ∙ c.in_default.is in
-    let unbound = sym (a.names.named asked.name) ∙ unnamed in
-    let new = unbound_new h t c.args.sid asked a.names (open_accepted c.args.config.now h t c.args.sid asked a c.requires.accepted).1 unnamed in
+    let unbound = sym (found_is h Mq t.queues asked.name a.queues) ∙ unnamed in
+    let new = unbound_new h t c.args.sid asked a.queues (open_accepted c.args.config.now h t c.args.sid asked a c.requires.accepted).1 unnamed in
     let who = sym (cred_row c.args.config.now h t.sessions c.args.sid.0 c.in-Some-session.session a.sessions row) ∙ sym c.cred.ensures ∙ ap option_copied c.in-Some-cred.is in
     rw (c.in_ok-open_created.ensures.ok, c.new_object-object.ensures, c.new_facts-facts.ensures, m) (agrees_created c.args.config.now h t c.args.sid asked c.in-Some-cred.who.now a new unbound who)

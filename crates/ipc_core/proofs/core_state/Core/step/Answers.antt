@@ -20,4 +20,4 @@ invariant_of-self-2 c =
 
 pub returns-clause-answers : goal.returns-clause-answers
 unfolding answers
-returns-clause-answers c = c.in_ok-given.ensures.items ∙ sym c.answer_to.ensures ∙ ap (λ rule. answers_at rule c.args.self.now.history c.args.event) c.decide-rule.ensures
+returns-clause-answers c = c.in_ok-given.ensures ∙ ap (λ rule. answers_at rule c.args.self.now.config c.args.self.now.history c.args.event) c.decide-rule.ensures

@@ -1,9 +1,10 @@
-use Rattle.std.proofs.Common.{rules, ◌≡◌, ℕ, ◌∙◌, sym, ap, refl, Bool, true, false, not, List, [], ◌∷◌, ◌++◌, cond, filter, find, Option, Some, None, is_some}
+use Rattle.std.proofs.Common.{rules, ◌≡◌, ℕ, ◌∙◌, ap, refl, Bool, true, false, List, [], ◌∷◌, ◌++◌, cond, find, Some, None}
 use Rattle.std.specs.Option.{option_map}
 use Rattle.std.proofs.lemmas.Slice.Eq.{bytes_eq-Decides}
 use Rattle.ipc_terms.specs.Names.{same_name}
-use Rattle.ipc_core.specs.declared.names.Binding.{Binding}
-use Rattle.ipc_core.specs.Kept.{Kept, Directory, Descriptions, object_named, without_name}
+use Rattle.ipc_terms.specs.declared.binding.Binding.{Binding}
+use Rattle.ipc_names.specs.Directory.{Directory, object_named, without_name}
+use Rattle.ipc_core.specs.Kept.{Kept}
 use Rattle.ipc_core.proofs.tables.Tables.open_created.Goals as goal
 
 -- a name that was bound last, and is unbound again
@@ -25,9 +26,9 @@ returns-then-is_err-clause-err c =
     let inside = c.self.inside in
     let name = c.args.name.now in
     let unopened : c.open.new.self ≡ c.self.inside.descriptions = search rules in
-    let unbound : object_named c.self.inside.names.bindings c.args.name.now ≡ None = ap (λ (t : Kept). object_named t.names.bindings c.args.name.now) c.self.view_is ∙ c.requires.unbound in
-    let names : c.unbind.new.self ≡ c.self.inside.names =
-    c.unbind.ensures
-    ∙ ap (λ (d : Directory). record d { bindings = without_name d.bindings c.args.name.now }) (c.in_ok-bind.ensures.ok ∙ ap (λ n. record c.self.inside.names { bindings = c.self.inside.names.bindings ++ record { name = n; object = c.self.inside.created } ∷ [] }) c.in_ok-try_clone.ensures)
-    ∙ ap (λ l. record c.self.inside.names { bindings = l }) (again c.args.name.now c.self.inside.created c.self.inside.names.bindings unbound) in
+    let unbound : object_named c.self.inside.queues.bindings c.args.name.now ≡ None = ap (λ (t : Kept). object_named t.queues.bindings c.args.name.now) c.self.view_is ∙ c.requires.unbound in
+    let names : c.unbind.new.self ≡ c.self.inside.queues =
+    c.unbind.ensures.rest
+    ∙ ap (λ (d : Directory). record d { bindings = without_name d.bindings c.args.name.now }) (c.in_ok-bind.ensures.ok ∙ ap (λ n. record c.self.inside.queues { bindings = c.self.inside.queues.bindings ++ record { name = n; object = c.self.inside.created } ∷ [] }) c.in_ok-try_clone.ensures)
+    ∙ ap (λ l. record c.self.inside.queues { bindings = l }) (again c.args.name.now c.self.inside.created c.self.inside.queues.bindings unbound) in
     rw (names, c.reserve.ensures.items, unopened) c.self.view_is

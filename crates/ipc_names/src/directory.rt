@@ -1,0 +1,122 @@
+//! The directory of a family.
+
+ghost use Rattle.std.specs.Prelude.{◌≡◌, [], ◌∷◌, ◌++◌, None, OnOk, OnErr, IfOk};
+ghost use Rattle.ipc_terms.specs.Pages.{page};
+ghost use Rattle.ipc_names.specs.Directory.{first_directory, object_named, without_name, names_object, bound_names};
+
+use crate::listing;
+use ipc_access::DirFacts;
+use ipc_terms::{Binding, Family, Gid, Mode, Name, Names, NoMemory, Uid};
+use std::alloc::Global;
+use std::marker::Model;
+
+/// The names of a family that are bound, each to the number of an object, in the order in which
+/// they were bound; with the owner, group and mode that decide who may use the directory.
+#[derive(Drop)]
+pub struct NameDir {
+    family: Family,
+    bindings: Vec<Binding>,
+    facts: DirFacts,
+}
+
+impl Model for NameDir {
+    ghost use Rattle.ipc_names.specs.Directory.{Directory};
+
+    ghost Value = { Directory };
+
+    ghost view = { λ a. record { family = a.family; bindings = a.bindings.items; facts = a.facts } };
+}
+
+impl NameDir {
+    /// A directory without names, of user 0, group 0 and mode octal 1777: anyone may make a name,
+    /// and only user 0 and the owner of its object may remove it. Takes no memory.
+    pub fn new(alloc: Global, family: Family) -> Self
+        ensures { result ≡ first_directory family }
+    {
+        NameDir {
+            family,
+            bindings: Vec::new(alloc),
+            facts: DirFacts {
+                owner: Uid(0),
+                group: Gid(0),
+                mode: Mode(0o1777),
+            },
+        }
+    }
+
+    pub fn family(&self) -> Family
+        ensures { result ≡ self.now.family }
+    {
+        self.family
+    }
+
+    /// The object to which the name is bound; `None` where it is unbound.
+    pub fn get(&self, name: &Name) -> Option<u64>
+        ensures { result ≡ object_named self.now.bindings name.now }
+    {
+        listing::find_name(&self.bindings, name)
+    }
+
+    /// Whether a name is bound to the object. An object that has none may live on: it is open
+    /// somewhere.
+    pub fn names_object(&self, object: u64) -> bool
+        ensures { result ≡ names_object self.now.bindings object }
+    {
+        listing::any_names(&self.bindings, object)
+    }
+
+    /// Binds a name that is unbound. The directory doesn't ask whether it has the form of a name:
+    /// `check` does. An `Err` leaves the directory as it was, and the name is lost.
+    pub fn bind(&mut self, name: Name, object: u64) -> Result<(), NoMemory>
+        requires { object_named self.old.bindings name ≡ None }
+        ensures ok { OnOk result (self.new ≡ record self.old { bindings = self.old.bindings ++ record { name = name; object = object } ∷ [] }) }
+        ensures err { OnErr result (self.new ≡ self.old) }
+    {
+        self.bindings.push(Binding { name, object })?;
+        Ok(())
+    }
+
+    /// Leaves the name unbound (POSIX.1-2017, `mq_unlink`, `sem_unlink`), and says to which object
+    /// it was bound. At a name that is unbound nothing changes. Takes no memory.
+    pub fn unbind(&mut self, name: &Name) -> Option<u64>
+        ensures object { result ≡ object_named self.old.bindings name.now }
+        ensures rest { self.new ≡ record self.old { bindings = without_name self.old.bindings name.now } }
+    {
+        let object = self.get(name);
+        listing::remove_name(&mut self.bindings, name);
+        object
+    }
+
+    /// A page of the names that are bound, the first bound first: from the position `start` on,
+    /// counted from 0, at most `count` names and at most 1,000. A page that starts past the last
+    /// name is empty.
+    pub fn list(&self, alloc: Global, start: u32, count: u16) -> Result<Names, NoMemory>
+        ensures { IfOk result (λ names. names ≡ page start count (bound_names self.now.bindings)) }
+    {
+        let asked = listing::page_of(&self.bindings, start, count);
+        Ok(Names::new(listing::names_of(alloc, asked)?))
+    }
+
+    /// The directory's owner, group and mode.
+    pub fn facts(&self) -> DirFacts
+        ensures { result ≡ self.now.facts }
+    {
+        self.facts
+    }
+
+    /// Gives the directory this mode, all of it: which bits a caller may set is not asked here
+    /// (POSIX.1-2017, `chmod`).
+    pub fn set_mode(&mut self, mode: Mode)
+        ensures { self.new ≡ record self.old { facts = record self.old.facts { mode = mode } } }
+    {
+        self.facts.mode = mode;
+    }
+
+    /// Gives the directory this owner and this group (POSIX.1-2017, `chown`). Its mode stays.
+    pub fn set_owner(&mut self, uid: Uid, gid: Gid)
+        ensures { self.new ≡ record self.old { facts = record self.old.facts { owner = uid; group = gid } } }
+    {
+        self.facts.owner = uid;
+        self.facts.group = gid;
+    }
+}

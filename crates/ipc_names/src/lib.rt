@@ -1,0 +1,11 @@
+//! Names of objects, and the directory of a family.
+#![tactic(auto)]
+
+mod directory;
+mod form;
+mod listing;
+#[cfg(test)]
+mod tests;
+
+pub use directory::NameDir;
+pub use form::{check, has_form, is_long};

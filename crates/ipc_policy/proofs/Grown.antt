@@ -1,0 +1,34 @@
+-- What one accepted event does to each value.
+use Rattle.std.proofs.Common.{◌∷◌, None, refl}
+use Rattle.ipc_terms.specs.declared.record.Event.{Event}
+use Rattle.ipc_policy.specs.declared.config.Config.{Config}
+use Rattle.ipc_policy.specs.History.{History, newest}
+use Rattle.ipc_policy.specs.Objects.{makes, sets_facts, object, facts, directory}
+use Rattle.ipc_policy.specs.Grow.{Grows}
+use Rattle.ipc_policy.proofs.Holding.{held_grows, count_grows}
+use Rattle.ipc_policy.proofs.Growing.{hello_grows, user_grows, live_grows, mask_grows, is_bound_grows, creations_grow, bound_grows, made_grows, opens_grow, nonblock_grows}
+use Rattle.ipc_policy.proofs.Living.{named_grows, bindings_grow, names_grow, alive_grows}
+
+-- an accepted event changes each value as stated
+pub grows : (c : Config) (h : History) (e : Event) → Grows c h (record { event = e; rule = None } ∷ h) e
+unfolding object facts directory
+grows c h e = record {
+  hello_count = hello_grows h e;
+  user_of = user_grows h e;
+  live_or_not = live_grows h e;
+  mask_of = mask_grows h e;
+  bound_or_not = is_bound_grows h e;
+  creation_count = creations_grow h e;
+  object_named = bound_grows h e;
+  object_of = λ o. made_grows h e o _ (newest (makes c o) h);
+  facts_of = λ o. made_grows h e o _ (newest (sets_facts c o) h);
+  directory_of = λ f. refl;
+  open_count = opens_grow h e;
+  held_by = held_grows h e;
+  count_of = count_grows h e;
+  nonblock_of = nonblock_grows h e;
+  named_by = named_grows h e;
+  bindings_of = bindings_grow h e;
+  names_of = names_grow h e;
+  alive_or_not = alive_grows h e;
+}

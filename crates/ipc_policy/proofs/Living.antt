@@ -1,0 +1,171 @@
+-- What an accepted event does to the names in order, and to which objects are alive.
+use Rattle.std.proofs.Common.{◌≡◌, ℕ, ◌+◌, ◌<◌, Bool, true, false, not, ◌&&◌, ◌||◌, eqb, cond, List, [], ◌∷◌, ◌++◌, map, filter, Option, Some, None, is_some, refl, sym, ap, ◌∙◌, arith}
+use Rattle.std.specs.Option.{option_or}
+use Rattle.std.proofs.lemmas.Bool.{eqb-true, eq-eqb, ne_eqb}
+use Rattle.std.proofs.lemmas.List.{map_push}
+use Rattle.ipc_terms.specs.Names.{same_family, same_name}
+use Rattle.ipc_terms.specs.declared.binding.Binding.{Binding}
+use Rattle.ipc_terms.specs.declared.ids.Sid.{Sid}
+use Rattle.ipc_terms.specs.declared.ids.Family.{Family}
+use Rattle.ipc_terms.specs.declared.ids.Family.TheVariants.{Mq, Sem}
+use Rattle.ipc_terms.specs.declared.rule.Rule.{Rule}
+use Rattle.ipc_terms.specs.declared.call.QueueOpen.{QueueOpen}
+use Rattle.ipc_terms.specs.declared.call.Call.TheVariants.{Umask, MqOpen, MqClose, MqUnlink, ListNames, StatName}
+use Rattle.ipc_terms.specs.declared.record.Event.{Event}
+use Rattle.ipc_terms.specs.declared.record.Event.TheVariants.{Hello, Do, Hangup}
+use Rattle.ipc_policy.specs.History.{History, kept, unended, listed, gathered_below, any_below}
+use Rattle.ipc_policy.specs.Names.{Opening, unlinks, is_bound, creating, creations, bound}
+use Rattle.ipc_policy.specs.Objects.{creation_of}
+use Rattle.ipc_policy.specs.Descriptions.{opens, held}
+use Rattle.ipc_policy.specs.Life.{named, binding_of, bindings, names, gives_object, alive}
+use Rattle.ipc_policy.specs.Grow.{is_new, creations_after, named_after, bindings_after, names_after, alive_after, held_after, opens_after}
+use Rattle.ipc_policy.proofs.Verdicts.{queue_opening}
+use Rattle.ipc_policy.proofs.Holding.{kept_all, kept_some, held_grows}
+use Rattle.ipc_policy.proofs.Gathering.{gathered_same, gathered_more, passing, gathered_filter, any_below_same}
+use Rattle.ipc_policy.proofs.Growing.{creations_grow, opens_grow}
+
+-- the name of object o after an accepted event
+abbrev named_so_far : History → ℕ → Option Opening
+named_so_far h o = unended (creation_of o) (λ asked e before. unlinks asked.family asked.name e) h
+
+none_or : {A : Type 0} (b : Bool) (w : Option A) → option_or (cond b None None) w ≡ w
+none_or true w = refl
+none_or false w = refl
+
+opened_or : (b d : Bool) (x : Opening) (w : Option Opening) → option_or (cond b (cond d (Some x) None) None) (kept (λ y. false) w) ≡ cond (d && b) (Some x) w
+opened_or true true x w = refl
+opened_or true false x w = kept_all w
+opened_or false true x w = kept_all w
+opened_or false false x w = kept_all w
+
+pub named_grows : (h : History) (e : Event) (o : ℕ) → named (record { event = e; rule = None } ∷ h) o ≡ named_after o e (is_bound h) (creations h) (named h o)
+unfolding named creating
+named_grows h (Hello found) o = none_or (eqb (creations h) o) (kept (λ x. false) (named_so_far h o))
+named_grows h (Do sid (MqOpen asked)) o = opened_or (eqb (creations h) o) (is_new (queue_opening sid asked) (is_bound h)) (queue_opening sid asked) (named_so_far h o)
+named_grows h (Do sid call) o = none_or (eqb (creations h) o) (kept (λ asked. unlinks asked.family asked.name (Do sid call)) (named_so_far h o))
+named_grows h (Hangup sid) o = none_or (eqb (creations h) o) (kept (λ x. false) (named_so_far h o))
+
+-- only what was created has a name
+named_at : (n o : ℕ) (b : Bool) → eqb n o ≡ b → (w v : Option Opening) (p : Opening → Bool) → (is_some v ≡ true → o < n) → is_some (option_or (cond b w None) (kept p v)) ≡ true → o < cond (is_some w) (n + 1) n
+named_at n o true e None v p known k = known (kept_some p v k)
+named_at n o true e (Some x) v p known k = let at : n ≡ o = eqb-true _ _ e in omega arith
+named_at n o false e None v p known k = known (kept_some p v k)
+named_at n o false e (Some x) v p known k = let below = known (kept_some p v k) in omega arith
+
+named_more : (h : History) (o : ℕ) → (is_some (named h o) ≡ true → o < creations h) → (e : Event) (r : Option Rule) → is_some (named (record { event = e; rule = r } ∷ h) o) ≡ true → o < creations (record { event = e; rule = r } ∷ h)
+unfolding named creations
+named_more h o known e (Some rule) k = known k
+named_more h o known e None k = named_at (creations h) o (eqb (creations h) o) refl _ (named_so_far h o) (λ asked. unlinks asked.family asked.name e) known k
+
+pub named_below : (h : History) (o : ℕ) → is_some (named h o) ≡ true → o < creations h
+unfolding named
+named_below [] o k = absurd cc
+named_below (r ∷ h) o k = named_more h o (named_below h o) r.event r.rule k
+
+-- the names in order
+bindings_same : (h k : History) (f : Family) → creations k ≡ creations h → ((o : ℕ) → o < creations h → named k o ≡ named h o) → bindings k f ≡ bindings h f
+unfolding bindings
+bindings_same h k f n same = ap (gathered_below (λ o. binding_of f o (named k o))) n ∙ gathered_same _ _ (creations h) (λ o lt. ap (binding_of f o) (same o lt))
+
+bindings_quiet : (h : History) (e : Event) (f : Family) → creations_after e (is_bound h) (creations h) ≡ creations h → ((o : ℕ) → named_after o e (is_bound h) (creations h) (named h o) ≡ named h o) → bindings (record { event = e; rule = None } ∷ h) f ≡ bindings h f
+bindings_quiet h e f n same = bindings_same h _ f (creations_grow h e ∙ n) (λ o lt. named_grows h e o ∙ same o)
+
+-- whether an unlink of a queue's name takes the name away
+abbrev taken : Family → List ℕ → Binding → Bool
+taken f name b = same_family Mq f && same_name b.name name
+
+taken_at : (f g : Family) (given name : List ℕ) (o : ℕ) (b : Bool) → same_name given name ≡ b → cond (same_family Mq g && b) None (cond (same_family g f) (Some (record { name = given; object = o })) None) ≡ passing (λ x. not (taken f name x)) (cond (same_family g f) (Some (record { name = given; object = o })) None)
+taken_at Mq Mq given name o true e = rw e refl
+taken_at Mq Mq given name o false e = rw e refl
+taken_at Mq Sem given name o b e = refl
+taken_at Sem Mq given name o true e = refl
+taken_at Sem Mq given name o false e = refl
+taken_at Sem Sem given name o b e = refl
+
+binding_kept : (f : Family) (o : ℕ) (b : Bool) (asked : Opening) → binding_of f o (cond b None (Some asked)) ≡ cond b None (binding_of f o (Some asked))
+binding_kept f o true asked = refl
+binding_kept f o false asked = refl
+
+binding_taken : (f : Family) (name : List ℕ) (sid : Sid) (o : ℕ) (w : Option Opening) → binding_of f o (kept (λ asked. unlinks asked.family asked.name (Do sid (MqUnlink name))) w) ≡ passing (λ x. not (taken f name x)) (binding_of f o w)
+binding_taken f name sid o None = refl
+binding_taken f name sid o (Some asked) = binding_kept f o (same_family Mq asked.family && same_name asked.name name) asked ∙ taken_at f asked.family asked.name name o (same_name asked.name name) refl
+
+bindings_unlinked : (h : History) (sid : Sid) (name : List ℕ) (f : Family) → bindings (record { event = Do sid (MqUnlink name); rule = None } ∷ h) f ≡ filter (λ x. not (taken f name x)) (bindings h f)
+unfolding bindings
+bindings_unlinked h sid name f =
+    ap (gathered_below (λ o. binding_of f o (named (record { event = Do sid (MqUnlink name); rule = None } ∷ h) o))) (creations_grow h (Do sid (MqUnlink name)))
+    ∙ gathered_same _ _ (creations h) (λ o lt. ap (binding_of f o) (named_grows h (Do sid (MqUnlink name)) o) ∙ binding_taken f name sid o (named h o))
+    ∙ sym (gathered_filter (λ x. not (taken f name x)) (λ o. binding_of f o (named h o)) (creations h))
+
+pub append_none : {A : Type 0} (xs : List A) → xs ++ [] ≡ xs
+append_none [] = refl
+append_none (x ∷ xs) = ap (λ l. x ∷ l) (append_none xs)
+
+pushed_if : (b : Bool) (x : Binding) (xs : List Binding) → xs ++ listed (cond b (Some x) None) ≡ cond b (xs ++ x ∷ []) xs
+pushed_if true x xs = refl
+pushed_if false x xs = append_none xs
+
+-- what an open that creates names, and what it leaves as it was
+named_new : (h : History) (sid : Sid) (asked : QueueOpen) → is_new (queue_opening sid asked) (is_bound h) ≡ true → named (record { event = Do sid (MqOpen asked); rule = None } ∷ h) (creations h) ≡ Some (queue_opening sid asked)
+named_new h sid asked e = named_grows h (Do sid (MqOpen asked)) (creations h) ∙ rw (e, eq-eqb (creations h) (creations h) refl) refl
+
+named_other : (h : History) (sid : Sid) (asked : QueueOpen) (o : ℕ) → o < creations h → named (record { event = Do sid (MqOpen asked); rule = None } ∷ h) o ≡ named h o
+named_other h sid asked o lt = named_grows h (Do sid (MqOpen asked)) o ∙ at (is_new (queue_opening sid asked) (is_bound h)) where
+  at : (b : Bool) → cond (b && eqb (creations h) o) (Some (queue_opening sid asked)) (named h o) ≡ named h o
+  at true = rw (ne_eqb (creations h) o (λ (q : creations h ≡ o). absurd (omega arith))) refl
+  at false = refl
+
+created_more : (h : History) (sid : Sid) (asked : QueueOpen) → is_new (queue_opening sid asked) (is_bound h) ≡ true → creations (record { event = Do sid (MqOpen asked); rule = None } ∷ h) ≡ creations h + 1
+created_more h sid asked e = creations_grow h (Do sid (MqOpen asked)) ∙ rw e refl
+
+bindings_created : (h : History) (sid : Sid) (asked : QueueOpen) (f : Family) → (b : Bool) → is_new (queue_opening sid asked) (is_bound h) ≡ b → bindings (record { event = Do sid (MqOpen asked); rule = None } ∷ h) f ≡ cond (b && same_family Mq f) (bindings h f ++ record { name = asked.name; object = creations h } ∷ []) (bindings h f)
+unfolding bindings
+bindings_created h sid asked f true e =
+    gathered_more (λ o. binding_of f o (named (record { event = Do sid (MqOpen asked); rule = None } ∷ h) o)) (λ o. binding_of f o (named h o)) (creations (record { event = Do sid (MqOpen asked); rule = None } ∷ h)) (creations h)
+    (created_more h sid asked e)
+    (λ o lt. ap (binding_of f o) (named_other h sid asked o lt))
+    ∙ ap (λ w. gathered_below (λ o. binding_of f o (named h o)) (creations h) ++ listed (binding_of f (creations h) w)) (named_new h sid asked e)
+    ∙ pushed_if (same_family Mq f) (record { name = asked.name; object = creations h }) (gathered_below (λ o. binding_of f o (named h o)) (creations h))
+bindings_created h sid asked f false e = bindings_same h _ f (creations_grow h (Do sid (MqOpen asked)) ∙ rw e refl) (λ o lt. named_grows h (Do sid (MqOpen asked)) o ∙ rw e refl)
+
+pub bindings_grow : (h : History) (e : Event) (f : Family) → bindings (record { event = e; rule = None } ∷ h) f ≡ bindings_after f e (is_bound h) (creations h) (bindings h f)
+bindings_grow h (Hello found) f = bindings_quiet h (Hello found) f refl (λ o. kept_all (named h o))
+bindings_grow h (Do sid (Umask mode)) f = bindings_quiet h (Do sid (Umask mode)) f refl (λ o. kept_all (named h o))
+bindings_grow h (Do sid (MqOpen asked)) f = bindings_created h sid asked f (is_new (queue_opening sid asked) (is_bound h)) refl
+bindings_grow h (Do sid (MqClose desc)) f = bindings_quiet h (Do sid (MqClose desc)) f refl (λ o. kept_all (named h o))
+bindings_grow h (Do sid (MqUnlink name)) f = bindings_unlinked h sid name f
+bindings_grow h (Do sid (ListNames family start count)) f = bindings_quiet h (Do sid (ListNames family start count)) f refl (λ o. kept_all (named h o))
+bindings_grow h (Do sid (StatName target)) f = bindings_quiet h (Do sid (StatName target)) f refl (λ o. kept_all (named h o))
+bindings_grow h (Hangup sid) f = bindings_quiet h (Hangup sid) f refl (λ o. kept_all (named h o))
+
+-- the names alone
+names_filtered : (f : Family) (name : List ℕ) (xs : List Binding) → map (λ (b : Binding). b.name) (filter (λ x. not (taken f name x)) xs) ≡ filter (λ n. not (same_family Mq f && same_name n name)) (map (λ (b : Binding). b.name) xs)
+names_filtered f name [] = refl
+names_filtered f name (x ∷ xs) = at (not (same_family Mq f && same_name x.name name)) (names_filtered f name xs) where
+  at : (b : Bool) → map (λ (b : Binding). b.name) (filter (λ x. not (taken f name x)) xs) ≡ filter (λ n. not (same_family Mq f && same_name n name)) (map (λ (b : Binding). b.name) xs) → map (λ (b : Binding). b.name) (cond b (x ∷ filter (λ x. not (taken f name x)) xs) (filter (λ x. not (taken f name x)) xs)) ≡ cond b (x.name ∷ filter (λ n. not (same_family Mq f && same_name n name)) (map (λ (b : Binding). b.name) xs)) (filter (λ n. not (same_family Mq f && same_name n name)) (map (λ (b : Binding). b.name) xs))
+  at true rest = ap (λ l. x.name ∷ l) rest
+  at false rest = rest
+
+names_pushed : (b : Bool) (x : Binding) (xs : List Binding) → map (λ (b : Binding). b.name) (cond b (xs ++ x ∷ []) xs) ≡ cond b (map (λ (b : Binding). b.name) xs ++ x.name ∷ []) (map (λ (b : Binding). b.name) xs)
+names_pushed true x xs = map_push (λ (b : Binding). b.name) xs x
+names_pushed false x xs = refl
+
+pub names_grow : (h : History) (e : Event) (f : Family) → names (record { event = e; rule = None } ∷ h) f ≡ names_after f e (is_bound h) (names h f)
+unfolding names
+names_grow h (Hello found) f = ap (map (λ (b : Binding). b.name)) (bindings_grow h (Hello found) f)
+names_grow h (Do sid (Umask mode)) f = ap (map (λ (b : Binding). b.name)) (bindings_grow h (Do sid (Umask mode)) f)
+names_grow h (Do sid (MqOpen asked)) f = ap (map (λ (b : Binding). b.name)) (bindings_grow h (Do sid (MqOpen asked)) f) ∙ names_pushed (is_new (queue_opening sid asked) (is_bound h) && same_family Mq f) (record { name = asked.name; object = creations h }) (bindings h f)
+names_grow h (Do sid (MqClose desc)) f = ap (map (λ (b : Binding). b.name)) (bindings_grow h (Do sid (MqClose desc)) f)
+names_grow h (Do sid (MqUnlink name)) f = ap (map (λ (b : Binding). b.name)) (bindings_grow h (Do sid (MqUnlink name)) f) ∙ names_filtered f name (bindings h f)
+names_grow h (Do sid (ListNames family start count)) f = ap (map (λ (b : Binding). b.name)) (bindings_grow h (Do sid (ListNames family start count)) f)
+names_grow h (Do sid (StatName target)) f = ap (map (λ (b : Binding). b.name)) (bindings_grow h (Do sid (StatName target)) f)
+names_grow h (Hangup sid) f = ap (map (λ (b : Binding). b.name)) (bindings_grow h (Hangup sid) f)
+
+-- which objects are alive
+pub alive_grows : (h : History) (e : Event) (o : ℕ) → alive (record { event = e; rule = None } ∷ h) o ≡ alive_after o (named_after o e (is_bound h) (creations h) (named h o)) (λ d. held_after d e (opens h) (bound h) (creations h) (held h d)) (opens_after e (opens h))
+unfolding alive
+alive_grows h e o =
+    ap (λ w. is_some w || any_below (λ d. gives_object o (held (record { event = e; rule = None } ∷ h) d)) (opens (record { event = e; rule = None } ∷ h))) (named_grows h e o)
+    ∙ ap (λ b. is_some (named_after o e (is_bound h) (creations h) (named h o)) || b)
+    (ap (any_below (λ d. gives_object o (held (record { event = e; rule = None } ∷ h) d))) (opens_grow h e)
+    ∙ any_below_same _ _ (opens_after e (opens h)) (λ d lt. ap (gives_object o) (held_grows h e d)))
