@@ -1,7 +1,7 @@
 -- What each accepted event does to the tables keeps them the history's.
-use Rattle.std.proofs.Common.{◌≡◌, ℕ, ◌+◌, ◌%◌, ◌<◌, Bool, true, false, not, ◌&&◌, ◌||◌, eqb, List, [], ◌∷◌, ◌++◌, filter, Option, Some, None, is_some, refl, sym, ap, ◌∙◌, arith}
+use Rattle.std.proofs.Common.{◌≡◌, ℕ, ◌+◌, ◌%◌, ◌<◌, Bool, true, false, not, ◌&&◌, ◌||◌, eqb, List, [], ◌∷◌, ◌++◌, length, filter, Option, Some, None, is_some, refl, sym, ap, ◌∙◌, arith}
 use Rattle.std.proofs.lemmas.Bool.{eqb-true, eq-eqb, ne_eqb}
-use Rattle.ipc_terms.specs.Flags.{has_create}
+use Rattle.ipc_terms.specs.Flags.{has_create, has_nonblock}
 use Rattle.ipc_terms.specs.Names.{same_name}
 use Rattle.ipc_terms.specs.declared.binding.Binding.{Binding}
 use Rattle.ipc_terms.specs.declared.rule.Rule.{Rule}
@@ -13,34 +13,40 @@ use Rattle.ipc_terms.specs.declared.ids.Family.{Family}
 use Rattle.ipc_terms.specs.declared.ids.Family.TheVariants.{Mq, Sem}
 use Rattle.ipc_terms.specs.declared.ids.Target.{Target}
 use Rattle.ipc_terms.specs.declared.call.QueueOpen.{QueueOpen}
-use Rattle.ipc_terms.specs.declared.call.Call.TheVariants.{Umask, MqOpen, MqClose, MqUnlink, ListNames, StatName}
+use Rattle.ipc_terms.specs.declared.call.Call.TheVariants.{Umask, MqOpen, MqClose, MqSend, MqReceive, MqGetattr, MqSetattr, MqUnlink, ListNames, StatName}
 use Rattle.ipc_terms.specs.declared.record.Event.{Event}
 use Rattle.ipc_terms.specs.declared.record.Event.TheVariants.{Hello, Do, Hangup}
 use Rattle.ipc_access.specs.declared.class.Cred.{Cred}
 use Rattle.ipc_names.specs.Directory.{first_directory}
 use Rattle.ipc_policy.specs.declared.config.Config.{Config}
+use Rattle.ipc_policy.specs.declared.config.Held.{Held}
 use Rattle.ipc_policy.specs.History.{History, listed, gathered_below, any_below}
 use Rattle.ipc_policy.specs.Sessions.{hellos, user, live, cred, mask}
 use Rattle.ipc_policy.specs.Names.{unlinks, is_bound, creations, bound}
 use Rattle.ipc_policy.specs.Objects.{object, facts, directory, made_by, first_facts}
-use Rattle.ipc_policy.specs.Descriptions.{opens, held}
+use Rattle.ipc_policy.specs.Descriptions.{opens, held, holds}
 use Rattle.ipc_policy.specs.Life.{named, bindings, gives_object, alive}
+use Rattle.ipc_policy.specs.Queues.{Send, contents}
 use Rattle.ipc_policy.specs.Laws.{SameValues}
 use Rattle.ipc_policy.specs.Grow.{is_new}
-use Rattle.ipc_policy.specs.Verdict.{verdict}
+use Rattle.ipc_policy.specs.Verdict.{verdict, Legal}
 use Rattle.ipc_policy.proofs.Verdicts.{queue_opening}
 use Rattle.ipc_policy.proofs.Holding.{kept_all}
 use Rattle.ipc_policy.proofs.Grown.{grows}
 use Rattle.ipc_policy.proofs.Gathering.{gathered_more, filter_all}
 use Rattle.ipc_policy.proofs.Known.{bound_iff}
+use Rattle.ipc_policy.proofs.Creating.{not_created_empty}
 use Rattle.ipc_policy.proofs.Refused.{same_values}
 use Rattle.ipc_core.specs.declared.tables.Made.{Made}
+use Rattle.ipc_core.specs.declared.tables.Contents.{Contents}
 use Rattle.ipc_core.specs.Kept.{Kept, is_of, is_desc}
-use Rattle.ipc_core.specs.Steps.{after_hello, after_umask, after_found, after_created, after_close, after_unlink, after_hangup}
-use Rattle.ipc_core.specs.Agrees.{Agrees, IsCore, DirectoryAgrees, ObjectsAgree, living_row}
+use Rattle.ipc_core.specs.Steps.{empty_queue, entered, next_taken, after_hello, after_umask, after_found, after_created, after_send, after_receive, after_setattr, after_close, after_unlink, after_hangup}
+use Rattle.ipc_core.specs.Ranges.{first_bad}
+use Rattle.ipc_core.specs.Agrees.{Agrees, IsCore, DirectoryAgrees, ObjectsAgree, ContentsAgree, living_row, ticket_of, row_contents}
 use Rattle.ipc_core.proofs.Lookups.{bound_alive}
 use Rattle.ipc_core.proofs.SessionTables.{sessions_kept, sessions_begun, sessions_masked, sessions_ended}
-use Rattle.ipc_core.proofs.ObjectTables.{directory_kept, row_kept, objects_kept, alive_kept, alive_less, objects_left, descriptions_kept, descriptions_dropped, descriptions_opened, alive_opened}
+use Rattle.ipc_core.proofs.ObjectTables.{directory_kept, row_kept, objects_kept, alive_kept, alive_less, objects_left, descriptions_kept, descriptions_dropped, descriptions_opened, descriptions_set, alive_opened}
+use Rattle.ipc_core.proofs.ContentsTables.{contents_kept, contents_left, contents_created, contents_changed, tickets_entered, tickets_taken}
 
 -- a refused event
 agrees_as : (c : Config) (h k : History) (t : Kept) → SameValues c k h → Agrees c h t → Agrees c k t
@@ -49,7 +55,8 @@ agrees_as c h k t q a = record {
   queues = record { bound = a.queues.bound ∙ sym (q.bindings Mq); facts = a.queues.facts ∙ sym (q.directory Mq) };
   semaphores = record { bound = a.semaphores.bound ∙ sym (q.bindings Sem); facts = a.semaphores.facts ∙ sym (q.directory Sem) };
   objects = objects_kept c h k t.objects t.created q.alive q.object q.facts q.creations a.objects;
-  descriptions = descriptions_kept h k t.descriptions q.held q.opens a.descriptions;
+  contents = contents_kept c h k t.contents q.alive q.object q.contents q.creations a.contents;
+  descriptions = descriptions_kept h k t.descriptions q.held q.is_nonblock q.opens a.descriptions;
 }
 
 -- an accepted hello
@@ -63,7 +70,8 @@ agrees_begun c h t uid k =
       queues = directory_kept c h _ (Hello (Some uid)) Mq t.queues g refl a.queues;
       semaphores = directory_kept c h _ (Hello (Some uid)) Sem t.semaphores g refl a.semaphores;
       objects = objects_kept c h _ t.objects t.created (λ o. alive_kept h _ o (g.named_by o ∙ kept_all (named h o)) held' g.open_count) g.object_of g.facts_of g.creation_count a.objects;
-      descriptions = descriptions_kept h _ t.descriptions held' g.open_count a.descriptions;
+      contents = contents_kept c h _ t.contents (λ o. alive_kept h _ o (g.named_by o ∙ kept_all (named h o)) held' g.open_count) g.object_of g.contents_of g.creation_count a.contents;
+      descriptions = descriptions_kept h _ t.descriptions held' g.nonblock_of g.open_count a.descriptions;
     }
 
 -- an accepted umask
@@ -76,7 +84,8 @@ agrees_masked c h t sid m a =
       queues = directory_kept c h _ (Do sid (Umask m)) Mq t.queues g refl a.queues;
       semaphores = directory_kept c h _ (Do sid (Umask m)) Sem t.semaphores g refl a.semaphores;
       objects = objects_kept c h _ t.objects t.created (λ o. alive_kept h _ o (g.named_by o ∙ kept_all (named h o)) held' g.open_count) g.object_of g.facts_of g.creation_count a.objects;
-      descriptions = descriptions_kept h _ t.descriptions held' g.open_count a.descriptions;
+      contents = contents_kept c h _ t.contents (λ o. alive_kept h _ o (g.named_by o ∙ kept_all (named h o)) held' g.open_count) g.object_of g.contents_of g.creation_count a.contents;
+      descriptions = descriptions_kept h _ t.descriptions held' g.nonblock_of g.open_count a.descriptions;
     }
 
 -- an accepted listing and an accepted stat change nothing
@@ -89,7 +98,8 @@ agrees_listed c h t sid family start count a =
       queues = directory_kept c h _ (Do sid (ListNames family start count)) Mq t.queues g refl a.queues;
       semaphores = directory_kept c h _ (Do sid (ListNames family start count)) Sem t.semaphores g refl a.semaphores;
       objects = objects_kept c h _ t.objects t.created (λ o. alive_kept h _ o (g.named_by o ∙ kept_all (named h o)) held' g.open_count) g.object_of g.facts_of g.creation_count a.objects;
-      descriptions = descriptions_kept h _ t.descriptions held' g.open_count a.descriptions;
+      contents = contents_kept c h _ t.contents (λ o. alive_kept h _ o (g.named_by o ∙ kept_all (named h o)) held' g.open_count) g.object_of g.contents_of g.creation_count a.contents;
+      descriptions = descriptions_kept h _ t.descriptions held' g.nonblock_of g.open_count a.descriptions;
     }
 
 pub agrees_told : (c : Config) (h : History) (t : Kept) (sid : Sid) (target : Target) → Agrees c h t → Agrees c (record { event = Do sid (StatName target); rule = None } ∷ h) t
@@ -101,7 +111,79 @@ agrees_told c h t sid target a =
       queues = directory_kept c h _ (Do sid (StatName target)) Mq t.queues g refl a.queues;
       semaphores = directory_kept c h _ (Do sid (StatName target)) Sem t.semaphores g refl a.semaphores;
       objects = objects_kept c h _ t.objects t.created (λ o. alive_kept h _ o (g.named_by o ∙ kept_all (named h o)) held' g.open_count) g.object_of g.facts_of g.creation_count a.objects;
-      descriptions = descriptions_kept h _ t.descriptions held' g.open_count a.descriptions;
+      contents = contents_kept c h _ t.contents (λ o. alive_kept h _ o (g.named_by o ∙ kept_all (named h o)) held' g.open_count) g.object_of g.contents_of g.creation_count a.contents;
+      descriptions = descriptions_kept h _ t.descriptions held' g.nonblock_of g.open_count a.descriptions;
+    }
+
+-- an accepted question about a queue
+pub agrees_asked : (c : Config) (h : History) (t : Kept) (sid : Sid) (desc : Desc) → Agrees c h t → Agrees c (record { event = Do sid (MqGetattr desc); rule = None } ∷ h) t
+agrees_asked c h t sid desc a =
+    let g = grows c h (Do sid (MqGetattr desc)) in
+    let held' = λ (d : ℕ). g.held_by d ∙ kept_all (held h d) in
+    record {
+      sessions = sessions_kept c h _ (Do sid (MqGetattr desc)) t.sessions g refl (λ s. refl) (λ s. refl) (λ s. refl) a.sessions;
+      queues = directory_kept c h _ (Do sid (MqGetattr desc)) Mq t.queues g refl a.queues;
+      semaphores = directory_kept c h _ (Do sid (MqGetattr desc)) Sem t.semaphores g refl a.semaphores;
+      objects = objects_kept c h _ t.objects t.created (λ o. alive_kept h _ o (g.named_by o ∙ kept_all (named h o)) held' g.open_count) g.object_of g.facts_of g.creation_count a.objects;
+      contents = contents_kept c h _ t.contents (λ o. alive_kept h _ o (g.named_by o ∙ kept_all (named h o)) held' g.open_count) g.object_of g.contents_of g.creation_count a.contents;
+      descriptions = descriptions_kept h _ t.descriptions held' g.nonblock_of g.open_count a.descriptions;
+    }
+
+-- an accepted send
+act_elsewhere : (i : ℕ) (w : Option Held) (x : Held) → w ≡ Some x → (i ≡ x.object → ⊥) → gives_object i w ≡ false
+act_elsewhere i None x e ne = absurd cc
+act_elsewhere i (Some y) x e ne = let same : y ≡ x = cc in ne_eqb y.object i (λ q. ne (sym q ∙ ap (λ (z : Held). z.object) same))
+
+act_here : (w : Option Held) (x : Held) → w ≡ Some x → gives_object x.object w ≡ true
+act_here None x e = absurd cc
+act_here (Some y) x e = let same : y ≡ x = cc in eq-eqb y.object x.object (ap (λ (z : Held). z.object) same)
+
+pub agrees_sent : (c : Config) (h : History) (t : Kept) (sid : Sid) (desc : Desc) (priority : ℕ) (bytes : List ℕ) (x : Held) → Agrees c h t → holds h sid.0 desc.0 ≡ Some x → Agrees c (record { event = Do sid (MqSend desc priority bytes); rule = None } ∷ h) (after_send t x.object (record { place = length h; priority = priority }))
+agrees_sent c h t sid desc priority bytes x a is =
+    let g = grows c h (Do sid (MqSend desc priority bytes)) in
+    let held' = λ (d : ℕ). g.held_by d ∙ kept_all (held h d) in
+    let m : Send = record { place = length h; session = sid.0; desc = desc.0; priority = priority; bytes = bytes } in
+    record {
+      sessions = sessions_kept c h _ (Do sid (MqSend desc priority bytes)) t.sessions g refl (λ s. refl) (λ s. refl) (λ s. refl) a.sessions;
+      queues = directory_kept c h _ (Do sid (MqSend desc priority bytes)) Mq t.queues g refl a.queues;
+      semaphores = directory_kept c h _ (Do sid (MqSend desc priority bytes)) Sem t.semaphores g refl a.semaphores;
+      objects = objects_kept c h _ t.objects t.created (λ o. alive_kept h _ o (g.named_by o ∙ kept_all (named h o)) held' g.open_count) g.object_of g.facts_of g.creation_count a.objects;
+      contents = contents_changed c h _ t.contents x.object (entered (ticket_of m)) (λ o. alive_kept h _ o (g.named_by o ∙ kept_all (named h o)) held' g.open_count) g.object_of
+          (λ i ne. g.contents_of i ∙ rw (act_elsewhere i (holds h sid.0 desc.0) x is ne) refl)
+          (λ y. ap (λ l. row_contents x.object (Some y) l) (g.contents_of x.object ∙ rw (act_here (holds h sid.0 desc.0) x is) refl) ∙ tickets_entered x.object y (contents h x.object) m)
+          g.creation_count a.contents;
+      descriptions = descriptions_kept h _ t.descriptions held' g.nonblock_of g.open_count a.descriptions;
+    }
+
+-- an accepted receive
+pub agrees_received : (c : Config) (h : History) (t : Kept) (sid : Sid) (desc : Desc) (room : ℕ) (x : Held) → Agrees c h t → holds h sid.0 desc.0 ≡ Some x → Agrees c (record { event = Do sid (MqReceive desc room); rule = None } ∷ h) (after_receive t x.object)
+agrees_received c h t sid desc room x a is =
+    let g = grows c h (Do sid (MqReceive desc room)) in
+    let held' = λ (d : ℕ). g.held_by d ∙ kept_all (held h d) in
+    record {
+      sessions = sessions_kept c h _ (Do sid (MqReceive desc room)) t.sessions g refl (λ s. refl) (λ s. refl) (λ s. refl) a.sessions;
+      queues = directory_kept c h _ (Do sid (MqReceive desc room)) Mq t.queues g refl a.queues;
+      semaphores = directory_kept c h _ (Do sid (MqReceive desc room)) Sem t.semaphores g refl a.semaphores;
+      objects = objects_kept c h _ t.objects t.created (λ o. alive_kept h _ o (g.named_by o ∙ kept_all (named h o)) held' g.open_count) g.object_of g.facts_of g.creation_count a.objects;
+      contents = contents_changed c h _ t.contents x.object next_taken (λ o. alive_kept h _ o (g.named_by o ∙ kept_all (named h o)) held' g.open_count) g.object_of
+          (λ i ne. g.contents_of i ∙ rw (act_elsewhere i (holds h sid.0 desc.0) x is ne) refl)
+          (λ y. ap (λ l. row_contents x.object (Some y) l) (g.contents_of x.object ∙ rw (act_here (holds h sid.0 desc.0) x is) refl) ∙ tickets_taken x.object y (contents h x.object))
+          g.creation_count a.contents;
+      descriptions = descriptions_kept h _ t.descriptions held' g.nonblock_of g.open_count a.descriptions;
+    }
+
+-- an accepted change of whether calls are refused where they would wait
+pub agrees_set : (c : Config) (h : History) (t : Kept) (sid : Sid) (desc : Desc) (nonblock : Bool) (x : Held) → Agrees c h t → holds h sid.0 desc.0 ≡ Some x → Agrees c (record { event = Do sid (MqSetattr desc nonblock); rule = None } ∷ h) (after_setattr t desc.0 nonblock)
+agrees_set c h t sid desc nonblock x a is =
+    let g = grows c h (Do sid (MqSetattr desc nonblock)) in
+    let held' = λ (d : ℕ). g.held_by d ∙ kept_all (held h d) in
+    record {
+      sessions = sessions_kept c h _ (Do sid (MqSetattr desc nonblock)) t.sessions g refl (λ s. refl) (λ s. refl) (λ s. refl) a.sessions;
+      queues = directory_kept c h _ (Do sid (MqSetattr desc nonblock)) Mq t.queues g refl a.queues;
+      semaphores = directory_kept c h _ (Do sid (MqSetattr desc nonblock)) Sem t.semaphores g refl a.semaphores;
+      objects = objects_kept c h _ t.objects t.created (λ o. alive_kept h _ o (g.named_by o ∙ kept_all (named h o)) held' g.open_count) g.object_of g.facts_of g.creation_count a.objects;
+      contents = contents_kept c h _ t.contents (λ o. alive_kept h _ o (g.named_by o ∙ kept_all (named h o)) held' g.open_count) g.object_of g.contents_of g.creation_count a.contents;
+      descriptions = descriptions_set h _ t.descriptions sid.0 desc.0 nonblock x held' g.nonblock_of g.open_count is a.descriptions;
     }
 
 -- an accepted close
@@ -110,12 +192,13 @@ agrees_closed c h t sid desc a =
     let g = grows c h (Do sid (MqClose desc)) in
     let q = directory_kept c h (record { event = Do sid (MqClose desc); rule = None } ∷ h) (Do sid (MqClose desc)) Mq t.queues g refl a.queues in
     let s = directory_kept c h (record { event = Do sid (MqClose desc); rule = None } ∷ h) (Do sid (MqClose desc)) Sem t.semaphores g refl a.semaphores in
-    let d = descriptions_dropped h (record { event = Do sid (MqClose desc); rule = None } ∷ h) t.descriptions (λ row. is_of sid.0 row && is_desc desc.0 row) (λ i x. eqb sid.0 x.session.0 && eqb desc.0 i) (λ i x. refl) g.held_by g.open_count a.descriptions in
+    let d = descriptions_dropped h (record { event = Do sid (MqClose desc); rule = None } ∷ h) t.descriptions (λ row. is_of sid.0 row && is_desc desc.0 row) (λ i x. eqb sid.0 x.session.0 && eqb desc.0 i) (λ i x. refl) g.held_by g.nonblock_of g.open_count a.descriptions in
     record {
       sessions = sessions_kept c h _ (Do sid (MqClose desc)) t.sessions g refl (λ i. refl) (λ i. refl) (λ i. refl) a.sessions;
       queues = q;
       semaphores = s;
       objects = objects_left c h (record { event = Do sid (MqClose desc); rule = None } ∷ h) t.queues t.semaphores _ t.objects t.created q s d (λ o. alive_less h _ o (λ x. false) (λ i x. eqb sid.0 x.session.0 && eqb desc.0 i) (g.named_by o) g.held_by g.open_count) g.object_of g.facts_of g.creation_count a.objects;
+      contents = contents_left c h (record { event = Do sid (MqClose desc); rule = None } ∷ h) t.queues t.semaphores _ t.contents q s d (λ o. alive_less h _ o (λ x. false) (λ i x. eqb sid.0 x.session.0 && eqb desc.0 i) (g.named_by o) g.held_by g.open_count) g.object_of g.contents_of g.creation_count a.contents;
       descriptions = d;
     }
 
@@ -126,12 +209,13 @@ agrees_unlinked c h t sid name a =
     let held' = λ (d : ℕ). g.held_by d ∙ kept_all (held h d) in
     let q : DirectoryAgrees (record { event = Do sid (MqUnlink name); rule = None } ∷ h) Mq (record t.queues { bindings = filter (λ (b : Binding). not (same_name b.name name)) t.queues.bindings }) = record { bound = ap (filter (λ (b : Binding). not (same_name b.name name))) a.queues.bound ∙ sym (g.bindings_of Mq); facts = a.queues.facts ∙ sym (g.directory_of Mq) } in
     let s = directory_kept c h (record { event = Do sid (MqUnlink name); rule = None } ∷ h) (Do sid (MqUnlink name)) Sem t.semaphores g (filter_all (bindings h Sem)) a.semaphores in
-    let d = descriptions_kept h (record { event = Do sid (MqUnlink name); rule = None } ∷ h) t.descriptions held' g.open_count a.descriptions in
+    let d = descriptions_kept h (record { event = Do sid (MqUnlink name); rule = None } ∷ h) t.descriptions held' g.nonblock_of g.open_count a.descriptions in
     record {
       sessions = sessions_kept c h _ (Do sid (MqUnlink name)) t.sessions g refl (λ i. refl) (λ i. refl) (λ i. refl) a.sessions;
       queues = q;
       semaphores = s;
       objects = objects_left c h (record { event = Do sid (MqUnlink name); rule = None } ∷ h) _ t.semaphores t.descriptions t.objects t.created q s d (λ o. alive_less h _ o (λ asked. unlinks asked.family asked.name (Do sid (MqUnlink name))) (λ i x. false) (g.named_by o) g.held_by g.open_count) g.object_of g.facts_of g.creation_count a.objects;
+      contents = contents_left c h (record { event = Do sid (MqUnlink name); rule = None } ∷ h) _ t.semaphores t.descriptions t.contents q s d (λ o. alive_less h _ o (λ asked. unlinks asked.family asked.name (Do sid (MqUnlink name))) (λ i x. false) (g.named_by o) g.held_by g.open_count) g.object_of g.contents_of g.creation_count a.contents;
       descriptions = d;
     }
 
@@ -141,12 +225,13 @@ agrees_ended c h t sid a =
     let g = grows c h (Hangup sid) in
     let q = directory_kept c h (record { event = Hangup sid; rule = None } ∷ h) (Hangup sid) Mq t.queues g refl a.queues in
     let s = directory_kept c h (record { event = Hangup sid; rule = None } ∷ h) (Hangup sid) Sem t.semaphores g refl a.semaphores in
-    let d = descriptions_dropped h (record { event = Hangup sid; rule = None } ∷ h) t.descriptions (is_of sid.0) (λ i x. eqb sid.0 x.session.0) (λ i x. refl) g.held_by g.open_count a.descriptions in
+    let d = descriptions_dropped h (record { event = Hangup sid; rule = None } ∷ h) t.descriptions (is_of sid.0) (λ i x. eqb sid.0 x.session.0) (λ i x. refl) g.held_by g.nonblock_of g.open_count a.descriptions in
     record {
       sessions = sessions_ended c h t.sessions sid g a.sessions;
       queues = q;
       semaphores = s;
       objects = objects_left c h (record { event = Hangup sid; rule = None } ∷ h) t.queues t.semaphores _ t.objects t.created q s d (λ o. alive_less h _ o (λ x. false) (λ i x. eqb sid.0 x.session.0) (g.named_by o) g.held_by g.open_count) g.object_of g.facts_of g.creation_count a.objects;
+      contents = contents_left c h (record { event = Hangup sid; rule = None } ∷ h) t.queues t.semaphores _ t.contents q s d (λ o. alive_less h _ o (λ x. false) (λ i x. eqb sid.0 x.session.0) (g.named_by o) g.held_by g.open_count) g.object_of g.contents_of g.creation_count a.contents;
       descriptions = d;
     }
 
@@ -174,7 +259,7 @@ found_alive c h sid asked b o is =
     alive_opened c h (record { event = Do sid (MqOpen asked); rule = None } ∷ h) sid asked o (grows c h (Do sid (MqOpen asked)))
     ∙ rw (new_of_bound h sid asked b is, is) (found_at (is_some (named h o)) (eqb b o) (any_below (λ d. gives_object o (held h d)) (opens h)) (alive h o) (alive_is_so h o) (λ e. ap (alive h) (sym (eqb-true b o e)) ∙ bound_alive h Mq asked.name b is))
 
-pub agrees_found : (c : Config) (h : History) (t : Kept) (sid : Sid) (asked : QueueOpen) (o : ℕ) → Agrees c h t → bound h Mq asked.name ≡ Some o → Agrees c (record { event = Do sid (MqOpen asked); rule = None } ∷ h) (after_found t sid o asked.access)
+pub agrees_found : (c : Config) (h : History) (t : Kept) (sid : Sid) (asked : QueueOpen) (o : ℕ) → Agrees c h t → bound h Mq asked.name ≡ Some o → Agrees c (record { event = Do sid (MqOpen asked); rule = None } ∷ h) (after_found t sid o asked.access (has_nonblock asked.flags))
 agrees_found c h t sid asked o a is =
     let g = grows c h (Do sid (MqOpen asked)) in
     let old = new_of_bound h sid asked o is in
@@ -183,6 +268,7 @@ agrees_found c h t sid asked o a is =
       queues = directory_kept c h _ (Do sid (MqOpen asked)) Mq t.queues g (rw old refl) a.queues;
       semaphores = directory_kept c h _ (Do sid (MqOpen asked)) Sem t.semaphores g (rw old refl) a.semaphores;
       objects = objects_kept c h _ t.objects t.created (λ i. found_alive c h sid asked o i is) (λ i. g.object_of i ∙ rw old refl) (λ i. g.facts_of i ∙ rw old refl) (g.creation_count ∙ rw old refl) a.objects;
+      contents = contents_kept c h _ t.contents (λ i. found_alive c h sid asked o i is) (λ i. g.object_of i ∙ rw old refl) g.contents_of (g.creation_count ∙ rw old refl) a.contents;
       descriptions = descriptions_opened c h _ t.descriptions sid asked o g a.descriptions (rw is refl);
     }
 
@@ -214,8 +300,20 @@ objects_created c h xs created sid asked who new none is a =
       count = ap (λ m. m + 1) a.count ∙ sym n;
     }
 
-pub agrees_created : (c : Config) (h : History) (t : Kept) (sid : Sid) (asked : QueueOpen) (who : Cred) → Agrees c h t → is_new (queue_opening sid asked) (is_bound h) ≡ true → bound h Mq asked.name ≡ None → cred c h sid.0 ≡ Some who → Agrees c (record { event = Do sid (MqOpen asked); rule = None } ∷ h) (after_created t sid asked.name asked.access (made_by c (queue_opening sid asked) who) (first_facts (queue_opening sid asked) (mask h sid.0) who))
-agrees_created c h t sid asked who a new none is =
+queue_created : (c : Config) (h : History) (rows : List Contents) (created : ℕ) (sid : Sid) (asked : QueueOpen) (who : Cred) → Legal c h → is_new (queue_opening sid asked) (is_bound h) ≡ true → bound h Mq asked.name ≡ None → cred c h sid.0 ≡ Some who → created ≡ creations h → ContentsAgree c h rows → ContentsAgree c (record { event = Do sid (MqOpen asked); rule = None } ∷ h) (rows ++ empty_queue created (made_by c (queue_opening sid asked) who) ∷ [])
+queue_created c h rows created sid asked who legal new none is count a =
+    let g = grows c h (Do sid (MqOpen asked)) in
+    contents_created c h (record { event = Do sid (MqOpen asked); rule = None } ∷ h) rows created (made_by c (queue_opening sid asked) who) (g.creation_count ∙ rw new refl) count
+    (λ o lt. created_other c h sid asked o new none lt)
+    (λ o lt. g.object_of o ∙ rw (new, ne_eqb (creations h) o (λ (q : creations h ≡ o). absurd (omega arith))) refl)
+    g.contents_of
+    (created_alive c h sid asked new)
+    (g.object_of (creations h) ∙ rw (new, eq-eqb (creations h) (creations h) refl, is) refl)
+    (not_created_empty c h legal (creations h) (omega arith))
+    a
+
+pub agrees_created : (c : Config) (h : History) (t : Kept) (sid : Sid) (asked : QueueOpen) (who : Cred) → Legal c h → Agrees c h t → is_new (queue_opening sid asked) (is_bound h) ≡ true → bound h Mq asked.name ≡ None → cred c h sid.0 ≡ Some who → Agrees c (record { event = Do sid (MqOpen asked); rule = None } ∷ h) (after_created t sid asked.name asked.access (has_nonblock asked.flags) (made_by c (queue_opening sid asked) who) (first_facts (queue_opening sid asked) (mask h sid.0) who))
+agrees_created c h t sid asked who legal a new none is =
     let g = grows c h (Do sid (MqOpen asked)) in
     record {
       sessions = sessions_kept c h _ (Do sid (MqOpen asked)) t.sessions g refl (λ s. refl) (λ s. refl) (λ s. refl) a.sessions;
@@ -225,27 +323,30 @@ agrees_created c h t sid asked who a new none is =
       };
       semaphores = directory_kept c h _ (Do sid (MqOpen asked)) Sem t.semaphores g (rw new refl) a.semaphores;
       objects = objects_created c h t.objects t.created sid asked who new none is a.objects;
+      contents = queue_created c h t.contents t.created sid asked who legal new none is a.objects.count a.contents;
       descriptions = descriptions_opened c h _ t.descriptions sid asked t.created g a.descriptions (a.objects.count ∙ rw none refl);
     }
 
 -- one more record with its verdict
 pub core_accepted : (c : Config) (h : History) (t u : Kept) (e : Event) (rule : Option Rule) → IsCore c h t → rule ≡ verdict c h e → rule ≡ None → Agrees c (record { event = e; rule = None } ∷ h) u → IsCore c (record { event = e; rule = rule } ∷ h) u
-core_accepted c h t u e rule k is none a = record { legal = (is, k.legal); agrees = rw none a }
+core_accepted c h t u e rule k is none a = record { in_range = k.in_range; legal = (is, k.legal); agrees = rw none a }
 
 pub core_refused : (c : Config) (h : History) (t : Kept) (e : Event) (rule : Option Rule) → IsCore c h t → rule ≡ verdict c h e → is_some rule ≡ true → IsCore c (record { event = e; rule = rule } ∷ h) t
 core_refused c h t e None k is some = absurd cc
-core_refused c h t e (Some rule) k is some = record { legal = (is, k.legal); agrees = agrees_as c h (record { event = e; rule = Some rule } ∷ h) t (same_values c h e rule) k.agrees }
+core_refused c h t e (Some rule) k is some = record { in_range = k.in_range; legal = (is, k.legal); agrees = agrees_as c h (record { event = e; rule = Some rule } ∷ h) t (same_values c h e rule) k.agrees }
 
 -- the tables of no history
-pub core_new : (c : Config) → IsCore c [] (record { sessions = []; queues = first_directory Mq; semaphores = first_directory Sem; objects = []; created = 0; descriptions = record { rows = []; opened = 0 } })
+pub core_new : (c : Config) → first_bad c.limits ≡ None → IsCore c [] (record { sessions = []; queues = first_directory Mq; semaphores = first_directory Sem; objects = []; contents = []; created = 0; descriptions = record { rows = []; opened = 0 } })
 unfolding hellos user live mask creations bindings object facts directory opens held
-core_new c = record {
+core_new c in_range = record {
+  in_range = in_range;
   legal = tt;
   agrees = record {
     sessions = record { users = λ s. refl; masks = λ s row e. absurd cc; lives = λ s. refl; count = refl };
     queues = record { bound = refl; facts = refl };
     semaphores = record { bound = refl; facts = refl };
     objects = record { rows = refl; count = refl };
+    contents = refl;
     descriptions = record { rows = refl; opened = refl };
   };
 }

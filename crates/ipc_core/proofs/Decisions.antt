@@ -119,11 +119,11 @@ pub hangup_kept : (c : Config) (h : History) (t : Kept) (sid : Sid) → Agrees c
 hangup_kept c h t sid a = verdict_hangup c h sid ∙ rw (← a.sessions.lives sid.0) refl
 
 -- where no condition holds, the first does not, and none of the others does
-first_none : {X : Type 0} (b : Bool) (x : X) (o : Option X) → cond b (Some x) o ≡ None → (b ≡ false) × (o ≡ None)
+pub first_none : {X : Type 0} (b : Bool) (x : X) (o : Option X) → cond b (Some x) o ≡ None → (b ≡ false) × (o ≡ None)
 first_none true x o e = absurd cc
 first_none false x o e = (refl, e)
 
-off : (b : Bool) → not b ≡ false → b ≡ true
+pub off : (b : Bool) → not b ≡ false → b ≡ true
 off true e = refl
 off false e = absurd cc
 

@@ -1,6 +1,13 @@
 pub mod Lists
+pub mod Mapped
+pub mod Changing
 pub mod Lookups
 pub mod Decisions
+pub mod QueueLookups
+pub mod QueueDecisions
+pub mod Taking
+pub mod Telling
 pub mod SessionTables
 pub mod ObjectTables
+pub mod ContentsTables
 pub mod Accepting

@@ -20,7 +20,7 @@ use Rattle.ipc_policy.specs.History.{History, gathered_below, any_below}
 use Rattle.ipc_policy.specs.Sessions.{cred}
 use Rattle.ipc_policy.specs.Names.{Opening, creations, bound}
 use Rattle.ipc_policy.specs.Objects.{object, facts}
-use Rattle.ipc_policy.specs.Descriptions.{opens, if_of, held, holds, held_count}
+use Rattle.ipc_policy.specs.Descriptions.{opens, if_of, held, holds, held_count, is_nonblock}
 use Rattle.ipc_policy.specs.Life.{named, binding_of, bindings, names, gives_object, alive}
 use Rattle.ipc_policy.specs.Rules.{is_of_family, not_held}
 use Rattle.ipc_policy.specs.Verdict.{facts_meant}
@@ -46,34 +46,36 @@ unfolding cred
 cred_is c h xs s a = then_map (λ (row : Session). row.user) (cred_of c.users) (slice_get xs s) ∙ ap (option_and_then (cred_of c.users)) (a.users s)
 
 -- descriptions
-row_of_other : (d i : ℕ) (w : Option Held) → eqb d i ≡ false → passes (is_desc d) (option_map (row_held i) w) ≡ false
-row_of_other d i None e = refl
-row_of_other d i (Some x) e = e
+row_of_other : (b : ℕ → ℕ → Bool) (d i : ℕ) (w : Option Held) → eqb d i ≡ false → passes (is_desc d) (option_map (row_held b i) w) ≡ false
+row_of_other b d i None e = refl
+row_of_other b d i (Some x) e = e
 
-row_of_own : (d : ℕ) (w : Option Held) (row : Row) → option_map (row_held d) w ≡ Some row → is_desc d row ≡ true
-row_of_own d None row e = absurd cc
-row_of_own d (Some x) row e = let same : row_held d x ≡ row = cc in rw (← same) (eq-eqb d d refl)
+row_of_own : (b : ℕ → ℕ → Bool) (d : ℕ) (w : Option Held) (row : Row) → option_map (row_held b d) w ≡ Some row → is_desc d row ≡ true
+row_of_own b d None row e = absurd cc
+row_of_own b d (Some x) row e = let same : row_held b d x ≡ row = cc in rw (← same) (eq-eqb d d refl)
 
-held_back : (d : ℕ) (w : Option Held) → option_map (λ (row : Row). row.held) (option_map (row_held d) w) ≡ w
-held_back d None = refl
-held_back d (Some x) = refl
+held_back : (b : ℕ → ℕ → Bool) (d : ℕ) (w : Option Held) → option_map (λ (row : Row). row.held) (option_map (row_held b d) w) ≡ w
+held_back b d None = refl
+held_back b d (Some x) = refl
 
-row_some : (d : ℕ) (w : Option Held) → is_some (option_map (row_held d) w) ≡ true → is_some w ≡ true
-row_some d None e = e
-row_some d (Some x) e = refl
+row_some : (b : ℕ → ℕ → Bool) (d : ℕ) (w : Option Held) → is_some (option_map (row_held b d) w) ≡ true → is_some w ≡ true
+row_some b d None e = e
+row_some b d (Some x) e = refl
+
+pub row_is : (h : History) (t : Descriptions) (d : ℕ) → DescriptionsAgree h t → find (is_desc d) t.rows ≡ option_map (row_held (is_nonblock h) d) (held h d)
+row_is h t d a =
+    ap (find (is_desc d)) a.rows
+    ∙ gathered_find (is_desc d) (λ i. option_map (row_held (is_nonblock h) i) (held h i)) (opens h) d
+    (λ e. held_below h d (row_some (is_nonblock h) d (held h d) e))
+    (λ i ne. row_of_other (is_nonblock h) d i (held h i) (ne_eqb d i (λ q. ne (sym q))))
+    (λ row e. row_of_own (is_nonblock h) d (held h d) row e)
 
 pub held_is : (h : History) (t : Descriptions) (d : ℕ) → DescriptionsAgree h t → held_by t.rows d ≡ held h d
-held_is h t d a =
-    ap (λ xs. option_map (λ (row : Row). row.held) (find (is_desc d) xs)) a.rows
-    ∙ ap (option_map (λ (row : Row). row.held)) (gathered_find (is_desc d) (λ i. option_map (row_held i) (held h i)) (opens h) d
-    (λ e. held_below h d (row_some d (held h d) e))
-    (λ i ne. row_of_other d i (held h i) (ne_eqb d i (λ q. ne (sym q))))
-    (λ row e. row_of_own d (held h d) row e))
-    ∙ held_back d (held h d)
+held_is h t d a = ap (option_map (λ (row : Row). row.held)) (row_is h t d a) ∙ held_back (is_nonblock h) d (held h d)
 
-of_session : (s d : ℕ) (w : Option Held) → passes (is_of s) (option_map (row_held d) w) ≡ is_some (option_and_then (if_of s) w)
-of_session s d None = refl
-of_session s d (Some x) = eqb_swapped s x.session.0 ∙ at (eqb x.session.0 s) where
+of_session : (n : ℕ → ℕ → Bool) (s d : ℕ) (w : Option Held) → passes (is_of s) (option_map (row_held n d) w) ≡ is_some (option_and_then (if_of s) w)
+of_session n s d None = refl
+of_session n s d (Some x) = eqb_swapped s x.session.0 ∙ at (eqb x.session.0 s) where
   at : (b : Bool) → b ≡ is_some (cond b (Some x) None)
   at true = refl
   at false = refl
@@ -82,19 +84,19 @@ pub counts_is : (h : History) (t : Descriptions) (s : ℕ) → DescriptionsAgree
 unfolding held_count holds
 counts_is h t s a =
     ap (count_by (is_of s)) a.rows
-    ∙ counted_is (is_of s) (gathered_below (λ d. option_map (row_held d) (held h d)) (opens h))
-    ∙ gathered_count (is_of s) (λ d. option_map (row_held d) (held h d)) (opens h)
-    ∙ how_many_below_same _ _ (opens h) (λ d lt. of_session s d (held h d))
+    ∙ counted_is (is_of s) (gathered_below (λ d. option_map (row_held (is_nonblock h) d) (held h d)) (opens h))
+    ∙ gathered_count (is_of s) (λ d. option_map (row_held (is_nonblock h) d) (held h d)) (opens h)
+    ∙ how_many_below_same _ _ (opens h) (λ d lt. of_session (is_nonblock h) s d (held h d))
 
-to_object : (o d : ℕ) (w : Option Held) → passes (is_to o) (option_map (row_held d) w) ≡ gives_object o w
-to_object o d None = refl
-to_object o d (Some x) = refl
+to_object : (n : ℕ → ℕ → Bool) (o d : ℕ) (w : Option Held) → passes (is_to o) (option_map (row_held n d) w) ≡ gives_object o w
+to_object n o d None = refl
+to_object n o d (Some x) = refl
 
 pub open_is : (h : History) (t : Descriptions) (o : ℕ) → DescriptionsAgree h t → is_open t.rows o ≡ any_below (λ d. gives_object o (held h d)) (opens h)
 open_is h t o a =
     ap (list_any (is_to o)) a.rows
-    ∙ gathered_any (is_to o) (λ d. option_map (row_held d) (held h d)) (opens h)
-    ∙ any_below_same _ _ (opens h) (λ d lt. to_object o d (held h d))
+    ∙ gathered_any (is_to o) (λ d. option_map (row_held (is_nonblock h) d) (held h d)) (opens h)
+    ∙ any_below_same _ _ (opens h) (λ d lt. to_object (is_nonblock h) o d (held h d))
 
 -- names
 pub found_is : (h : History) (f : Family) (t : Directory) (name : List ℕ) → DirectoryAgrees h f t → object_named t.bindings name ≡ bound h f name
@@ -204,7 +206,7 @@ facts_column o true (Some x) None e k = absurd cc
 facts_column o true (Some x) (Some y) e k = refl
 facts_column o false w v e k = absurd cc
 
-object_column : (o : ℕ) (b : Bool) (w : Option Object) (v : Option Facts) → b ≡ true → is_some w ≡ is_some v → option_map (λ (row : Made). row.object) (cond b (row_made o w v) None) ≡ w
+pub object_column : (o : ℕ) (b : Bool) (w : Option Object) (v : Option Facts) → b ≡ true → is_some w ≡ is_some v → option_map (λ (row : Made). row.object) (cond b (row_made o w v) None) ≡ w
 object_column o true None None e k = refl
 object_column o true None (Some y) e k = absurd cc
 object_column o true (Some x) None e k = absurd cc

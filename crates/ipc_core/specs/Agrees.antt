@@ -1,10 +1,11 @@
 -- What the tables have to do with the history: each is what the policy's values give, in the order of their numbers.
-use Rattle.std.specs.Prelude.{◌≡◌, ℕ, List, length, slice_get, Option, Some, None, if◌then◌else◌}
+use Rattle.std.specs.Prelude.{◌≡◌, Bool, ℕ, List, length, map, slice_get, Option, Some, None, if◌then◌else◌}
 use Rattle.std.specs.Option.{option_map}
 use Rattle.ipc_terms.specs.declared.facts.Facts.{Facts}
 use Rattle.ipc_terms.specs.declared.ids.Family.{Family}
 use Rattle.ipc_terms.specs.declared.ids.Family.TheVariants.{Mq, Sem}
 use Rattle.ipc_names.specs.Directory.{Directory}
+use Rattle.ipc_queue.specs.declared.queue.Ticket.{Ticket}
 use Rattle.ipc_policy.specs.declared.config.Config.{Config}
 use Rattle.ipc_policy.specs.declared.config.Held.{Held}
 use Rattle.ipc_policy.specs.declared.config.Object.{Object}
@@ -12,12 +13,15 @@ use Rattle.ipc_policy.specs.History.{History, gathered_below}
 use Rattle.ipc_policy.specs.Sessions.{hellos, user, live, mask}
 use Rattle.ipc_policy.specs.Names.{creations}
 use Rattle.ipc_policy.specs.Objects.{object, facts, directory}
-use Rattle.ipc_policy.specs.Descriptions.{opens, held}
+use Rattle.ipc_policy.specs.Descriptions.{opens, held, is_nonblock}
+use Rattle.ipc_policy.specs.Queues.{Send, contents}
 use Rattle.ipc_policy.specs.Life.{bindings, alive}
 use Rattle.ipc_policy.specs.Verdict.{Legal}
 use Rattle.ipc_core.specs.Kept.{Kept, Descriptions, live_at}
+use Rattle.ipc_core.specs.Ranges.{first_bad}
 use Rattle.ipc_core.specs.declared.tables.Session.{Session}
 use Rattle.ipc_core.specs.declared.tables.Made.{Made}
+use Rattle.ipc_core.specs.declared.tables.Contents.{Contents}
 use Rattle.ipc_core.specs.declared.descriptions.Row.{Row}
 
 -- sessions stand at their numbers, each with its user and its mask, and whether it is live
@@ -46,13 +50,30 @@ pub record ObjectsAgree (c : Config) (h : History) (objects : List Made) (create
   pub rows : objects ≡ gathered_below (living_row c h) (creations h)
   pub count : created ≡ creations h
 
--- the row of description d
-abbrev pub row_held : ℕ → Held → Row
-row_held d x = record { desc = record { 0 = d }; held = x }
+-- the ticket of a message
+abbrev pub ticket_of : Send → Ticket
+ticket_of m = record { place = m.place; priority = m.priority }
+
+-- the row of the contents of object o
+abbrev pub row_contents : ℕ → Option Object → List Send → Option Contents
+row_contents o None messages = None
+row_contents o (Some x) messages = Some (record { number = o; queue = record { maxmsg = x.attributes.maxmsg; msgsize = x.attributes.msgsize; tickets = map ticket_of messages } })
+
+-- the row of the contents of object o, while it is alive
+abbrev pub living_queue : Config → History → ℕ → Option Contents
+living_queue c h o = if alive h o then row_contents o (object c h o) (contents h o) else None
+
+-- what stands in the queues that are alive
+abbrev pub ContentsAgree : Config → History → List Contents → Type 0
+ContentsAgree c h rows = rows ≡ gathered_below (living_queue c h) (creations h)
+
+-- the row of description d, by whether its session's calls are refused where they would wait
+abbrev pub row_held : (ℕ → ℕ → Bool) → ℕ → Held → Row
+row_held nonblock d x = record { desc = record { 0 = d }; held = x; nonblock = nonblock x.session.0 d }
 
 -- the descriptions that are held
 pub record DescriptionsAgree (h : History) (t : Descriptions) : Type 0 where
-  pub rows : t.rows ≡ gathered_below (λ d. option_map (row_held d) (held h d)) (opens h)
+  pub rows : t.rows ≡ gathered_below (λ d. option_map (row_held (is_nonblock h) d) (held h d)) (opens h)
   pub opened : t.opened ≡ opens h
 
 pub record Agrees (c : Config) (h : History) (t : Kept) : Type 0 where
@@ -60,9 +81,11 @@ pub record Agrees (c : Config) (h : History) (t : Kept) : Type 0 where
   pub queues : DirectoryAgrees h Mq t.queues
   pub semaphores : DirectoryAgrees h Sem t.semaphores
   pub objects : ObjectsAgree c h t.objects t.created
+  pub contents : ContentsAgree c h t.contents
   pub descriptions : DescriptionsAgree h t.descriptions
 
--- every verdict in the history is the policy's, and the tables are the history's
+-- the limits are in their ranges, every verdict in the history is the policy's, and the tables are the history's
 pub record IsCore (c : Config) (h : History) (t : Kept) : Type 0 where
+  pub in_range : first_bad c.limits ≡ None
   pub legal : Legal c h
   pub agrees : Agrees c h t

@@ -11,11 +11,16 @@ use Rattle.ipc_terms.specs.declared.facts.Facts.{Facts}
 use Rattle.ipc_access.specs.declared.class.Cred.{Cred}
 use Rattle.ipc_access.specs.Users.{cred_of}
 use Rattle.ipc_names.specs.Directory.{Directory, object_named, names_object}
+use Rattle.ipc_queue.specs.Tickets.{Tickets}
 use Rattle.ipc_policy.specs.declared.config.Config.{Config}
 use Rattle.ipc_policy.specs.declared.config.Held.{Held}
+use Rattle.ipc_policy.specs.declared.config.Object.{Object}
+use Rattle.ipc_policy.specs.Descriptions.{if_of}
+use Rattle.ipc_policy.specs.Rules.{there_is}
 use Rattle.ipc_core.specs.declared.descriptions.Row.{Row}
 use Rattle.ipc_core.specs.declared.tables.Session.{Session}
 use Rattle.ipc_core.specs.declared.tables.Made.{Made}
+use Rattle.ipc_core.specs.declared.tables.Contents.{Contents}
 
 -- the descriptions that are held, and how many were ever opened
 pub record Descriptions : Type 0 where
@@ -38,6 +43,14 @@ is_to o row = row.held.object == o
 abbrev pub held_by : List Row → ℕ → Option Held
 held_by rows d = option_map (λ row. row.held) (find (is_desc d) rows)
 
+-- what session s holds by description d
+abbrev pub held_of : List Row → ℕ → ℕ → Option Held
+held_of rows s d = option_and_then (if_of s) (held_by rows d)
+
+-- whether the calls by description d are refused where they would wait
+abbrev pub nonblock_of : List Row → ℕ → Bool
+nonblock_of rows d = there_is (λ row. row.nonblock) (find (is_desc d) rows)
+
 -- all but the row of description d of session s
 abbrev pub without_desc : List Row → ℕ → ℕ → List Row
 without_desc rows s d = filter (λ row. not (is_of s row && is_desc d row)) rows
@@ -57,6 +70,14 @@ is_number o made = made.number == o
 -- the row of object o
 abbrev pub made_at : List Made → ℕ → Option Made
 made_at objects o = find (is_number o) objects
+
+-- whether these are the contents of object o
+abbrev pub is_contents_of : ℕ → Contents → Bool
+is_contents_of o row = row.number == o
+
+-- the queue of object o
+abbrev pub queue_at : List Contents → ℕ → Option Tickets
+queue_at rows o = option_map (λ row. row.queue) (find (is_contents_of o) rows)
 
 -- the owner, group and mode of object o
 abbrev pub facts_at : List Made → ℕ → Option Facts
@@ -81,6 +102,7 @@ pub record Kept : Type 0 where
   pub queues : Directory
   pub semaphores : Directory
   pub objects : List Made
+  pub contents : List Contents
   pub created : ℕ
   pub descriptions : Descriptions
 
@@ -111,3 +133,11 @@ gives_queue objects s (Some x) = is_queue_of s x (made_at objects x.object)
 -- description d is session s's, and gives a queue
 abbrev pub is_held_queue : Kept → ℕ → ℕ → Bool
 is_held_queue t s d = gives_queue t.objects s (held_by t.descriptions.rows d)
+
+-- what a description that is held gives
+abbrev pub object_of : List Made → Option Held → Option Object
+object_of objects held = option_and_then (λ x. option_map (λ row. row.object) (made_at objects x.object)) held
+
+-- the queue that a description that is held gives
+abbrev pub queue_of : List Contents → Option Held → Option Tickets
+queue_of rows held = option_and_then (λ x. queue_at rows x.object) held

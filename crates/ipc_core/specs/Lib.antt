@@ -1,4 +1,3 @@
-pub mod Log
 pub mod State
 pub mod Kept
 pub mod Agrees

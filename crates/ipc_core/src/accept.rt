@@ -2,21 +2,23 @@
 
 ghost use Rattle.std.specs.Prelude.{◌≡◌, ◌+◌, ◌^◌, ◌<◌, ◌∷◌, length, None, OnOk, OnErr};
 ghost use Rattle.ipc_terms.specs.declared.record.Event.TheVariants.{Hello, Do, Hangup};
-ghost use Rattle.ipc_terms.specs.declared.call.Call.TheVariants.{Umask, MqOpen, MqClose, MqUnlink};
+ghost use Rattle.ipc_terms.specs.declared.call.Call.TheVariants.{Umask, MqOpen, MqClose, MqSend, MqReceive, MqSetattr, MqUnlink};
 ghost use Rattle.ipc_policy.specs.Objects.{attributes_of, without_mask};
 ghost use Rattle.ipc_policy.specs.Verdict.{verdict};
 ghost use Rattle.ipc_core.specs.Agrees.{Agrees, IsCore};
 
 use crate::tables::Tables;
-use crate::trail::Trail;
 use ipc_access::Cred;
 use ipc_policy::{Config, Object};
 use ipc_terms::{
-    Attributes, Call, Desc, Event, Facts, Family, Mode, Name, NoMemory, QueueOpen, Sid, Uid,
+    Attributes, Bytes, Call, Desc, Event, Facts, Family, Mode, Name, NoMemory, QueueOpen, Sid, Uid,
 };
+use ipc_trail::Trail;
+use std::alloc::Global;
 
 /// Brings the tables up to date with an event that is accepted after this past. An `Err` changes nothing.
 pub fn accept(
+    alloc: Global,
     tables: &mut Tables,
     config: &Config,
     past: &Trail,
@@ -35,7 +37,20 @@ pub fn accept(
                 accept_umask(tables, config, past, *sid, *mask);
                 Ok(())
             }
-            Call::MqOpen(asked) => accept_open(tables, config, past, *sid, asked),
+            Call::MqOpen(asked) => accept_open(alloc, tables, config, past, *sid, asked),
+            Call::MqSend {
+                desc,
+                priority,
+                bytes,
+            } => accept_send(tables, config, past, *sid, *desc, *priority, bytes),
+            Call::MqReceive { desc, length } => {
+                accept_receive(tables, config, past, *sid, *desc, *length)
+            }
+            Call::MqGetattr(_) => Ok(()),
+            Call::MqSetattr { desc, nonblock } => {
+                accept_setattr(tables, config, past, *sid, *desc, *nonblock);
+                Ok(())
+            }
             Call::MqClose(desc) => {
                 accept_close(tables, config, past, *sid, *desc);
                 Ok(())
@@ -82,6 +97,63 @@ fn accept_umask(tables: &mut Tables, config: &Config, past: &Trail, sid: Sid, ma
     tables.set_mask(sid, Mode(mask.0 % 512));
 }
 
+fn accept_send(
+    tables: &mut Tables,
+    config: &Config,
+    past: &Trail,
+    sid: Sid,
+    desc: Desc,
+    priority: u32,
+    bytes: &Bytes,
+) -> Result<(), NoMemory>
+    requires core { IsCore config.now past.now.history tables.old }
+    requires accepted { verdict config.now past.now.history (Do sid (MqSend desc priority bytes.now)) ≡ None }
+    requires room { length past.now.history + 1 < 2 ^ 64 }
+    ensures ok { OnOk result (Agrees config.now (record { event = Do sid (MqSend desc priority bytes.now); rule = None } ∷ past.now.history) tables.new) }
+    ensures err { OnErr result (tables.new ≡ tables.old) }
+{
+    let Some(held) = tables.descriptions().held_of(sid, desc) else {
+        unreachable!();
+    };
+    tables.send(held.object, past.len() as u64, priority, sid)?;
+    Ok(())
+}
+
+fn accept_receive(
+    tables: &mut Tables,
+    config: &Config,
+    past: &Trail,
+    sid: Sid,
+    desc: Desc,
+    length: u32,
+) -> Result<(), NoMemory>
+    requires core { IsCore config.now past.now.history tables.old }
+    requires accepted { verdict config.now past.now.history (Do sid (MqReceive desc length)) ≡ None }
+    ensures ok { OnOk result (Agrees config.now (record { event = Do sid (MqReceive desc length); rule = None } ∷ past.now.history) tables.new) }
+    ensures err { OnErr result (tables.new ≡ tables.old) }
+{
+    let Some(held) = tables.descriptions().held_of(sid, desc) else {
+        unreachable!();
+    };
+    tables.receive(held.object, sid)?;
+    Ok(())
+}
+
+fn accept_setattr(
+    tables: &mut Tables,
+    config: &Config,
+    past: &Trail,
+    sid: Sid,
+    desc: Desc,
+    nonblock: bool,
+)
+    requires core { IsCore config.now past.now.history tables.old }
+    requires accepted { verdict config.now past.now.history (Do sid (MqSetattr desc nonblock)) ≡ None }
+    ensures { Agrees config.now (record { event = Do sid (MqSetattr desc nonblock); rule = None } ∷ past.now.history) tables.new }
+{
+    tables.set_nonblock(desc, nonblock);
+}
+
 fn accept_close(tables: &mut Tables, config: &Config, past: &Trail, sid: Sid, desc: Desc)
     requires core { IsCore config.now past.now.history tables.old }
     requires accepted { verdict config.now past.now.history (Do sid (MqClose desc)) ≡ None }
@@ -107,6 +179,7 @@ fn accept_hangup(tables: &mut Tables, config: &Config, past: &Trail, sid: Sid)
 }
 
 fn accept_open(
+    alloc: Global,
     tables: &mut Tables,
     config: &Config,
     past: &Trail,
@@ -119,8 +192,9 @@ fn accept_open(
     ensures ok { OnOk result (Agrees config.now (record { event = Do sid (MqOpen asked.now); rule = None } ∷ past.now.history) tables.new) }
     ensures err { OnErr result (tables.new ≡ tables.old) }
 {
+    let nonblock = asked.flags.is_nonblock();
     if let Some(object) = tables.names(Family::Mq).get(&asked.name) {
-        tables.open_found(sid, object, asked.access)?;
+        tables.open_found(sid, object, asked.access, nonblock)?;
         return Ok(());
     }
     let Some(session) = tables.session(sid) else {
@@ -131,7 +205,15 @@ fn accept_open(
     };
     let object = new_object(config, asked, who);
     let facts = new_facts(asked, session.mask, who);
-    tables.open_created(sid, &asked.name, asked.access, object, facts)?;
+    tables.open_created(
+        alloc,
+        sid,
+        &asked.name,
+        asked.access,
+        nonblock,
+        object,
+        facts,
+    )?;
     Ok(())
 }
 

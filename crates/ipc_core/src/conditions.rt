@@ -1,15 +1,17 @@
 //! The conditions under which rules forbid.
 
-ghost use Rattle.std.specs.Prelude.{◌≡◌, ◌&&◌, find, nat_le, not, is_some, is_none, count_by, option_and_then};
+ghost use Rattle.std.specs.Prelude.{◌≡◌, ◌&&◌, ◌==◌, find, nat_le, nat_lt, not, length, is_some, is_none, count_by, option_and_then};
 ghost use Rattle.std.specs.Option.{option_map, option_copied};
 ghost use Rattle.ipc_terms.specs.Flags.{has_create, has_exclusive};
 ghost use Rattle.ipc_access.specs.Users.{cred_of};
-ghost use Rattle.ipc_policy.specs.Rules.{denied, denied_at, removal_denied, bits_wanted, out_of_range};
-ghost use Rattle.ipc_core.specs.Kept.{cred_at, live_at, facts_at, is_held_queue, is_of};
+ghost use Rattle.ipc_queue.specs.Tickets.{is_full_of};
+ghost use Rattle.ipc_policy.specs.Rules.{there_is, denied, denied_at, removal_denied, reads_only, writes_only, bits_wanted, out_of_range};
+ghost use Rattle.ipc_core.specs.Kept.{cred_at, live_at, facts_at, is_held_queue, is_of, object_of, queue_of};
 
 use crate::tables::Tables;
 use ipc_access::{Cred, grants, may_remove};
-use ipc_policy::Config;
+use ipc_policy::{Config, Held, Object};
+use ipc_queue::Queue;
 use ipc_terms::{Access, Attributes, Desc, Facts, Family, QueueOpen, Rule, Sid, Uid};
 
 /// The rule of the first condition that holds.
@@ -57,6 +59,80 @@ pub fn holds_queue(tables: &Tables, sid: Sid, desc: Desc) -> bool
     };
     match tables.object(held.object) {
         Some(made) => held.session.0 == sid.0 && matches!(made.object.family, Family::Mq),
+        None => false,
+    }
+}
+
+/// The object that a description gives, if it is held.
+pub fn object_of(tables: &Tables, held: Option<Held>) -> Option<Object>
+    ensures { result ≡ object_of tables.now.objects held }
+{
+    tables.object(held?.object).map(|made| made.object)
+}
+
+/// The queue that a description gives, if it is held.
+pub fn queue_of<'a>(tables: &'a Tables, held: Option<Held>) -> Option<&'a Queue>
+    ensures { option_copied result ≡ queue_of tables.now.contents held }
+{
+    tables.queue(held?.object)
+}
+
+/// Whether a description is held that was opened for reading alone.
+pub fn is_read_only(held: Option<Held>) -> bool
+    ensures { result ≡ there_is (λ x. reads_only x.access) held }
+{
+    match held {
+        Some(held) => matches!(held.access, Access::Read),
+        None => false,
+    }
+}
+
+/// Whether a description is held that was opened for writing alone.
+pub fn is_write_only(held: Option<Held>) -> bool
+    ensures { result ≡ there_is (λ x. writes_only x.access) held }
+{
+    match held {
+        Some(held) => matches!(held.access, Access::Write),
+        None => false,
+    }
+}
+
+/// Whether there is a queue whose messages may not be so long.
+pub fn is_too_long(object: Option<Object>, length: usize) -> bool
+    ensures { result ≡ there_is (λ x. nat_lt x.attributes.msgsize length) object }
+{
+    match object {
+        Some(object) => (object.attributes.msgsize as usize) < length,
+        None => false,
+    }
+}
+
+/// Whether there is a queue whose longest message has no place in so many bytes.
+pub fn is_too_short(object: Option<Object>, length: u32) -> bool
+    ensures { result ≡ there_is (λ x. nat_lt length x.attributes.msgsize) object }
+{
+    match object {
+        Some(object) => length < object.attributes.msgsize,
+        None => false,
+    }
+}
+
+/// Whether there is a queue, and it has as many messages as it may.
+pub fn is_full(queue: Option<&Queue>) -> bool
+    ensures { result ≡ there_is is_full_of (option_copied queue.entry) }
+{
+    match queue {
+        Some(queue) => queue.is_full(),
+        None => false,
+    }
+}
+
+/// Whether there is a queue, and it has no messages.
+pub fn is_empty(queue: Option<&Queue>) -> bool
+    ensures { result ≡ there_is (λ q. length q.tickets == 0) (option_copied queue.entry) }
+{
+    match queue {
+        Some(queue) => queue.len() == 0,
         None => false,
     }
 }

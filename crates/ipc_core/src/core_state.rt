@@ -10,9 +10,9 @@ use crate::answer::{accepted_answers, caller_of, one};
 use crate::decide::decide;
 use crate::fault::{CoreFault, first_bad};
 use crate::tables::Tables;
-use crate::trail::Trail;
 use ipc_policy::Config;
 use ipc_terms::{Answer, Event, NoMemory, Record, Rule, Sid};
+use ipc_trail::Trail;
 use std::alloc::Global;
 use std::marker::Model;
 
@@ -95,7 +95,7 @@ impl Core {
         let given = self.answers_to(alloc, &event, rule)?;
         self.trail.reserve_one()?;
         if rule.is_none() {
-            accept(&mut self.tables, &self.config, &self.trail, &event)?;
+            accept(alloc, &mut self.tables, &self.config, &self.trail, &event)?;
         }
         self.trail.push_reserved(Record { event, rule });
         Ok(given)

@@ -1,22 +1,23 @@
 //! The verdict on an event: for each kind of event its rules, in the order of their numbers.
 
-ghost use Rattle.std.specs.Prelude.{◌≡◌};
+ghost use Rattle.std.specs.Prelude.{◌≡◌, Bool};
 ghost use Rattle.ipc_terms.specs.declared.record.Event.TheVariants.{Hello, Do, Hangup};
-ghost use Rattle.ipc_terms.specs.declared.call.Call.TheVariants.{Umask, MqOpen, MqClose, MqUnlink, ListNames, StatName};
+ghost use Rattle.ipc_terms.specs.declared.call.Call.TheVariants.{Umask, MqOpen, MqClose, MqSend, MqReceive, MqGetattr, MqSetattr, MqUnlink, ListNames, StatName};
 ghost use Rattle.ipc_terms.specs.declared.ids.Target.TheVariants.{Dir, Name as TargetName};
 ghost use Rattle.ipc_policy.specs.Verdict.{verdict};
 ghost use Rattle.ipc_core.specs.Agrees.{IsCore};
 
 use crate::conditions::{
     bits_of, cred, facts_of, first_of, holds_most, holds_queue, is_absent, is_creating, is_denied,
-    is_denied_at, is_known, is_live, is_new_denied, is_new_out_of_range, is_present,
-    is_removal_denied, is_unbound,
+    is_denied_at, is_empty, is_full, is_known, is_live, is_new_denied, is_new_out_of_range,
+    is_present, is_read_only, is_removal_denied, is_too_long, is_too_short, is_unbound,
+    is_write_only, object_of, queue_of,
 };
 use crate::tables::Tables;
-use crate::trail::Trail;
 use ipc_names::{has_form, is_long};
 use ipc_policy::Config;
-use ipc_terms::{Call, Desc, Event, Family, Mode, Name, QueueOpen, Rule, Sid, Target, Uid};
+use ipc_terms::{Bytes, Call, Desc, Event, Family, Mode, Name, QueueOpen, Rule, Sid, Target, Uid};
+use ipc_trail::Trail;
 
 /// The rule of the lowest number that forbids the event after this past, if one does.
 pub fn decide(config: &Config, past: &Trail, tables: &Tables, event: &Event) -> Option<Rule>
@@ -28,7 +29,17 @@ pub fn decide(config: &Config, past: &Trail, tables: &Tables, event: &Event) -> 
         Event::Do { sid, call } => match call {
             Call::Umask(mask) => decide_umask(config, past, tables, *sid, *mask),
             Call::MqOpen(asked) => decide_open(config, past, tables, *sid, asked),
-            Call::MqClose(desc) => decide_close(config, past, tables, *sid, *desc),
+            Call::MqClose(desc) | Call::MqGetattr(desc) | Call::MqSetattr { desc, .. } => {
+                decide_held(config, past, tables, *sid, *desc)
+            }
+            Call::MqSend {
+                desc,
+                priority,
+                bytes,
+            } => decide_send(config, past, tables, *sid, *desc, *priority, bytes),
+            Call::MqReceive { desc, length } => {
+                decide_receive(config, past, tables, *sid, *desc, *length)
+            }
             Call::MqUnlink(name) => decide_unlink(config, past, tables, *sid, name),
             Call::ListNames {
                 family,
@@ -60,19 +71,67 @@ fn decide_umask(
     first_of(&[(!is_live(tables, sid), Rule::NoSession)])
 }
 
-fn decide_close(
+/// The verdict on a close, and on a call that asks for a queue's attributes or sets them.
+fn decide_held(config: &Config, past: &Trail, tables: &Tables, sid: Sid, desc: Desc) -> Option<Rule>
+    requires { IsCore config.now past.now.history tables.now }
+    ensures close { result ≡ verdict config.now past.now.history (Do sid (MqClose desc)) }
+    ensures getattr { result ≡ verdict config.now past.now.history (Do sid (MqGetattr desc)) }
+    ensures setattr { (nonblock : Bool) → result ≡ verdict config.now past.now.history (Do sid (MqSetattr desc nonblock)) }
+{
+    first_of(&[
+        (!is_live(tables, sid), Rule::NoSession),
+        (!holds_queue(tables, sid, desc), Rule::BadDescr),
+    ])
+}
+
+fn decide_send(
     config: &Config,
     past: &Trail,
     tables: &Tables,
     sid: Sid,
     desc: Desc,
+    priority: u32,
+    bytes: &Bytes,
 ) -> Option<Rule>
     requires { IsCore config.now past.now.history tables.now }
-    ensures { result ≡ verdict config.now past.now.history (Do sid (MqClose desc)) }
+    ensures { result ≡ verdict config.now past.now.history (Do sid (MqSend desc priority bytes.now)) }
 {
+    let held = tables.descriptions().held_of(sid, desc);
+    let length = bytes.as_slice().len();
     first_of(&[
         (!is_live(tables, sid), Rule::NoSession),
         (!holds_queue(tables, sid, desc), Rule::BadDescr),
+        (is_read_only(held), Rule::NotForWrite),
+        (priority >= 32_768, Rule::PrioRange),
+        (
+            is_too_long(object_of(tables, held), length),
+            Rule::MessageLong,
+        ),
+        (is_full(queue_of(tables, held)), Rule::WouldBlock),
+    ])
+}
+
+fn decide_receive(
+    config: &Config,
+    past: &Trail,
+    tables: &Tables,
+    sid: Sid,
+    desc: Desc,
+    length: u32,
+) -> Option<Rule>
+    requires { IsCore config.now past.now.history tables.now }
+    ensures { result ≡ verdict config.now past.now.history (Do sid (MqReceive desc length)) }
+{
+    let held = tables.descriptions().held_of(sid, desc);
+    first_of(&[
+        (!is_live(tables, sid), Rule::NoSession),
+        (!holds_queue(tables, sid, desc), Rule::BadDescr),
+        (is_write_only(held), Rule::NotForRead),
+        (
+            is_too_short(object_of(tables, held), length),
+            Rule::BufferShort,
+        ),
+        (is_empty(queue_of(tables, held)), Rule::WouldBlock),
     ])
 }
 

@@ -1,3 +1,3 @@
-//! Laws of the policy, over every history of records.
+//! Laws of the policy, over every history of records; `bound` is over the legal ones.
 
-pub use ipc_policy::{grow, least, listed, quiet};
+pub use ipc_policy::{bound, grow, least, listed, quiet};

@@ -9,13 +9,11 @@ mod decide;
 mod descriptions;
 mod fault;
 pub mod laws;
-mod push;
 mod tables;
 #[cfg(test)]
 mod tests;
-mod trail;
 
 pub use core_state::Core;
 pub use fault::{CoreFault, Field};
 pub use ipc_policy::{Config, Held, Limits, Object};
-pub use trail::Trail;
+pub use ipc_trail::Trail;

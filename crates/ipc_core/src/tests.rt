@@ -1,12 +1,12 @@
 //! Each public function with ample memory, what no clause says (the texts of the faults), and
 //! worked opens.
 
-use crate::{Config, Core, CoreFault, Field, Limits, Trail, laws};
+use crate::{Config, Core, CoreFault, Field, Limits, laws};
 use bitflags::Flags;
 use ipc_access::Users;
 use ipc_terms::{
     Access, Answer, Attributes, Bytes, Call, Desc, Event, Family, Mode, Name, OpenFlags, QueueOpen,
-    Record, Rule, Sid, Target, Uid,
+    Rule, Sid, Target, Uid,
 };
 use std::alloc::Global;
 use std::process::Abort;
@@ -42,7 +42,7 @@ fn hello(uid: u32) -> Event {
     }
 }
 
-/// An event, with names as bytes, so that a table of events takes no memory.
+/// An event, with names and messages as bytes, so that a table of events takes no memory.
 #[derive(Clone, Copy)]
 enum Asked<'a> {
     Umask(u16),
@@ -51,6 +51,12 @@ enum Asked<'a> {
     Open(&'a [u8], OpenFlags, u16, Option<Attributes>),
     /// An open of what there is.
     Find(&'a [u8], Access),
+    /// A send by the description of a message of this priority and these bytes.
+    Send(u64, u32, &'a [u8]),
+    /// A receive by the description with room for so many bytes.
+    Receive(u64, u32),
+    Getattr(u64),
+    Setattr(u64, bool),
     Unlink(&'a [u8]),
     List(Family, u32, u16),
     StatDirectory(Family),
@@ -82,6 +88,20 @@ fn event(alloc: Global, sid: u64, asked: Asked) -> Result<Event, Fail> {
             mode: Mode(0),
             attributes: None,
         }),
+        Asked::Send(desc, priority, bytes) => Call::MqSend {
+            desc: Desc(desc),
+            priority,
+            bytes: Bytes::from_slice(alloc, bytes)?,
+        },
+        Asked::Receive(desc, length) => Call::MqReceive {
+            desc: Desc(desc),
+            length,
+        },
+        Asked::Getattr(desc) => Call::MqGetattr(Desc(desc)),
+        Asked::Setattr(desc, nonblock) => Call::MqSetattr {
+            desc: Desc(desc),
+            nonblock,
+        },
         Asked::Unlink(bytes) => Call::MqUnlink(name(alloc, bytes)?),
         Asked::List(family, start, count) => Call::ListNames {
             family,
@@ -105,13 +125,19 @@ fn create_with(name: &[u8], maxmsg: u32, msgsize: u32) -> Asked {
     Asked::Open(name, OpenFlags::CREATE, 0o600, Some(attributes))
 }
 
-/// An answer, with names as bytes.
+/// An answer, with names and messages as bytes.
 #[derive(Clone, Copy, Debug)]
 enum Wanted<'a> {
     Nothing,
     Done,
     Opened(u64),
     Mask(u16),
+    Sent,
+    /// The priority and the bytes.
+    Received(u32, &'a [u8]),
+    /// Whether calls are refused where they would wait, how many messages the queue may have and
+    /// how long, and how many it has.
+    Attrs(bool, u32, u32, u32),
     /// The names, one after the other.
     Names(&'a [u8]),
     Stat(u32, u32, u16),
@@ -125,6 +151,25 @@ fn is_wanted(given: &Answer, wanted: Wanted) -> bool {
         Wanted::Done => matches!(given, Answer::Done),
         Wanted::Opened(desc) => matches!(given, Answer::Opened(d) if d.0 == desc),
         Wanted::Mask(mask) => matches!(given, Answer::Mask(m) if m.0 == mask),
+        Wanted::Sent => matches!(given, Answer::Sent),
+        Wanted::Received(priority, message) => match given {
+            Answer::Received { priority: p, bytes } => {
+                *p == priority && bytes.as_slice() == message
+            }
+            _ => false,
+        },
+        Wanted::Attrs(flag, maxmsg, msgsize, count) => match given {
+            Answer::Attrs {
+                nonblock,
+                attributes,
+                messages,
+            } => {
+                *nonblock == flag
+                    && *attributes == Attributes { maxmsg, msgsize }
+                    && *messages == count
+            }
+            _ => false,
+        },
         Wanted::Names(bytes) => match given {
             Answer::Names(names) => are_names(names.as_slice(), bytes),
             _ => false,
@@ -263,34 +308,12 @@ fn a_run_answers_and_records_each_event(rt: HostRuntime) -> Result<(), Fail> {
 }
 
 #[test]
-fn a_trail_grows_where_room_was_reserved(rt: HostRuntime) -> Result<(), Fail> {
-    let mut trail = Trail::new(rt.alloc());
-    assert_eq!(rt; trail.len(), 0);
-    trail.reserve_one()?;
-    trail.push_reserved(Record {
-        event: hello(0),
-        rule: None,
-    });
-    assert_eq!(rt; trail.len(), 1);
-    let first = trail.get(0).ok_or("no record")?;
-    assert!(rt;
-        matches!(
-            &first.event,
-            Event::Hello {
-                found: Some(Uid(0))
-            }
-        )
-    );
-    assert_eq!(rt; first.rule, None);
-    Ok(())
-}
-
-#[test]
 fn the_laws_are_there(rt: HostRuntime) {
     laws::least();
     laws::quiet();
     laws::grow();
     laws::listed();
+    laws::bound();
 }
 
 #[test]
@@ -520,6 +543,91 @@ fn directories_and_names_have_facts(rt: HostRuntime) -> Result<(), Fail> {
             Asked::StatDirectory(Family::Mq),
             Wanted::Refused(Rule::NoSession),
         ),
+    ];
+    answers(&rt, rt.alloc(), &mut core, &rows)
+}
+
+#[test]
+fn the_greatest_priority_comes_out_first_and_then_the_oldest(rt: HostRuntime) -> Result<(), Fail> {
+    let mut core = core_of_three(rt.alloc())?;
+    let rows = [
+        (1, create_with(b"/q", 5, 3), Wanted::Opened(0)),
+        (0, Asked::Find(b"/q", Access::Read), Wanted::Opened(1)),
+        (1, Asked::Send(0, 1, b"a"), Wanted::Sent),
+        (1, Asked::Send(0, 32_767, b"b"), Wanted::Sent),
+        (1, Asked::Send(0, 1, b"\0\xff"), Wanted::Sent),
+        (1, Asked::Send(0, 32_767, b""), Wanted::Sent),
+        (0, Asked::Receive(1, 3), Wanted::Received(32_767, b"b")),
+        (1, Asked::Send(0, 0, b"xyz"), Wanted::Sent),
+        (1, Asked::Receive(0, 3), Wanted::Received(32_767, b"")),
+        (1, Asked::Unlink(b"/q"), Wanted::Done),
+        (1, create_with(b"/q", 5, 3), Wanted::Opened(2)),
+        (1, Asked::Receive(2, 3), Wanted::Refused(Rule::WouldBlock)),
+        (1, Asked::Receive(0, 4), Wanted::Received(1, b"a")),
+        (0, Asked::Receive(1, 3), Wanted::Received(1, b"\0\xff")),
+        (1, Asked::Receive(0, 3), Wanted::Received(0, b"xyz")),
+    ];
+    answers(&rt, rt.alloc(), &mut core, &rows)
+}
+
+#[test]
+fn attributes_are_told_of_a_description(rt: HostRuntime) -> Result<(), Fail> {
+    let mut core = core_of_three(rt.alloc())?;
+    let flags = OpenFlags::CREATE | OpenFlags::NONBLOCK;
+    let rows = [
+        (1, Asked::Open(b"/q", flags, 0o600, None), Wanted::Opened(0)),
+        (1, Asked::Find(b"/q", Access::Both), Wanted::Opened(1)),
+        (1, Asked::Getattr(0), Wanted::Attrs(true, 10, 8192, 0)),
+        (1, Asked::Send(1, 0, b"a"), Wanted::Sent),
+        (
+            1,
+            Asked::Setattr(1, true),
+            Wanted::Attrs(false, 10, 8192, 1),
+        ),
+        (
+            1,
+            Asked::Setattr(0, false),
+            Wanted::Attrs(true, 10, 8192, 1),
+        ),
+        (1, Asked::Getattr(1), Wanted::Attrs(true, 10, 8192, 1)),
+        (1, Asked::Getattr(0), Wanted::Attrs(false, 10, 8192, 1)),
+    ];
+    answers(&rt, rt.alloc(), &mut core, &rows)
+}
+
+#[test]
+fn sends_and_receives_are_refused(rt: HostRuntime) -> Result<(), Fail> {
+    let mut core = core_of_three(rt.alloc())?;
+    let bad = Wanted::Refused(Rule::BadDescr);
+    let block = Wanted::Refused(Rule::WouldBlock);
+    let rows = [
+        (1, create_with(b"/q", 1, 2), Wanted::Opened(0)),
+        (1, Asked::Find(b"/q", Access::Read), Wanted::Opened(1)),
+        (1, Asked::Find(b"/q", Access::Write), Wanted::Opened(2)),
+        (1, Asked::Receive(1, 2), block),
+        (1, Asked::Receive(1, 1), Wanted::Refused(Rule::BufferShort)),
+        (1, Asked::Receive(2, 1), Wanted::Refused(Rule::NotForRead)),
+        (
+            1,
+            Asked::Send(1, 32_768, b""),
+            Wanted::Refused(Rule::NotForWrite),
+        ),
+        (
+            1,
+            Asked::Send(2, 32_768, b"abc"),
+            Wanted::Refused(Rule::PrioRange),
+        ),
+        (
+            1,
+            Asked::Send(2, 32_767, b"abc"),
+            Wanted::Refused(Rule::MessageLong),
+        ),
+        (1, Asked::Send(2, 0, b"ab"), Wanted::Sent),
+        (1, Asked::Send(0, 0, b""), block),
+        (2, Asked::Send(0, 0, b""), bad),
+        (2, Asked::Receive(0, 2), bad),
+        (2, Asked::Getattr(0), bad),
+        (2, Asked::Setattr(0, true), bad),
     ];
     answers(&rt, rt.alloc(), &mut core, &rows)
 }

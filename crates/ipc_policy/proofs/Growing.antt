@@ -5,7 +5,7 @@ use Rattle.std.specs.Option.{option_or}
 use Rattle.ipc_terms.specs.declared.ids.Uid.{Uid}
 use Rattle.ipc_terms.specs.declared.ids.Family.{Family}
 use Rattle.ipc_terms.specs.Flags.{has_create, has_nonblock}
-use Rattle.ipc_terms.specs.declared.call.Call.TheVariants.{Umask, MqOpen, MqUnlink}
+use Rattle.ipc_terms.specs.declared.call.Call.TheVariants.{Umask, MqOpen, MqSetattr, MqUnlink}
 use Rattle.ipc_terms.specs.declared.record.Event.{Event}
 use Rattle.ipc_terms.specs.declared.record.Event.TheVariants.{Hello, Do, Hangup}
 use Rattle.ipc_policy.specs.History.{History, newest, kept, unended}
@@ -144,5 +144,6 @@ pub nonblock_grows : (h : History) (e : Event) (s d : ℕ) → is_nonblock (reco
 unfolding is_nonblock
 nonblock_grows h (Hello found) s d = refl
 nonblock_grows h (Do sid (MqOpen asked)) s d = nonblock_or (eqb sid.0 s && eqb (opens h) d) (has_nonblock asked.flags) false (newest (sets_nonblock s d) h)
+nonblock_grows h (Do sid (MqSetattr desc nonblock)) s d = nonblock_or (eqb sid.0 s && eqb desc.0 d) nonblock false (newest (sets_nonblock s d) h)
 nonblock_grows h (Do sid call) s d = refl
 nonblock_grows h (Hangup sid) s d = refl

@@ -7,7 +7,7 @@ use Rattle.ipc_terms.specs.declared.rule.Rule.{Rule}
 use Rattle.ipc_terms.specs.declared.ids.Sid.{Sid}
 use Rattle.ipc_terms.specs.declared.ids.Desc.{Desc}
 use Rattle.ipc_terms.specs.declared.call.QueueOpen.{QueueOpen}
-use Rattle.ipc_terms.specs.declared.call.Call.TheVariants.{Umask, MqOpen, MqClose, MqUnlink, ListNames, StatName}
+use Rattle.ipc_terms.specs.declared.call.Call.TheVariants.{Umask, MqOpen, MqClose, MqSend, MqReceive, MqGetattr, MqSetattr, MqUnlink, ListNames, StatName}
 use Rattle.ipc_terms.specs.declared.record.Event.{Event}
 use Rattle.ipc_terms.specs.declared.record.Record.{Record}
 use Rattle.ipc_terms.specs.declared.record.Event.TheVariants.{Hello, Do, Hangup}
@@ -217,6 +217,10 @@ count_grows h (Hello found) s = count_quiet h (Hello found) s refl (held_grows h
 count_grows h (Do sid (Umask mode)) s = count_quiet h (Do sid (Umask mode)) s refl (held_grows h (Do sid (Umask mode)))
 count_grows h (Do sid (MqOpen asked)) s = count_opened h sid asked s
 count_grows h (Do sid (MqClose desc)) s = count_closed h sid desc s
+count_grows h (Do sid (MqSend desc priority bytes)) s = count_quiet h (Do sid (MqSend desc priority bytes)) s refl (held_grows h (Do sid (MqSend desc priority bytes)))
+count_grows h (Do sid (MqReceive desc room)) s = count_quiet h (Do sid (MqReceive desc room)) s refl (held_grows h (Do sid (MqReceive desc room)))
+count_grows h (Do sid (MqGetattr desc)) s = count_quiet h (Do sid (MqGetattr desc)) s refl (held_grows h (Do sid (MqGetattr desc)))
+count_grows h (Do sid (MqSetattr desc nonblock)) s = count_quiet h (Do sid (MqSetattr desc nonblock)) s refl (held_grows h (Do sid (MqSetattr desc nonblock)))
 count_grows h (Do sid (MqUnlink name)) s = count_quiet h (Do sid (MqUnlink name)) s refl (held_grows h (Do sid (MqUnlink name)))
 count_grows h (Do sid (ListNames family start count)) s = count_quiet h (Do sid (ListNames family start count)) s refl (held_grows h (Do sid (ListNames family start count)))
 count_grows h (Do sid (StatName target)) s = count_quiet h (Do sid (StatName target)) s refl (held_grows h (Do sid (StatName target)))

@@ -4,7 +4,11 @@ pub mod Gathering
 pub mod Holding
 pub mod Growing
 pub mod Living
+pub mod Contents
+pub mod Sent
 pub mod Grown
 pub mod Known
+pub mod Creating
 pub mod Listing
 pub mod Refused
+pub mod Bindings

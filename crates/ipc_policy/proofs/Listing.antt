@@ -11,7 +11,7 @@ use Rattle.ipc_terms.specs.declared.ids.Family.{Family}
 use Rattle.ipc_terms.specs.declared.ids.Family.TheVariants.{Mq, Sem}
 use Rattle.ipc_terms.specs.declared.rule.Rule.{Rule}
 use Rattle.ipc_terms.specs.declared.call.QueueOpen.{QueueOpen}
-use Rattle.ipc_terms.specs.declared.call.Call.TheVariants.{Umask, MqOpen, MqClose, MqUnlink, ListNames, StatName}
+use Rattle.ipc_terms.specs.declared.call.Call.TheVariants.{Umask, MqOpen, MqClose, MqSend, MqReceive, MqGetattr, MqSetattr, MqUnlink, ListNames, StatName}
 use Rattle.ipc_terms.specs.declared.record.Event.{Event}
 use Rattle.ipc_terms.specs.declared.record.Event.TheVariants.{Hello, Do, Hangup}
 use Rattle.ipc_policy.specs.History.{History}
@@ -80,6 +80,10 @@ listed_more h f name known (Hello uid) = known
 listed_more h f name known (Do sid (Umask mode)) = known
 listed_more h f name known (Do sid (MqOpen asked)) = found_created h sid asked f name (is_new (queue_opening sid asked) (is_bound h)) refl known
 listed_more h f name known (Do sid (MqClose desc)) = known
+listed_more h f name known (Do sid (MqSend desc priority bytes)) = known
+listed_more h f name known (Do sid (MqReceive desc room)) = known
+listed_more h f name known (Do sid (MqGetattr desc)) = known
+listed_more h f name known (Do sid (MqSetattr desc nonblock)) = known
 listed_more h f name known (Do sid (MqUnlink given)) = found_unlinked h f name given known
 listed_more h f name known (Do sid (ListNames family start count)) = known
 listed_more h f name known (Do sid (StatName target)) = known

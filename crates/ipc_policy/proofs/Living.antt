@@ -10,7 +10,7 @@ use Rattle.ipc_terms.specs.declared.ids.Family.{Family}
 use Rattle.ipc_terms.specs.declared.ids.Family.TheVariants.{Mq, Sem}
 use Rattle.ipc_terms.specs.declared.rule.Rule.{Rule}
 use Rattle.ipc_terms.specs.declared.call.QueueOpen.{QueueOpen}
-use Rattle.ipc_terms.specs.declared.call.Call.TheVariants.{Umask, MqOpen, MqClose, MqUnlink, ListNames, StatName}
+use Rattle.ipc_terms.specs.declared.call.Call.TheVariants.{Umask, MqOpen, MqClose, MqSend, MqReceive, MqGetattr, MqSetattr, MqUnlink, ListNames, StatName}
 use Rattle.ipc_terms.specs.declared.record.Event.{Event}
 use Rattle.ipc_terms.specs.declared.record.Event.TheVariants.{Hello, Do, Hangup}
 use Rattle.ipc_policy.specs.History.{History, kept, unended, listed, gathered_below, any_below}
@@ -133,6 +133,10 @@ bindings_grow h (Hello found) f = bindings_quiet h (Hello found) f refl (λ o. k
 bindings_grow h (Do sid (Umask mode)) f = bindings_quiet h (Do sid (Umask mode)) f refl (λ o. kept_all (named h o))
 bindings_grow h (Do sid (MqOpen asked)) f = bindings_created h sid asked f (is_new (queue_opening sid asked) (is_bound h)) refl
 bindings_grow h (Do sid (MqClose desc)) f = bindings_quiet h (Do sid (MqClose desc)) f refl (λ o. kept_all (named h o))
+bindings_grow h (Do sid (MqSend desc priority bytes)) f = bindings_quiet h (Do sid (MqSend desc priority bytes)) f refl (λ o. kept_all (named h o))
+bindings_grow h (Do sid (MqReceive desc room)) f = bindings_quiet h (Do sid (MqReceive desc room)) f refl (λ o. kept_all (named h o))
+bindings_grow h (Do sid (MqGetattr desc)) f = bindings_quiet h (Do sid (MqGetattr desc)) f refl (λ o. kept_all (named h o))
+bindings_grow h (Do sid (MqSetattr desc nonblock)) f = bindings_quiet h (Do sid (MqSetattr desc nonblock)) f refl (λ o. kept_all (named h o))
 bindings_grow h (Do sid (MqUnlink name)) f = bindings_unlinked h sid name f
 bindings_grow h (Do sid (ListNames family start count)) f = bindings_quiet h (Do sid (ListNames family start count)) f refl (λ o. kept_all (named h o))
 bindings_grow h (Do sid (StatName target)) f = bindings_quiet h (Do sid (StatName target)) f refl (λ o. kept_all (named h o))
@@ -156,6 +160,10 @@ names_grow h (Hello found) f = ap (map (λ (b : Binding). b.name)) (bindings_gro
 names_grow h (Do sid (Umask mode)) f = ap (map (λ (b : Binding). b.name)) (bindings_grow h (Do sid (Umask mode)) f)
 names_grow h (Do sid (MqOpen asked)) f = ap (map (λ (b : Binding). b.name)) (bindings_grow h (Do sid (MqOpen asked)) f) ∙ names_pushed (is_new (queue_opening sid asked) (is_bound h) && same_family Mq f) (record { name = asked.name; object = creations h }) (bindings h f)
 names_grow h (Do sid (MqClose desc)) f = ap (map (λ (b : Binding). b.name)) (bindings_grow h (Do sid (MqClose desc)) f)
+names_grow h (Do sid (MqSend desc priority bytes)) f = ap (map (λ (b : Binding). b.name)) (bindings_grow h (Do sid (MqSend desc priority bytes)) f)
+names_grow h (Do sid (MqReceive desc room)) f = ap (map (λ (b : Binding). b.name)) (bindings_grow h (Do sid (MqReceive desc room)) f)
+names_grow h (Do sid (MqGetattr desc)) f = ap (map (λ (b : Binding). b.name)) (bindings_grow h (Do sid (MqGetattr desc)) f)
+names_grow h (Do sid (MqSetattr desc nonblock)) f = ap (map (λ (b : Binding). b.name)) (bindings_grow h (Do sid (MqSetattr desc nonblock)) f)
 names_grow h (Do sid (MqUnlink name)) f = ap (map (λ (b : Binding). b.name)) (bindings_grow h (Do sid (MqUnlink name)) f) ∙ names_filtered f name (bindings h f)
 names_grow h (Do sid (ListNames family start count)) f = ap (map (λ (b : Binding). b.name)) (bindings_grow h (Do sid (ListNames family start count)) f)
 names_grow h (Do sid (StatName target)) f = ap (map (λ (b : Binding). b.name)) (bindings_grow h (Do sid (StatName target)) f)

@@ -1,7 +1,7 @@
 -- Open descriptions.
 use Rattle.std.specs.Prelude.{Bool, false, ℕ, ◌&&◌, ◌==◌, Option, Some, None, is_some, if◌then◌else◌, unwrap_or, option_and_then}
 use Rattle.ipc_terms.specs.Flags.{has_nonblock}
-use Rattle.ipc_terms.specs.declared.call.Call.TheVariants.{MqClose}
+use Rattle.ipc_terms.specs.declared.call.Call.TheVariants.{MqClose, MqSetattr}
 use Rattle.ipc_terms.specs.declared.record.Event.{Event}
 use Rattle.ipc_terms.specs.declared.record.Event.TheVariants.{Do, Hangup}
 use Rattle.ipc_policy.specs.declared.config.Held.{Held}
@@ -48,8 +48,9 @@ holds h s d = option_and_then (if_of s) (held h d)
 unfoldable pub held_count : History → ℕ → ℕ
 held_count h s = how_many_below (λ d. is_some (holds h s d)) (opens h)
 
--- the open of description d sets whether its calls are refused where they would wait
+-- the open of description d, and each later change of it, sets whether its calls are refused where they would wait
 abbrev pub sets_nonblock : ℕ → ℕ → Event → History → Option Bool
+sets_nonblock s d (Do sid (MqSetattr desc nonblock)) before = if (sid.0 == s) && (desc.0 == d) then Some nonblock else None
 sets_nonblock s d e before = set_by (opening e) where
   set_by : Option Opening → Option Bool
   set_by None = None

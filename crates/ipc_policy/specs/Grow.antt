@@ -1,12 +1,12 @@
 -- What one accepted event does to each value, by the values before it alone.
-use Rattle.std.specs.Prelude.{◌≡◌, Bool, false, ℕ, ◌+◌, ◌-◌, ◌%◌, ◌&&◌, ◌||◌, ◌==◌, not, List, [], ◌∷◌, ◌++◌, filter, Option, Some, None, is_some, if◌then◌else◌, unwrap_or}
+use Rattle.std.specs.Prelude.{◌≡◌, Bool, false, ℕ, ◌+◌, ◌-◌, ◌%◌, ◌&&◌, ◌||◌, ◌==◌, not, List, [], ◌∷◌, ◌++◌, length, filter, Option, Some, None, is_some, if◌then◌else◌, unwrap_or}
 use Rattle.std.specs.Option.{option_or, option_map}
 use Rattle.ipc_terms.specs.Flags.{has_create, has_nonblock}
 use Rattle.ipc_terms.specs.Names.{same_family, same_name}
 use Rattle.ipc_terms.specs.declared.binding.Binding.{Binding}
 use Rattle.ipc_terms.specs.declared.ids.Uid.{Uid}
 use Rattle.ipc_terms.specs.declared.ids.Family.{Family}
-use Rattle.ipc_terms.specs.declared.call.Call.TheVariants.{Umask, MqOpen, MqClose}
+use Rattle.ipc_terms.specs.declared.call.Call.TheVariants.{Umask, MqOpen, MqClose, MqSend, MqReceive, MqSetattr}
 use Rattle.ipc_terms.specs.declared.record.Event.{Event}
 use Rattle.ipc_terms.specs.declared.record.Event.TheVariants.{Hello, Do, Hangup}
 use Rattle.ipc_policy.specs.declared.config.Config.{Config}
@@ -17,6 +17,7 @@ use Rattle.ipc_policy.specs.Names.{Opening, Naming, opening, unlinking, unlinks,
 use Rattle.ipc_policy.specs.Objects.{object, facts, directory, made_by, first_facts}
 use Rattle.ipc_policy.specs.Descriptions.{opens, held, holds, held_count, is_nonblock, ends_held}
 use Rattle.ipc_policy.specs.Life.{named, bindings, names, alive, gives_object}
+use Rattle.ipc_policy.specs.Queues.{Act, Sends, Receives, Rests, contents, contents_after}
 
 abbrev pub hellos_after : Event → ℕ → ℕ
 hellos_after (Hello found) hellos = hellos + 1
@@ -86,6 +87,7 @@ held_count_after s (Hangup sid) holds was = if sid.0 == s then 0 else was
 held_count_after s _ holds was = was
 
 abbrev pub nonblock_after : ℕ → ℕ → Event → ℕ → Bool → Bool
+nonblock_after s d (Do sid (MqSetattr desc nonblock)) opens was = if (sid.0 == s) && (desc.0 == d) then nonblock else was
 nonblock_after s d e opens was = by_open (opening e) where
   by_open : Option Opening → Bool
   by_open None = was
@@ -121,6 +123,12 @@ names_after f e is_bound was = by_open (opening e) where
 abbrev pub alive_after : ℕ → Option Opening → (ℕ → Option Held) → ℕ → Bool
 alive_after o named held opens = is_some named || any_below (λ d. gives_object o (held d)) opens
 
+-- what an event does to queue o, by the place and by what is held
+abbrev pub act_by : ℕ → (ℕ → ℕ → Option Held) → ℕ → Event → Act
+act_by place holds o (Do sid (MqSend desc priority bytes)) = if gives_object o (holds sid.0 desc.0) then Sends (record { place = place; session = sid.0; desc = desc.0; priority = priority; bytes = bytes }) else Rests
+act_by place holds o (Do sid (MqReceive desc length')) = if gives_object o (holds sid.0 desc.0) then Receives else Rests
+act_by place holds o _ = Rests
+
 -- each value after an accepted event, by the values before it
 pub record Grows (c : Config) (h k : History) (e : Event) : Type 0 where
   pub hello_count : hellos k ≡ hellos_after e (hellos h)
@@ -137,6 +145,7 @@ pub record Grows (c : Config) (h k : History) (e : Event) : Type 0 where
   pub held_by : (d : ℕ) → held k d ≡ held_after d e (opens h) (bound h) (creations h) (held h d)
   pub count_of : (s : ℕ) → held_count k s ≡ held_count_after s e (holds h) (held_count h s)
   pub nonblock_of : (s d : ℕ) → is_nonblock k s d ≡ nonblock_after s d e (opens h) (is_nonblock h s d)
+  pub contents_of : (o : ℕ) → contents k o ≡ contents_after (act_by (length h) (holds h) o e) (contents h o)
   pub named_by : (o : ℕ) → named k o ≡ named_after o e (is_bound h) (creations h) (named h o)
   pub bindings_of : (f : Family) → bindings k f ≡ bindings_after f e (is_bound h) (creations h) (bindings h f)
   pub names_of : (f : Family) → names k f ≡ names_after f e (is_bound h) (names h f)

@@ -1,14 +1,13 @@
 -- A history is a list of records, the newest first. What came before a record is the list behind it.
 -- A question about a history is asked in one of three ways: what does the newest accepted event
 -- that says something about it say; what did the newest one begin, unless a later one ended it;
--- and how many accepted events are of a kind. Refused events say, begin and end nothing.
-use Rattle.std.specs.Prelude.{Bool, false, ℕ, zero, suc, ◌+◌, ◌&&◌, ◌||◌, ◌==◌, length, List, [], ◌∷◌, ◌++◌, Option, Some, None, is_none, if◌then◌else◌}
+-- and how many accepted events are of a kind. What stands in a queue alone is asked event by event.
+-- Refused events say, begin and end nothing.
+use Rattle.std.specs.Prelude.{Bool, false, ℕ, zero, suc, ◌+◌, ◌&&◌, ◌||◌, List, [], ◌∷◌, ◌++◌, Option, Some, None, is_none, if◌then◌else◌}
 use Rattle.std.specs.Option.{option_or}
+pub use Rattle.ipc_terms.specs.History.{History, record_at}
 use Rattle.ipc_terms.specs.declared.record.Event.{Event}
 use Rattle.ipc_terms.specs.declared.record.Record.{Record}
-
-abbrev pub History : Type 0
-History = List Record
 
 abbrev pub is_accepted : Record → Bool
 is_accepted r = is_none r.rule
@@ -58,8 +57,3 @@ listed (Some x) = x ∷ []
 abbrev pub gathered_below : {A : Type 0} → (ℕ → Option A) → ℕ → List A
 gathered_below give zero = []
 gathered_below give (suc n) = gathered_below give n ++ listed (give n)
-
--- the record that has so many records before it
-abbrev pub record_at : ℕ → History → Option Record
-record_at place [] = None
-record_at place (r ∷ before) = if length before == place then Some r else record_at place before

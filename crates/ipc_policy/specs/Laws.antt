@@ -1,5 +1,5 @@
--- Laws that hold of every history.
-use Rattle.std.specs.Prelude.{◌≡◌, ℕ, ◌≤◌, false, IsTrue, List, ◌∷◌, find, Some, MatchOption}
+-- Laws that hold of every history, or of every legal one where they say so.
+use Rattle.std.specs.Prelude.{◌≡◌, ℕ, ◌≤◌, false, IsTrue, List, ◌∷◌, find, Some, is_some, MatchOption}
 use Rattle.std.specs.Option.{option_map}
 use Rattle.ipc_terms.specs.Names.{same_name}
 use Rattle.ipc_terms.specs.Rules.{number_of}
@@ -13,8 +13,9 @@ use Rattle.ipc_policy.specs.Names.{is_bound, creations, bound}
 use Rattle.ipc_policy.specs.Objects.{object, facts, directory}
 use Rattle.ipc_policy.specs.Descriptions.{opens, held, holds, held_count, is_nonblock}
 use Rattle.ipc_policy.specs.Life.{named, bindings, names, alive}
+use Rattle.ipc_policy.specs.Queues.{contents}
 use Rattle.ipc_policy.specs.Rules.{forbids}
-use Rattle.ipc_policy.specs.Verdict.{verdict}
+use Rattle.ipc_policy.specs.Verdict.{verdict, Legal}
 
 -- the rule forbids the event, and no rule of a lower number does
 pub record IsLeastForbidding (c : Config) (h : History) (e : Event) (least : Rule) : Type 0 where
@@ -49,6 +50,7 @@ pub record SameValues (c : Config) (h k : History) : Type 0 where
   pub bindings : (f : Family) → bindings h f ≡ bindings k f
   pub names : (f : Family) → names h f ≡ names k f
   pub alive : (o : ℕ) → alive h o ≡ alive k o
+  pub contents : (o : ℕ) → contents h o ≡ contents k o
 
 -- a refused event changes no value
 abbrev pub RefusedIsQuiet : Type 0
@@ -61,3 +63,9 @@ abbrev pub ListedIsBound : Type 0
 ListedIsBound =
     (h : History) (f : Family) (name : List ℕ) →
     option_map (λ b. b.object) (find (λ b. same_name b.name name) (bindings h f)) ≡ bound h f name
+
+-- in a legal history what a name is bound to is an object, and it has an owner, a group and a mode
+abbrev pub BoundIsMade : Type 0
+BoundIsMade =
+    (c : Config) (h : History) (f : Family) (name : List ℕ) (o : ℕ) → Legal c h → bound h f name ≡ Some o →
+    IsTrue (is_some (object c h o)) × IsTrue (is_some (facts c h o))

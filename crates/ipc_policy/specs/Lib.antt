@@ -4,6 +4,7 @@ pub mod Names
 pub mod Objects
 pub mod Descriptions
 pub mod Life
+pub mod Queues
 pub mod Rules
 pub mod Verdict
 pub mod Laws

@@ -1,16 +1,18 @@
 -- What each rule forbids. A condition that speaks of a user, an object or a description holds only
 -- where there is one, but for the rules 8 and 31.
-use Rattle.std.specs.Prelude.{Bool, false, ℕ, ◌&&◌, ◌||◌, ◌==◌, not, nat_lt, nat_le, Option, Some, None, is_none, if◌then◌else◌, option_and_then}
+use Rattle.std.specs.Prelude.{Bool, true, false, ℕ, ◌&&◌, ◌||◌, ◌==◌, not, nat_lt, nat_le, length, Option, Some, None, is_none, if◌then◌else◌, option_and_then}
 use Rattle.ipc_terms.specs.Flags.{has_create, has_exclusive}
 use Rattle.ipc_terms.specs.Names.{same_family, has_name_form, is_long_name}
 use Rattle.ipc_terms.specs.declared.rule.Rule.{Rule}
-use Rattle.ipc_terms.specs.declared.rule.Rule.TheVariants.{NoSession, NameForm, NameLong, BadDescr, DirSearch, DirRead, Absent, Present, ModeDenied, DirWrite, Sticky, AttrRange, DescrLimit, BadKey}
+use Rattle.ipc_terms.specs.declared.rule.Rule.TheVariants.{NoSession, NameForm, NameLong, BadDescr, NotForWrite, NotForRead, DirSearch, DirRead, Absent, Present, ModeDenied, DirWrite, Sticky, AttrRange, DescrLimit, PrioRange, MessageLong, BufferShort, WouldBlock, BadKey}
+use Rattle.ipc_terms.specs.declared.ids.Desc.{Desc}
 use Rattle.ipc_terms.specs.declared.ids.Family.{Family}
 use Rattle.ipc_terms.specs.declared.ids.Family.TheVariants.{Mq}
 use Rattle.ipc_terms.specs.declared.call.Access.{Access}
 use Rattle.ipc_terms.specs.declared.call.Access.TheVariants.{Read, Write, Both}
 use Rattle.ipc_terms.specs.declared.call.Attributes.{Attributes}
-use Rattle.ipc_terms.specs.declared.call.Call.TheVariants.{MqClose, ListNames}
+use Rattle.ipc_terms.specs.declared.call.Call.{Call}
+use Rattle.ipc_terms.specs.declared.call.Call.TheVariants.{MqClose, MqSend, MqReceive, MqGetattr, MqSetattr, ListNames}
 use Rattle.ipc_terms.specs.declared.record.Event.{Event}
 use Rattle.ipc_terms.specs.declared.record.Event.TheVariants.{Hello, Do, Hangup}
 use Rattle.ipc_access.specs.declared.class.Cred.{Cred}
@@ -25,6 +27,7 @@ use Rattle.ipc_policy.specs.Sessions.{live, cred}
 use Rattle.ipc_policy.specs.Names.{opening, unlinking, naming, is_bound, creating, bound, Opening}
 use Rattle.ipc_policy.specs.Objects.{object, facts, directory}
 use Rattle.ipc_policy.specs.Descriptions.{holds, held_count}
+use Rattle.ipc_policy.specs.Queues.{contents}
 
 -- there is a user, and what has these facts does not grant it what is wanted: read is 4, write 2, search 1
 abbrev pub denied : Option Cred → Facts → ℕ → Bool
@@ -65,9 +68,40 @@ abbrev pub is_of_family : Family → Option Object → Bool
 is_of_family family None = false
 is_of_family family (Some x) = same_family x.family family
 
+-- what session s has by description d
+abbrev pub object_held : Config → History → ℕ → ℕ → Option Object
+object_held c h s d = option_and_then (λ x. object c h x.object) (holds h s d)
+
 -- session s does not hold description d, or it gives no object of the family
 abbrev pub not_held : Config → History → ℕ → Family → ℕ → Bool
-not_held c h s family d = not (is_of_family family (option_and_then (λ x. object c h x.object) (holds h s d)))
+not_held c h s family d = not (is_of_family family (object_held c h s d))
+
+-- the queue's description that a call names, if it names one
+abbrev pub queue_named : Call → Option Desc
+queue_named (MqClose desc) = Some desc
+queue_named (MqSend desc priority bytes) = Some desc
+queue_named (MqReceive desc length') = Some desc
+queue_named (MqGetattr desc) = Some desc
+queue_named (MqSetattr desc nonblock) = Some desc
+queue_named _ = None
+
+-- the access does not let send
+abbrev pub reads_only : Access → Bool
+reads_only Read = true
+reads_only _ = false
+
+-- the access does not let receive
+abbrev pub writes_only : Access → Bool
+writes_only Write = true
+writes_only _ = false
+
+-- the object has as many messages as it may
+abbrev pub is_full : Config → History → ℕ → Bool
+is_full c h o = there_is (λ x. nat_le x.attributes.maxmsg (length (contents h o))) (object c h o)
+
+-- the object has no messages
+abbrev pub is_empty : Config → History → ℕ → Bool
+is_empty c h o = there_is (λ x. length (contents h o) == 0) (object c h o)
 
 -- 1: a call or a hang-up of a session that is not live
 unfoldable pub no_session : Config → History → Event → Bool
@@ -83,10 +117,20 @@ name_form c h e = there_is (λ what. not (has_name_form what.name)) (naming e)
 unfoldable pub name_long : Config → History → Event → Bool
 name_long c h e = there_is (λ what. is_long_name what.family what.name) (naming e)
 
--- 8: the session does not hold the description, or it gives an object of the other family
+-- 8: a call that names a queue's description, and the session does not hold it, or it gives an object of the other family
 unfoldable pub bad_descr : Config → History → Event → Bool
-bad_descr c h (Do sid (MqClose desc)) = not_held c h sid.0 Mq desc.0
+bad_descr c h (Do sid call) = there_is (λ desc. not_held c h sid.0 Mq desc.0) (queue_named call)
 bad_descr c h _ = false
+
+-- 9: a send by a description that was opened for reading alone
+unfoldable pub not_for_write : Config → History → Event → Bool
+not_for_write c h (Do sid (MqSend desc priority bytes)) = there_is (λ x. reads_only x.access) (holds h sid.0 desc.0)
+not_for_write c h _ = false
+
+-- 10: a receive by a description that was opened for writing alone
+unfoldable pub not_for_read : Config → History → Event → Bool
+not_for_read c h (Do sid (MqReceive desc length')) = there_is (λ x. writes_only x.access) (holds h sid.0 desc.0)
+not_for_read c h _ = false
 
 -- 11: a named call, and search on the family's directory is not granted
 unfoldable pub dir_search : Config → History → Event → Bool
@@ -131,6 +175,27 @@ attr_range c h e = there_is (λ asked. creating h asked && out_of_range c (cred 
 unfoldable pub descr_limit : Config → History → Event → Bool
 descr_limit c h e = there_is (λ asked. nat_le 1024 (held_count h asked.session.0)) (opening e)
 
+-- 25: a send with a priority of 32,768 or more
+unfoldable pub prio_range : Config → History → Event → Bool
+prio_range c h (Do sid (MqSend desc priority bytes)) = nat_le 32768 priority
+prio_range c h _ = false
+
+-- 26: a send that is longer than the queue's message size
+unfoldable pub message_long : Config → History → Event → Bool
+message_long c h (Do sid (MqSend desc priority bytes)) = there_is (λ x. nat_lt x.attributes.msgsize (length bytes)) (object_held c h sid.0 desc.0)
+message_long c h _ = false
+
+-- 27: a receive with a length below the queue's message size
+unfoldable pub buffer_short : Config → History → Event → Bool
+buffer_short c h (Do sid (MqReceive desc length')) = there_is (λ x. nat_lt length' x.attributes.msgsize) (object_held c h sid.0 desc.0)
+buffer_short c h _ = false
+
+-- 29: a send to a full queue, and a receive from an empty one
+unfoldable pub would_block : Config → History → Event → Bool
+would_block c h (Do sid (MqSend desc priority bytes)) = there_is (λ x. is_full c h x.object) (holds h sid.0 desc.0)
+would_block c h (Do sid (MqReceive desc length')) = there_is (λ x. is_empty c h x.object) (holds h sid.0 desc.0)
+would_block c h _ = false
+
 -- 31: a hello for no user of the file
 unfoldable pub bad_key : Config → History → Event → Bool
 bad_key c h (Hello found) = is_none (option_and_then (cred_of c.users) found)
@@ -142,6 +207,8 @@ forbids NoSession = no_session
 forbids NameForm = name_form
 forbids NameLong = name_long
 forbids BadDescr = bad_descr
+forbids NotForWrite = not_for_write
+forbids NotForRead = not_for_read
 forbids DirSearch = dir_search
 forbids DirRead = dir_read
 forbids Absent = absent
@@ -151,5 +218,9 @@ forbids DirWrite = dir_write
 forbids Sticky = sticky
 forbids AttrRange = attr_range
 forbids DescrLimit = descr_limit
+forbids PrioRange = prio_range
+forbids MessageLong = message_long
+forbids BufferShort = buffer_short
+forbids WouldBlock = would_block
 forbids BadKey = bad_key
 forbids _ = λ c h e. false

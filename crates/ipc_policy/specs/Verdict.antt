@@ -1,5 +1,5 @@
 -- The verdict on an event, what is answered, and which histories are legal.
-use Rattle.std.specs.Prelude.{◌≡◌, find, List, [], ◌∷◌, Option, Some, None, option_and_then}
+use Rattle.std.specs.Prelude.{◌≡◌, ℕ, find, List, [], ◌∷◌, length, Option, Some, None, option_and_then}
 use Rattle.ipc_terms.specs.Rules.{every_rule}
 use Rattle.ipc_terms.specs.declared.rule.Rule.{Rule}
 use Rattle.ipc_terms.specs.Pages.{page}
@@ -8,16 +8,19 @@ use Rattle.ipc_terms.specs.declared.ids.Target.{Target}
 use Rattle.ipc_terms.specs.declared.ids.Target.TheVariants.{Dir, Name}
 use Rattle.ipc_terms.specs.declared.facts.Facts.{Facts}
 use Rattle.ipc_terms.specs.declared.call.Answer.{Answer}
-use Rattle.ipc_terms.specs.declared.call.Answer.TheVariants.{Started, Done, Opened, Mask, Names, Stat, Refused}
-use Rattle.ipc_terms.specs.declared.call.Call.TheVariants.{Umask, MqOpen, MqClose, MqUnlink, ListNames, StatName}
+use Rattle.ipc_terms.specs.declared.call.Answer.TheVariants.{Started, Done, Opened, Mask, Sent, Received, Attrs, Names, Stat, Refused}
+use Rattle.ipc_terms.specs.declared.call.Call.TheVariants.{Umask, MqOpen, MqClose, MqSend, MqReceive, MqGetattr, MqSetattr, MqUnlink, ListNames, StatName}
 use Rattle.ipc_terms.specs.declared.record.Event.{Event}
 use Rattle.ipc_terms.specs.declared.record.Event.TheVariants.{Hello, Do, Hangup}
 use Rattle.ipc_policy.specs.declared.config.Config.{Config}
 use Rattle.ipc_policy.specs.History.{History}
 use Rattle.ipc_policy.specs.Sessions.{hellos, mask}
 use Rattle.ipc_policy.specs.Names.{bound}
-use Rattle.ipc_policy.specs.Objects.{facts, directory}
-use Rattle.ipc_policy.specs.Descriptions.{opens}
+use Rattle.ipc_policy.specs.declared.config.Held.{Held}
+use Rattle.ipc_policy.specs.declared.config.Object.{Object}
+use Rattle.ipc_policy.specs.Objects.{object, facts, directory}
+use Rattle.ipc_policy.specs.Descriptions.{opens, holds, is_nonblock}
+use Rattle.ipc_policy.specs.Queues.{Send, next, contents}
 use Rattle.ipc_policy.specs.Life.{names}
 use Rattle.ipc_policy.specs.Rules.{forbids}
 
@@ -41,12 +44,36 @@ abbrev pub told : Sid → Option Facts → List (Sid × Answer)
 told sid None = []
 told sid (Some found) = (sid, Stat found) ∷ []
 
+-- a session is given a message, where there is one
+abbrev pub given : Sid → Option Send → List (Sid × Answer)
+given sid None = []
+given sid (Some m) = (sid, Received m.priority m.bytes) ∷ []
+
+-- the message that session s takes by description d
+abbrev pub message_taken : History → ℕ → ℕ → Option Send
+message_taken h s d = option_and_then (λ x. next (contents h x.object)) (holds h s d)
+
+-- a session is told of the queue that it has by description d, where it has one
+abbrev pub attributes_told : Config → History → Sid → ℕ → List (Sid × Answer)
+attributes_told c h sid d = by_held (holds h sid.0 d) where
+  by_object : ℕ → Option Object → List (Sid × Answer)
+  by_object o None = []
+  by_object o (Some x) = (sid, Attrs (is_nonblock h sid.0 d) x.attributes (length (contents h o))) ∷ []
+
+  by_held : Option Held → List (Sid × Answer)
+  by_held None = []
+  by_held (Some x) = by_object x.object (object c h x.object)
+
 -- to whom an accepted event is answered, and what
 abbrev pub accepted_answers : Config → History → Event → List (Sid × Answer)
 accepted_answers c h (Hello found) = (record { 0 = hellos h }, Started (record { 0 = hellos h })) ∷ []
 accepted_answers c h (Do sid (Umask mask')) = (sid, Mask (record { 0 = mask h sid.0 })) ∷ []
 accepted_answers c h (Do sid (MqOpen asked)) = (sid, Opened (record { 0 = opens h })) ∷ []
 accepted_answers c h (Do sid (MqClose desc)) = (sid, Done) ∷ []
+accepted_answers c h (Do sid (MqSend desc priority bytes)) = (sid, Sent) ∷ []
+accepted_answers c h (Do sid (MqReceive desc length')) = given sid (message_taken h sid.0 desc.0)
+accepted_answers c h (Do sid (MqGetattr desc)) = attributes_told c h sid desc.0
+accepted_answers c h (Do sid (MqSetattr desc nonblock)) = attributes_told c h sid desc.0
 accepted_answers c h (Do sid (MqUnlink name)) = (sid, Done) ∷ []
 accepted_answers c h (Do sid (ListNames family start count)) = (sid, Names (page start count (names h family))) ∷ []
 accepted_answers c h (Do sid (StatName target)) = told sid (facts_meant c h target)

@@ -1,12 +1,12 @@
 -- The lines of answers.
-use Rattle.std.specs.Prelude.{ℕ, ◌-◌, List, ◌++◌, length, flat_map, codes}
+use Rattle.std.specs.Prelude.{ℕ, ◌-◌, List, ◌++◌, length, flat_map, codes, if◌then◌else◌}
 use Rattle.std.specs.Prelude.{replicate, false}
 use Rattle.std.specs.Fmt.{decimal, digits}
 use Rattle.ipc_terms.specs.Rules.{number_of, error_word}
 use Rattle.ipc_terms.specs.declared.rule.Rule.{Rule}
 use Rattle.ipc_terms.specs.declared.rule.Rule.TheVariants as rule
 use Rattle.ipc_terms.specs.declared.call.Answer.{Answer}
-use Rattle.ipc_terms.specs.declared.call.Answer.TheVariants.{Started, Done, Opened, Mask, Names, Stat, Refused}
+use Rattle.ipc_terms.specs.declared.call.Answer.TheVariants.{Started, Done, Opened, Mask, Sent, Received, Attrs, Names, Stat, Refused}
 use Rattle.ipc_script.specs.WordsPrinting.{printed_bytes}
 
 -- each rule's name
@@ -57,6 +57,11 @@ answer_line (Started session) = codes "started " ++ decimal session.0
 answer_line Done = codes "done"
 answer_line (Opened description) = codes "opened " ++ decimal description.0
 answer_line (Mask mask) = codes "mask " ++ octal_at_least 3 mask.0
+answer_line Sent = codes "sent"
+answer_line (Received priority bytes) = codes "received " ++ decimal priority ++ codes " " ++ printed_bytes bytes
+answer_line (Attrs nonblock attributes messages) =
+    codes "attrs " ++ decimal (if nonblock then 1 else 0) ++ codes " " ++ decimal attributes.maxmsg
+    ++ codes " " ++ decimal attributes.msgsize ++ codes " " ++ decimal messages
 answer_line (Names names) = codes "names " ++ decimal (length names) ++ spaced_names names
 answer_line (Stat facts) = codes "stat " ++ decimal facts.owner.0 ++ codes " " ++ decimal facts.group.0 ++ codes " " ++ octal_at_least 4 facts.mode.0
 answer_line (Refused rule) = codes "refused " ++ decimal (number_of rule) ++ codes " " ++ error_word rule ++ codes " " ++ rule_word rule

@@ -5,17 +5,19 @@ use Rattle.ipc_terms.specs.declared.call.QueueOpen.{QueueOpen}
 use Rattle.ipc_terms.specs.declared.call.Call.{Call}
 use Rattle.ipc_terms.specs.declared.call.Call.TheVariants as call
 use Rattle.ipc_terms.specs.declared.flags.OpenFlags.{OpenFlags}
+use Rattle.ipc_terms.specs.declared.ids.Desc.{Desc}
 use Rattle.ipc_terms.specs.declared.ids.Mode.{Mode}
 use Rattle.ipc_terms.specs.declared.ids.Target.{Target}
 use Rattle.ipc_terms.specs.declared.ids.Target.TheVariants as target
 use Rattle.ipc_script.specs.declared.words.faults.WordFault.{WordFault}
 use Rattle.ipc_script.specs.declared.words.faults.WordFault.TheVariants.{Usage, BadValue, NoMemory}
 use Rattle.ipc_script.specs.declared.words.entries.Entries.{Entries}
-use Rattle.ipc_script.specs.declared.words.entries.Entries.TheVariants.{Umask, MqOpen, MqClose, MqUnlink, Ls, Stat}
+use Rattle.ipc_script.specs.declared.words.entries.Entries.TheVariants.{Umask, MqOpen, MqClose, MqSend, MqReceive, MqGetattr, MqSetattr, MqUnlink, Ls, Stat}
 use Rattle.ipc_script.specs.declared.words.entries.ListEntries.{ListEntries}
 use Rattle.ipc_script.specs.declared.words.entries.OpenEntries.{OpenEntries}
+use Rattle.ipc_script.specs.declared.words.entries.SendEntries.{SendEntries}
 use Rattle.ipc_script.specs.WordsNumbers.{decimal_within, octal_mode}
-use Rattle.ipc_script.specs.WordsValues.{access_of_word, family_of_word, name_of_word}
+use Rattle.ipc_script.specs.WordsValues.{access_of_word, bytes_of_word, family_of_word, nonblock_of_word}
 use denote.Ref.{Bor}
 
 -- What stands at the arguments and options of `mq-open`.
@@ -29,6 +31,12 @@ pub record OpenWords : Type 0 where
   pub maxmsg : Option (List ℕ)
   pub msgsize : Option (List ℕ)
 
+-- What stands at the arguments of `mq-send`.
+pub record SendWords : Type 0 where
+  pub d : List ℕ
+  pub prio : List ℕ
+  pub bytes : List ℕ
+
 -- What stands at the arguments of `ls`.
 pub record ListWords : Type 0 where
   pub family : List ℕ
@@ -40,6 +48,10 @@ pub data CommandWords : Type 0 where
   umask : List ℕ → CommandWords
   mq_open : OpenWords → CommandWords
   mq_close : List ℕ → CommandWords
+  mq_send : SendWords → CommandWords
+  mq_receive : List ℕ → List ℕ → CommandWords
+  mq_getattr : List ℕ → CommandWords
+  mq_setattr : List ℕ → List ℕ → CommandWords
   mq_unlink : List ℕ → CommandWords
   ls : ListWords → CommandWords
   stat : List ℕ → Option (List ℕ) → CommandWords
@@ -83,7 +95,7 @@ flags_of_options creates exclusive nonblock =
 -- each argument of an open in this order
 unfoldable pub open_of_words : OpenWords → Meaning QueueOpen
 open_of_words words =
-    of_argument (codes "name") (name_of_word words.name) >>= λ name.
+    of_argument (codes "name") (bytes_of_word words.name) >>= λ name.
     of_argument (codes "access") (access_of_word words.access) >>= λ access.
     mode_of_option words.mode >>= λ mode.
     count_of_option (codes "maxmsg") words.maxmsg >>= λ maxmsg.
@@ -96,6 +108,32 @@ open_of_words words =
       mode = mode;
       attributes = attributes;
     })
+
+-- a description's number is a u64
+unfoldable pub description_of_word : List ℕ → Meaning Desc
+description_of_word d = of_argument (codes "d") (decimal_within (2 ^ 64 - 1) d) >>= λ number. Ok (record { 0 = number })
+
+-- each argument of a send in this order: the priority is a u32
+unfoldable pub send_of_words : SendWords → Meaning Call
+send_of_words words =
+    description_of_word words.d >>= λ desc.
+    of_argument (codes "prio") (decimal_within (2 ^ 32 - 1) words.prio) >>= λ priority.
+    of_argument (codes "bytes") (bytes_of_word words.bytes) >>= λ bytes.
+    Ok (call.MqSend desc priority bytes)
+
+-- a description and a length, which is a u32
+unfoldable pub receive_of_words : List ℕ → List ℕ → Meaning Call
+receive_of_words d len =
+    description_of_word d >>= λ desc.
+    of_argument (codes "len") (decimal_within (2 ^ 32 - 1) len) >>= λ length.
+    Ok (call.MqReceive desc length)
+
+-- a description, and whether its calls are refused where they would wait
+unfoldable pub setattr_of_words : List ℕ → List ℕ → Meaning Call
+setattr_of_words d how =
+    description_of_word d >>= λ desc.
+    of_argument (codes "how") (nonblock_of_word how) >>= λ nonblock.
+    Ok (call.MqSetattr desc nonblock)
 
 -- each argument of a listing in this order: the start is a u32, the count a u16
 unfoldable pub list_of_words : ListWords → Meaning Call
@@ -110,14 +148,18 @@ unfoldable pub target_of_words : List ℕ → Option (List ℕ) → Meaning Targ
 target_of_words family None = of_argument (codes "family") (family_of_word family) >>= λ family. Ok (target.Dir family)
 target_of_words family (Some name) =
     of_argument (codes "family") (family_of_word family) >>= λ family.
-    of_argument (codes "name") (name_of_word name) >>= λ name.
+    of_argument (codes "name") (bytes_of_word name) >>= λ name.
     Ok (target.Name family name)
 
 unfoldable pub call_of_command : CommandWords → Meaning Call
 call_of_command (umask octal) = of_argument (codes "octal") (octal_mode octal) >>= λ mask. Ok (call.Umask mask)
 call_of_command (mq_open words) = open_of_words words >>= λ asked. Ok (call.MqOpen asked)
-call_of_command (mq_close d) = of_argument (codes "d") (decimal_within (2 ^ 64 - 1) d) >>= λ number. Ok (call.MqClose (record { 0 = number }))
-call_of_command (mq_unlink name) = of_argument (codes "name") (name_of_word name) >>= λ name. Ok (call.MqUnlink name)
+call_of_command (mq_close d) = description_of_word d >>= λ desc. Ok (call.MqClose desc)
+call_of_command (mq_send words) = send_of_words words
+call_of_command (mq_receive d len) = receive_of_words d len
+call_of_command (mq_getattr d) = description_of_word d >>= λ desc. Ok (call.MqGetattr desc)
+call_of_command (mq_setattr d how) = setattr_of_words d how
+call_of_command (mq_unlink name) = of_argument (codes "name") (bytes_of_word name) >>= λ name. Ok (call.MqUnlink name)
 call_of_command (ls words) = list_of_words words
 call_of_command (stat family name) = target_of_words family name >>= λ asked. Ok (call.StatName asked)
 
@@ -149,6 +191,9 @@ open_words asked = record {
   msgsize = word_behind asked.msgsize;
 }
 
+abbrev pub send_words : SendEntries → SendWords
+send_words asked = record { d = asked.d.now; prio = asked.prio.now; bytes = asked.bytes.now }
+
 abbrev pub list_words : ListEntries → ListWords
 list_words asked = record { family = asked.family.now; start = asked.start.now; count = asked.count.now }
 
@@ -156,6 +201,10 @@ abbrev pub command_words : Entries → CommandWords
 command_words (Umask octal) = umask octal.now
 command_words (MqOpen asked) = mq_open (open_words asked)
 command_words (MqClose d) = mq_close d.now
+command_words (MqSend asked) = mq_send (send_words asked)
+command_words (MqReceive d len) = mq_receive d.now len.now
+command_words (MqGetattr d) = mq_getattr d.now
+command_words (MqSetattr d how) = mq_setattr d.now how.now
 command_words (MqUnlink name) = mq_unlink name.now
 command_words (Ls asked) = ls (list_words asked)
 command_words (Stat family name) = stat family.now (word_behind name)

@@ -12,7 +12,7 @@ use Rattle.ipc_terms.specs.declared.call.Call.{Call}
 use Rattle.ipc_script.specs.declared.words.entries.Entries.{Entries}
 use Rattle.ipc_script.specs.declared.words.faults.WordFault.{WordFault}
 use Rattle.ipc_script.specs.declared.words.faults.WordFault.TheVariants.{Usage, BadValue, NoMemory}
-use Rattle.ipc_script.specs.WordsCalls.{CommandWords, ListWords, OpenWords, command_words, Reads, call_of_command, ls, mq_close, mq_open, mq_unlink, stat, umask}
+use Rattle.ipc_script.specs.WordsCalls.{CommandWords, ListWords, OpenWords, SendWords, command_words, Reads, call_of_command, ls, mq_close, mq_getattr, mq_open, mq_receive, mq_send, mq_setattr, mq_unlink, stat, umask}
 
 -- an argument that must be given
 abbrev pub argument_rule : List ℕ → Rule
@@ -50,6 +50,18 @@ mq_open_shape = command_shape (codes "mq-open") (
 abbrev pub mq_close_shape : Shape
 mq_close_shape = command_shape (codes "mq-close") (argument_rule (codes "d") ∷ [])
 
+abbrev pub mq_send_shape : Shape
+mq_send_shape = command_shape (codes "mq-send") (argument_rule (codes "d") ∷ argument_rule (codes "prio") ∷ argument_rule (codes "bytes") ∷ [])
+
+abbrev pub mq_receive_shape : Shape
+mq_receive_shape = command_shape (codes "mq-receive") (argument_rule (codes "d") ∷ argument_rule (codes "len") ∷ [])
+
+abbrev pub mq_getattr_shape : Shape
+mq_getattr_shape = command_shape (codes "mq-getattr") (argument_rule (codes "d") ∷ [])
+
+abbrev pub mq_setattr_shape : Shape
+mq_setattr_shape = command_shape (codes "mq-setattr") (argument_rule (codes "d") ∷ argument_rule (codes "how") ∷ [])
+
 abbrev pub mq_unlink_shape : Shape
 mq_unlink_shape = command_shape (codes "mq-unlink") (argument_rule (codes "name") ∷ [])
 
@@ -75,7 +87,10 @@ outer_app = record {
 unfoldable pub grammar : App
 grammar = record {
   top = record outer_app.top { is_leaf = false };
-  subs = umask_shape ∷ mq_open_shape ∷ mq_close_shape ∷ mq_unlink_shape ∷ ls_shape ∷ stat_shape ∷ [];
+  subs =
+      umask_shape ∷ mq_open_shape ∷ mq_close_shape
+      ∷ mq_send_shape ∷ mq_receive_shape ∷ mq_getattr_shape ∷ mq_setattr_shape
+      ∷ mq_unlink_shape ∷ ls_shape ∷ stat_shape ∷ [];
 }
 
 -- ---- what clap found
@@ -96,6 +111,13 @@ open_of_rows rows = option_and_then (λ name. option_map (λ access. record {
   msgsize = first_of (codes "msgsize") rows;
 }) (first_of (codes "access") rows)) (first_of (codes "name") rows)
 
+unfoldable pub send_of_rows : List Row → Option SendWords
+send_of_rows rows = option_and_then (λ d. option_and_then (λ prio. option_map (λ bytes. record {
+  d = d;
+  prio = prio;
+  bytes = bytes;
+}) (first_of (codes "bytes") rows)) (first_of (codes "prio") rows)) (first_of (codes "d") rows)
+
 unfoldable pub list_of_rows : List Row → Option ListWords
 list_of_rows rows = option_and_then (λ family. option_and_then (λ start. option_map (λ count. record {
   family = family;
@@ -109,6 +131,10 @@ command_of_rows name rows =
     if bytes_eq name (codes "umask") then option_map umask (first_of (codes "octal") rows)
     else if bytes_eq name (codes "mq-open") then option_map mq_open (open_of_rows rows)
     else if bytes_eq name (codes "mq-close") then option_map mq_close (first_of (codes "d") rows)
+    else if bytes_eq name (codes "mq-send") then option_map mq_send (send_of_rows rows)
+    else if bytes_eq name (codes "mq-receive") then option_and_then (λ d. option_map (mq_receive d) (first_of (codes "len") rows)) (first_of (codes "d") rows)
+    else if bytes_eq name (codes "mq-getattr") then option_map mq_getattr (first_of (codes "d") rows)
+    else if bytes_eq name (codes "mq-setattr") then option_and_then (λ d. option_map (mq_setattr d) (first_of (codes "how") rows)) (first_of (codes "d") rows)
     else if bytes_eq name (codes "mq-unlink") then option_map mq_unlink (first_of (codes "name") rows)
     else if bytes_eq name (codes "ls") then option_map ls (list_of_rows rows)
     else if bytes_eq name (codes "stat") then option_map (λ family. stat family (first_of (codes "name") rows)) (first_of (codes "family") rows)

@@ -146,6 +146,20 @@ fn names_are_listed_and_unlinked(rt: HostRuntime) {
 }
 
 #[test]
+fn messages_are_sent_and_received(rt: HostRuntime) {
+    assert_writes(
+        &rt,
+        "a hello ka1\na mq-open /m rw --create\na mq-send 0 1 low\na mq-send 0 9 hex:00\na mq-getattr 0\na mq-setattr 0 nonblock\na mq-receive 0 8192\na mq-receive 0 8192\na mq-getattr 0\n",
+        "a started 0\na opened 0\na sent\na sent\na attrs 0 10 8192 2\na attrs 0 10 8192 2\na received 9 hex:00\na received 1 low\na attrs 1 10 8192 0\n",
+    );
+    assert_writes(
+        &rt,
+        "a hello ka1\na mq-open /m rw --create\na mq-send 0 one hi\na mq-send 0 0 hex:0\na mq-receive 0 8191\na mq-setattr 0 wait\na mq-getattr\n",
+        "a started 0\na opened 0\na fault value prio\na fault value bytes\na refused 27 EMSGSIZE BufferShort\na fault value how\na fault usage\n",
+    );
+}
+
+#[test]
 fn lines_are_words(rt: HostRuntime) {
     assert_writes(&rt, "\n# a hello ka1\n#\n", "");
     assert_writes(&rt, " \t\n", "- fault line\n");

@@ -21,14 +21,14 @@ mod values;
 use crate::words::hyphens::any_is_refused;
 use crate::words::parses::entries_of_words;
 pub use answers::line_of_answer;
-pub use entries::{Entries, ListEntries, OpenEntries, meant_call};
+pub use entries::{Entries, ListEntries, OpenEntries, SendEntries, meant_call};
 pub use faults::WordFault;
 use ipc_terms::Call;
 pub use numbers::{read_decimal, read_octal};
 pub use printing::print_bytes;
 pub use rules::name_of_rule;
 use std::alloc::Global;
-pub use values::{read_access, read_family, read_name};
+pub use values::{read_access, read_bytes, read_family, read_name, read_nonblock};
 
 /// The call that a command's words mean, as `mq-open /jobs rw --create`.
 ///

@@ -1,5 +1,6 @@
 //! What is asked, and what is answered.
 
+use crate::bytes::Bytes;
 use crate::facts::Facts;
 use crate::flags::OpenFlags;
 use crate::ids::{Desc, Family, Mode, Sid, Target};
@@ -40,6 +41,26 @@ pub enum Call {
     MqOpen(QueueOpen),
     /// Closes a queue's description (POSIX.1-2017, `mq_close`).
     MqClose(Desc),
+    /// Sends a message (POSIX.1-2017, `mq_send`). A greater priority comes out first.
+    MqSend {
+        desc: Desc,
+        priority: u32,
+        bytes: Bytes,
+    },
+    /// Takes the oldest message of the greatest priority (POSIX.1-2017, `mq_receive`). The caller
+    /// has room for so many bytes.
+    MqReceive {
+        desc: Desc,
+        length: u32,
+    },
+    /// Asks for a queue's attributes (POSIX.1-2017, `mq_getattr`).
+    MqGetattr(Desc),
+    /// Sets whether the calls by the description are refused where they would wait, and answers the
+    /// attributes before it (POSIX.1-2017, `mq_setattr`).
+    MqSetattr {
+        desc: Desc,
+        nonblock: bool,
+    },
     /// Leaves a queue's name unbound at once. The queue lives until its last description is closed
     /// (POSIX.1-2017, `mq_unlink`).
     MqUnlink(Name),
@@ -65,6 +86,20 @@ pub enum Answer {
     Opened(Desc),
     /// To a umask: the mask before it.
     Mask(Mode),
+    /// To a send: the message entered its queue.
+    Sent,
+    /// To a receive: the message.
+    Received {
+        priority: u32,
+        bytes: Bytes,
+    },
+    /// To a question about a queue: whether the calls by the description are refused where they
+    /// would wait, the attributes, and how many messages the queue has (`mq_attr`).
+    Attrs {
+        nonblock: bool,
+        attributes: Attributes,
+        messages: u32,
+    },
     /// To a listing: its names.
     Names(Names),
     /// To a stat: the owner, group and mode.

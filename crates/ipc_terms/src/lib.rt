@@ -9,6 +9,7 @@ mod facts;
 mod flags;
 mod ids;
 mod name;
+mod push;
 mod record;
 mod rule;
 #[cfg(test)]
@@ -22,5 +23,6 @@ pub use facts::Facts;
 pub use flags::OpenFlags;
 pub use ids::{Desc, Family, Gid, Mode, Sid, Target, Uid};
 pub use name::{Name, Names};
+pub use push::push_within;
 pub use record::{Event, Record};
 pub use rule::Rule;

@@ -1,6 +1,6 @@
 //! Each public function once, with ample memory.
 
-use crate::{Bytes, Name, Names, NoMemory, OpenFlags, Rule};
+use crate::{Bytes, Name, Names, NoMemory, OpenFlags, Rule, push_within};
 use bitflags::Flags;
 use std::alloc::Global;
 use std::test::Fail;
@@ -72,5 +72,14 @@ fn flags_are_bits(rt: HostRuntime) {
 fn want_of_memory_has_a_text(rt: HostRuntime) -> Result<(), Fail> {
     let fault = NoMemory;
     assert_eq!(rt; format!(in rt.alloc(); "{fault}")?.as_str(), "memory");
+    Ok(())
+}
+
+#[test]
+fn a_push_within_reserved_room_is_at_the_end(rt: HostRuntime) -> Result<(), Fail> {
+    let mut numbers = Vec::from_slice(rt.alloc(), [5, 6].as_slice())?;
+    numbers.reserve(1)?;
+    push_within(&mut numbers, 7);
+    assert_eq!(rt; numbers.as_slice(), [5, 6, 7].as_slice());
     Ok(())
 }

@@ -1,5 +1,11 @@
 //! Why the program ends.
 
+ghost use Rattle.std.specs.Prelude.{◌≡◌};
+ghost use Rattle.std.specs.IoError.{error_kind};
+ghost use Rattle.clap.specs.Words.{kind_of};
+ghost use Rattle.ipc_script.specs.declared.fault.ScriptFault.TheVariants.{Memory};
+ghost use Rattle.mqserve.specs.declared.fault.ProgramFault.TheVariants.{Script};
+ghost use Rattle.mqserve.specs.Faults.{of_arguments, of_reading};
 ghost use Rattle.mqserve.specs.Statuses.{IsStatus};
 
 use clap::error::ErrorKind;
@@ -40,12 +46,16 @@ impl ProgramFault {
 }
 
 impl From<AllocError> for ProgramFault {
+    ghost from_gives = { λ _ made. made ≡ Script Memory };
+
     fn from(_error: AllocError) -> Self {
         ProgramFault::Script(ScriptFault::Memory)
     }
 }
 
 impl From<clap::Error> for ProgramFault {
+    ghost from_gives = { λ error made. made ≡ of_arguments error (kind_of error) };
+
     fn from(error: clap::Error) -> Self {
         match error.kind() {
             ErrorKind::OutOfMemory => ProgramFault::Script(ScriptFault::Memory),
@@ -56,6 +66,8 @@ impl From<clap::Error> for ProgramFault {
 
 /// Of reading the arguments.
 impl From<io::Error> for ProgramFault {
+    ghost from_gives = { λ error made. made ≡ of_reading (error_kind error) };
+
     fn from(error: io::Error) -> Self {
         match error.kind() {
             io::ErrorKind::OutOfMemory => ProgramFault::Script(ScriptFault::Memory),
@@ -65,6 +77,8 @@ impl From<io::Error> for ProgramFault {
 }
 
 impl From<ScriptFault> for ProgramFault {
+    ghost from_gives = { λ fault made. made ≡ Script fault };
+
     fn from(fault: ScriptFault) -> Self {
         ProgramFault::Script(fault)
     }

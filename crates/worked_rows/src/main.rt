@@ -10,7 +10,7 @@ use row::judge;
 use std::io;
 
 /// The scripts, in the order in which they are run.
-const ROWS: [&str; 23] = [
+const ROWS: [&str; 32] = [
     "first_run",
     "present_before_mode",
     "name_forms",
@@ -23,6 +23,15 @@ const ROWS: [&str; 23] = [
     "name_made_again",
     "pages_and_targets",
     "thousand_names_a_page",
+    "rights_of_the_creating_open",
+    "old_queue_after_new_create",
+    "greatest_priority_first",
+    "message_sizes_and_room",
+    "messages_printed_as_pairs",
+    "nonblock_of_each_description",
+    "open_rights_outlive_mode_and_name",
+    "message_rules_in_order",
+    "messages_stay_in_their_queue",
     "users_found_by_key",
     "users_none",
     "users_most",

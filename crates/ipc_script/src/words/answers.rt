@@ -2,12 +2,12 @@
 
 ghost use Rattle.std.specs.Prelude.{◌≡◌, IfOk};
 ghost use Rattle.std.specs.String.{string_bytes};
-ghost use Rattle.ipc_terms.specs.declared.call.Answer.TheVariants.{Mask, Names, Refused, Stat};
+ghost use Rattle.ipc_terms.specs.declared.call.Answer.TheVariants.{Attrs, Mask, Names, Received, Refused, Stat};
 ghost use Rattle.ipc_script.specs.WordsAnswers.{answer_line, octal_at_least};
 
 use crate::words::printing::print_bytes;
 use crate::words::rules::name_of_rule;
-use ipc_terms::{Answer, Facts, Mode, Name, NoMemory, Rule};
+use ipc_terms::{Answer, Attributes, Bytes, Facts, Mode, Name, NoMemory, Rule};
 use std::alloc::Global;
 
 /// The line of an answer, without a line end.
@@ -20,6 +20,13 @@ pub fn line_of_answer(alloc: Global, answer: &Answer) -> Result<String, NoMemory
         Answer::Done => Ok(String::from_str(alloc, "done")?),
         Answer::Opened(description) => Ok(format!(in alloc; "opened {}", description.0)?),
         Answer::Mask(mask) => line_of_mask(alloc, *mask),
+        Answer::Sent => Ok(String::from_str(alloc, "sent")?),
+        Answer::Received { priority, bytes } => line_of_message(alloc, *priority, bytes),
+        Answer::Attrs {
+            nonblock,
+            attributes,
+            messages,
+        } => line_of_attributes(alloc, *nonblock, *attributes, *messages),
         Answer::Names(names) => line_of_names(alloc, names.as_slice()),
         Answer::Stat(facts) => line_of_stat(alloc, facts),
         Answer::Refused(rule) => line_of_refusal(alloc, *rule),
@@ -31,6 +38,31 @@ fn line_of_mask(alloc: Global, mask: Mode) -> Result<String, NoMemory>
     ensures { IfOk result (λ line. string_bytes line ≡ answer_line (Mask mask)) }
 {
     Ok(format!(in alloc; "mask {:03o}", mask.0)?)
+}
+
+#[tactic(auto, unfolding(crate::specs::WordsAnswers::answer_line))]
+fn line_of_message(alloc: Global, priority: u32, bytes: &Bytes) -> Result<String, NoMemory>
+    ensures { IfOk result (λ line. string_bytes line ≡ answer_line (Received priority bytes.now)) }
+{
+    let printed = print_bytes(alloc, bytes.as_slice())?;
+    Ok(format!(in alloc; "received {priority} {printed}")?)
+}
+
+#[tactic(auto, unfolding(crate::specs::WordsAnswers::answer_line))]
+fn line_of_attributes(
+    alloc: Global,
+    nonblock: bool,
+    attributes: Attributes,
+    messages: u32,
+) -> Result<String, NoMemory>
+    ensures { IfOk result (λ line. string_bytes line ≡ answer_line (Attrs nonblock attributes messages)) }
+{
+    Ok(format!(in alloc;
+        "attrs {} {} {} {messages}",
+        u8::from(nonblock),
+        attributes.maxmsg,
+        attributes.msgsize
+    )?)
 }
 
 #[tactic(auto, unfolding(crate::specs::WordsAnswers::answer_line))]

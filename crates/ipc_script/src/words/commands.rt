@@ -3,7 +3,7 @@
 ghost use Rattle.std.specs.Prelude.{◌≡◌, IfOk, false};
 ghost use Rattle.clap.specs.Simple.{app_of, shape_of};
 ghost use Rattle.clap.specs.Walk.{rule_of};
-ghost use Rattle.ipc_script.specs.WordsGrammar.{argument_rule, bare_app, flag_rule, grammar, ls_shape, mq_close_shape, mq_open_shape, mq_unlink_shape, option_rule, optional_rule, outer_app, stat_shape, umask_shape};
+ghost use Rattle.ipc_script.specs.WordsGrammar.{argument_rule, bare_app, flag_rule, grammar, ls_shape, mq_close_shape, mq_getattr_shape, mq_open_shape, mq_receive_shape, mq_send_shape, mq_setattr_shape, mq_unlink_shape, option_rule, optional_rule, outer_app, stat_shape, umask_shape};
 
 use clap::{Arg, ArgAction, Command};
 use std::alloc::{AllocError, Global};
@@ -17,6 +17,10 @@ pub fn whole_grammar<'a>(alloc: Global) -> Result<Command<'a>, AllocError>
         .subcommand(umask(alloc)?)?
         .subcommand(mq_open(alloc)?)?
         .subcommand(mq_close(alloc)?)?
+        .subcommand(mq_send(alloc)?)?
+        .subcommand(mq_receive(alloc)?)?
+        .subcommand(mq_getattr(alloc)?)?
+        .subcommand(mq_setattr(alloc)?)?
         .subcommand(mq_unlink(alloc)?)?
         .subcommand(ls(alloc)?)?
         .subcommand(stat(alloc)?)?;
@@ -60,6 +64,41 @@ fn mq_close<'a>(alloc: Global) -> Result<Command<'a>, AllocError>
     ensures { IfOk result (λ command. shape_of command ≡ mq_close_shape) }
 {
     let command = bare(alloc, "mq-close").arg(argument(alloc, "d"))?;
+    Ok(command)
+}
+
+fn mq_send<'a>(alloc: Global) -> Result<Command<'a>, AllocError>
+    ensures { IfOk result (λ command. shape_of command ≡ mq_send_shape) }
+{
+    let command = bare(alloc, "mq-send")
+        .arg(argument(alloc, "d"))?
+        .arg(argument(alloc, "prio"))?
+        .arg(argument(alloc, "bytes"))?;
+    Ok(command)
+}
+
+fn mq_receive<'a>(alloc: Global) -> Result<Command<'a>, AllocError>
+    ensures { IfOk result (λ command. shape_of command ≡ mq_receive_shape) }
+{
+    let command = bare(alloc, "mq-receive")
+        .arg(argument(alloc, "d"))?
+        .arg(argument(alloc, "len"))?;
+    Ok(command)
+}
+
+fn mq_getattr<'a>(alloc: Global) -> Result<Command<'a>, AllocError>
+    ensures { IfOk result (λ command. shape_of command ≡ mq_getattr_shape) }
+{
+    let command = bare(alloc, "mq-getattr").arg(argument(alloc, "d"))?;
+    Ok(command)
+}
+
+fn mq_setattr<'a>(alloc: Global) -> Result<Command<'a>, AllocError>
+    ensures { IfOk result (λ command. shape_of command ≡ mq_setattr_shape) }
+{
+    let command = bare(alloc, "mq-setattr")
+        .arg(argument(alloc, "d"))?
+        .arg(argument(alloc, "how"))?;
     Ok(command)
 }
 

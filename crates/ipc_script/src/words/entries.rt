@@ -1,11 +1,11 @@
 //! What stands at a command's arguments, and the call that it means.
 
 ghost use Rattle.std.specs.Prelude.{◌≡◌};
-ghost use Rattle.ipc_script.specs.WordsCalls.{command_words, list_words, open_words, word_behind, Reads, attributes_of_counts, call_of_command, count_of_option, flags_of_options, list_of_words, mode_of_option, open_of_words, target_of_words};
+ghost use Rattle.ipc_script.specs.WordsCalls.{command_words, list_words, open_words, send_words, word_behind, Reads, attributes_of_counts, call_of_command, count_of_option, description_of_word, flags_of_options, list_of_words, mode_of_option, open_of_words, receive_of_words, send_of_words, setattr_of_words, target_of_words};
 
 use crate::words::faults::WordFault;
 use crate::words::numbers::{read_count, read_decimal, read_octal, read_page_count};
-use crate::words::values::{read_access, read_family, read_name};
+use crate::words::values::{read_access, read_bytes, read_family, read_name, read_nonblock};
 use bitflags::Flags;
 use ipc_terms::{Attributes, Call, Desc, Mode, OpenFlags, QueueOpen, Target};
 use std::alloc::Global;
@@ -19,6 +19,18 @@ pub enum Entries<'a> {
     MqOpen(OpenEntries<'a>),
     MqClose {
         d: &'a str,
+    },
+    MqSend(SendEntries<'a>),
+    MqReceive {
+        d: &'a str,
+        len: &'a str,
+    },
+    MqGetattr {
+        d: &'a str,
+    },
+    MqSetattr {
+        d: &'a str,
+        how: &'a str,
     },
     MqUnlink {
         name: &'a str,
@@ -41,6 +53,14 @@ pub struct OpenEntries<'a> {
     pub mode: Option<&'a str>,
     pub maxmsg: Option<&'a str>,
     pub msgsize: Option<&'a str>,
+}
+
+/// The words of `mq-send`.
+#[derive(Clone, Copy)]
+pub struct SendEntries<'a> {
+    pub d: &'a str,
+    pub prio: &'a str,
+    pub bytes: &'a str,
 }
 
 /// The words of `ls`.
@@ -69,9 +89,16 @@ pub fn meant_call(alloc: Global, entries: &Entries) -> Result<Call, WordFault>
             Ok(Call::MqOpen(open))
         }
         Entries::MqClose { d } => {
-            let number = read_decimal(d, u64::MAX).ok_or(WordFault::BadValue("d"))?;
-            Ok(Call::MqClose(Desc(number)))
+            let desc = meant_description(d)?;
+            Ok(Call::MqClose(desc))
         }
+        Entries::MqSend(asked) => meant_send(alloc, asked),
+        Entries::MqReceive { d, len } => meant_receive(d, len),
+        Entries::MqGetattr { d } => {
+            let desc = meant_description(d)?;
+            Ok(Call::MqGetattr(desc))
+        }
+        Entries::MqSetattr { d, how } => meant_setattr(d, how),
         Entries::MqUnlink { name } => {
             let name = read_name(alloc, name)?.ok_or(WordFault::BadValue("name"))?;
             Ok(Call::MqUnlink(name))
@@ -101,6 +128,46 @@ fn meant_open(alloc: Global, asked: &OpenEntries) -> Result<QueueOpen, WordFault
         mode,
         attributes,
     })
+}
+
+#[tactic(auto, unfolding(crate::specs::WordsCalls::description_of_word))]
+fn meant_description(d: &str) -> Result<Desc, WordFault>
+    ensures { Reads (description_of_word d.now) result }
+{
+    let number = read_decimal(d, u64::MAX).ok_or(WordFault::BadValue("d"))?;
+    Ok(Desc(number))
+}
+
+#[tactic(auto, unfolding(crate::specs::WordsCalls::send_of_words))]
+fn meant_send(alloc: Global, asked: &SendEntries) -> Result<Call, WordFault>
+    ensures { Reads (send_of_words (send_words asked.now)) result }
+{
+    let desc = meant_description(asked.d)?;
+    let priority = read_count(asked.prio).ok_or(WordFault::BadValue("prio"))?;
+    let bytes = read_bytes(alloc, asked.bytes)?.ok_or(WordFault::BadValue("bytes"))?;
+    Ok(Call::MqSend {
+        desc,
+        priority,
+        bytes,
+    })
+}
+
+#[tactic(auto, unfolding(crate::specs::WordsCalls::receive_of_words))]
+fn meant_receive(d: &str, len: &str) -> Result<Call, WordFault>
+    ensures { Reads (receive_of_words d.now len.now) result }
+{
+    let desc = meant_description(d)?;
+    let length = read_count(len).ok_or(WordFault::BadValue("len"))?;
+    Ok(Call::MqReceive { desc, length })
+}
+
+#[tactic(auto, unfolding(crate::specs::WordsCalls::setattr_of_words))]
+fn meant_setattr(d: &str, how: &str) -> Result<Call, WordFault>
+    ensures { Reads (setattr_of_words d.now how.now) result }
+{
+    let desc = meant_description(d)?;
+    let nonblock = read_nonblock(how).ok_or(WordFault::BadValue("how"))?;
+    Ok(Call::MqSetattr { desc, nonblock })
 }
 
 #[tactic(auto, unfolding(crate::specs::WordsCalls::list_of_words))]

@@ -4,11 +4,11 @@ ghost use Rattle.std.specs.Prelude.{◌≡◌, map, option_and_then, option_map}
 ghost use Rattle.clap.specs.Simple.{subcommand_rows_of};
 ghost use Rattle.clap.specs.Walk.{first_of, rows_of};
 ghost use Rattle.clap.specs.Words.{found_of, kind_of};
-ghost use Rattle.ipc_script.specs.WordsCalls.{command_words, list_words, open_words, word_behind};
-ghost use Rattle.ipc_script.specs.WordsGrammar.{Finds, command_of_rows, fault_of_kind, is_given, list_of_rows, open_of_rows};
+ghost use Rattle.ipc_script.specs.WordsCalls.{command_words, list_words, open_words, send_words, word_behind};
+ghost use Rattle.ipc_script.specs.WordsGrammar.{Finds, command_of_rows, fault_of_kind, is_given, list_of_rows, open_of_rows, send_of_rows};
 
 use crate::words::commands::whole_grammar;
-use crate::words::entries::{Entries, ListEntries, OpenEntries};
+use crate::words::entries::{Entries, ListEntries, OpenEntries, SendEntries};
 use crate::words::faults::WordFault;
 use clap::error::ErrorKind;
 use clap::{ArgMatches, Error};
@@ -57,6 +57,18 @@ fn entries_of_command<'a>(command: &str, found: &ArgMatches<'a>) -> Option<Entri
         "mq-close" => Some(Entries::MqClose {
             d: word_at(found, "d")?,
         }),
+        "mq-send" => Some(Entries::MqSend(send_entries(found)?)),
+        "mq-receive" => Some(Entries::MqReceive {
+            d: word_at(found, "d")?,
+            len: word_at(found, "len")?,
+        }),
+        "mq-getattr" => Some(Entries::MqGetattr {
+            d: word_at(found, "d")?,
+        }),
+        "mq-setattr" => Some(Entries::MqSetattr {
+            d: word_at(found, "d")?,
+            how: word_at(found, "how")?,
+        }),
         "mq-unlink" => Some(Entries::MqUnlink {
             name: word_at(found, "name")?,
         }),
@@ -82,6 +94,17 @@ fn open_entries<'a>(found: &ArgMatches<'a>) -> Option<OpenEntries<'a>>
         mode: word_at(found, "mode"),
         maxmsg: word_at(found, "maxmsg"),
         msgsize: word_at(found, "msgsize"),
+    })
+}
+
+#[tactic(auto, unfolding(crate::specs::WordsGrammar::send_of_rows))]
+fn send_entries<'a>(found: &ArgMatches<'a>) -> Option<SendEntries<'a>>
+    ensures { option_map send_words result ≡ send_of_rows (rows_of (found_of found.now)) }
+{
+    Some(SendEntries {
+        d: word_at(found, "d")?,
+        prio: word_at(found, "prio")?,
+        bytes: word_at(found, "bytes")?,
     })
 }
 

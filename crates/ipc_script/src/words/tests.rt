@@ -54,6 +54,86 @@ fn close_reads_a_description(rt: HostRuntime) -> Result<(), Fail> {
 }
 
 #[test]
+fn send_reads_a_message(rt: HostRuntime) -> Result<(), Fail> {
+    for (words, description, wanted, message) in [
+        (["0", "0", "hi"], 0, 0, b"hi".as_slice()),
+        (
+            ["17", "32768", "nonblock"],
+            17,
+            32_768,
+            b"nonblock".as_slice(),
+        ),
+        (
+            ["18446744073709551615", "4294967295", "0"],
+            u64::MAX,
+            u32::MAX,
+            b"0".as_slice(),
+        ),
+        (["1", "2", "hex:"], 1, 2, b"".as_slice()),
+        (["1", "2", "hex:2d00ff"], 1, 2, [b'-', 0, 0xff].as_slice()),
+        (["1", "2", "é"], 1, 2, [0xc3, 0xa9].as_slice()),
+        (["1", "2", "HEX:2d"], 1, 2, b"HEX:2d".as_slice()),
+        (["1", "2", "hex"], 1, 2, b"hex".as_slice()),
+    ] {
+        match call_of_words(rt.alloc(), &["mq-send", words[0], words[1], words[2]])? {
+            Call::MqSend {
+                desc,
+                priority,
+                bytes,
+            } => {
+                assert_eq!(rt;
+                    (desc, priority),
+                    (Desc(description), wanted),
+                    "at {words:?}"
+                );
+                assert_eq!(rt; bytes.as_slice(), message, "at {words:?}");
+            }
+            _ => panic!(&rt; "another call"),
+        }
+    }
+    Ok(())
+}
+
+#[test]
+fn receive_reads_a_length(rt: HostRuntime) -> Result<(), Fail> {
+    for (words, wanted) in [
+        (["0", "0"], (Desc(0), 0)),
+        (["17", "8192"], (Desc(17), 8192)),
+        (
+            ["18446744073709551615", "4294967295"],
+            (Desc(u64::MAX), u32::MAX),
+        ),
+    ] {
+        match call_of_words(rt.alloc(), &["mq-receive", words[0], words[1]])? {
+            Call::MqReceive { desc, length } => {
+                assert_eq!(rt; (desc, length), wanted, "at {words:?}")
+            }
+            _ => panic!(&rt; "another call"),
+        }
+    }
+    Ok(())
+}
+
+#[test]
+fn attributes_are_asked_for_and_set(rt: HostRuntime) -> Result<(), Fail> {
+    for (word, number) in [("0", 0), ("17", 17), ("18446744073709551615", u64::MAX)] {
+        match call_of_words(rt.alloc(), &["mq-getattr", word])? {
+            Call::MqGetattr(desc) => assert_eq!(rt; desc, Desc(number), "at {word}"),
+            _ => panic!(&rt; "another call"),
+        }
+        for (how, wanted) in [("block", false), ("nonblock", true)] {
+            match call_of_words(rt.alloc(), &["mq-setattr", word, how])? {
+                Call::MqSetattr { desc, nonblock } => {
+                    assert_eq!(rt; (desc, nonblock), (Desc(number), wanted), "at {word} {how}")
+                }
+                _ => panic!(&rt; "another call"),
+            }
+        }
+    }
+    Ok(())
+}
+
+#[test]
 fn open_has_defaults(rt: HostRuntime) -> Result<(), Fail> {
     let open = open_of(rt.alloc(), &["mq-open", "/jobs", "r"])?;
     assert_eq!(rt; open.name.as_slice(), b"/jobs".as_slice());
@@ -208,6 +288,10 @@ fn hyphens_are_usage(rt: HostRuntime) {
     expect_usage(&rt, alloc, &["mq-open", "/a", "r", "--mode=0666"]);
     expect_usage(&rt, alloc, &["mq-open", "/a", "r", "--creat"]);
     expect_usage(&rt, alloc, &["mq-open", "-a", "r"]);
+    expect_usage(&rt, alloc, &["mq-send", "0", "0", "-"]);
+    expect_usage(&rt, alloc, &["mq-send", "0", "-1", "hi"]);
+    expect_usage(&rt, alloc, &["mq-receive", "0", "-1"]);
+    expect_usage(&rt, alloc, &["mq-setattr", "0", "--block"]);
     expect_usage(&rt, alloc, &["mq-unlink", "-a"]);
     expect_usage(&rt, alloc, &["stat", "mq", "-a"]);
     expect_usage(&rt, alloc, &["ls", "mq", "-1", "1"]);
@@ -240,6 +324,16 @@ fn other_arguments_are_usage(rt: HostRuntime) {
     expect_usage(&rt, alloc, &["umask", "022", "--create"]);
     expect_usage(&rt, alloc, &["mq-close"]);
     expect_usage(&rt, alloc, &["mq-close", "1", "2"]);
+    expect_usage(&rt, alloc, &["mq-send", "0", "0"]);
+    expect_usage(&rt, alloc, &["mq-send", "0", "0", "hi", "you"]);
+    expect_usage(&rt, alloc, &["mq-send", "0", "0", "hi", "--nonblock"]);
+    expect_usage(&rt, alloc, &["mq-receive", "0"]);
+    expect_usage(&rt, alloc, &["mq-receive", "0", "1", "2"]);
+    expect_usage(&rt, alloc, &["mq-getattr"]);
+    expect_usage(&rt, alloc, &["mq-getattr", "0", "1"]);
+    expect_usage(&rt, alloc, &["mq-setattr", "0"]);
+    expect_usage(&rt, alloc, &["mq-setattr", "0", "--nonblock"]);
+    expect_usage(&rt, alloc, &["mq-setattr", "0", "block", "nonblock"]);
     expect_usage(&rt, alloc, &["mq-unlink"]);
     expect_usage(&rt, alloc, &["mq-unlink", "/a", "/b"]);
     expect_usage(&rt, alloc, &["mq-unlink", "/a", "--create"]);
@@ -304,6 +398,10 @@ fn values_that_do_not_read_are_named(rt: HostRuntime) {
         "٧",
     ] {
         expect_bad_value(&rt, alloc, &["mq-close", word], "d");
+        expect_bad_value(&rt, alloc, &["mq-send", word, "0", "hi"], "d");
+        expect_bad_value(&rt, alloc, &["mq-receive", word, "0"], "d");
+        expect_bad_value(&rt, alloc, &["mq-getattr", word], "d");
+        expect_bad_value(&rt, alloc, &["mq-setattr", word, "block"], "d");
     }
     for word in ["x", "R", "wr", "", "rww"] {
         expect_bad_value(&rt, alloc, &["mq-open", "/a", word], "access");
@@ -320,7 +418,15 @@ fn values_that_do_not_read_are_named(rt: HostRuntime) {
         expect_bad_value(&rt, alloc, &["mq-unlink", word], "name");
         expect_bad_value(&rt, alloc, &["stat", "sem", word], "name");
     }
+    for word in ["hex:2", "hex:2D", "hex:2g", "hex:hex:"] {
+        expect_bad_value(&rt, alloc, &["mq-send", "0", "0", word], "bytes");
+    }
+    for word in ["", "Block", "nonblocking", "on", "0", "hex:", "block "] {
+        expect_bad_value(&rt, alloc, &["mq-setattr", "0", word], "how");
+    }
     for word in ["4294967296", "00", "01", "", "+1", "one"] {
+        expect_bad_value(&rt, alloc, &["mq-send", "0", word, "hi"], "prio");
+        expect_bad_value(&rt, alloc, &["mq-receive", "0", word], "len");
         expect_bad_value(&rt, alloc, &["ls", "mq", word, "1"], "start");
     }
     for word in ["4294967296", "01", "", "one"] {
@@ -413,6 +519,18 @@ fn the_first_bad_value_is_named(rt: HostRuntime) {
 }
 
 #[test]
+fn the_first_bad_value_of_a_message_is_named(rt: HostRuntime) {
+    let alloc = rt.alloc();
+    expect_bad_value(&rt, alloc, &["mq-send", "x", "x", "hex:2"], "d");
+    expect_bad_value(&rt, alloc, &["mq-send", "0", "x", "hex:2"], "prio");
+    expect_bad_value(&rt, alloc, &["mq-send", "0", "0", "hex:2"], "bytes");
+    expect_bad_value(&rt, alloc, &["mq-receive", "x", "x"], "d");
+    expect_bad_value(&rt, alloc, &["mq-receive", "0", "x"], "len");
+    expect_bad_value(&rt, alloc, &["mq-setattr", "x", "x"], "d");
+    expect_bad_value(&rt, alloc, &["mq-setattr", "0", "x"], "how");
+}
+
+#[test]
 fn the_first_bad_value_of_a_listing_is_named(rt: HostRuntime) {
     let alloc = rt.alloc();
     expect_bad_value(&rt, alloc, &["ls", "x", "x", "x"], "family");
@@ -441,6 +559,7 @@ fn answers_have_lines(rt: HostRuntime) -> Result<(), Fail> {
         (Answer::Started(Sid::NOBODY), "started 18446744073709551615"),
         (Answer::Done, "done"),
         (Answer::Opened(Desc(0)), "opened 0"),
+        (Answer::Sent, "sent"),
         (Answer::Mask(Mode(0)), "mask 000"),
         (Answer::Mask(Mode(0o22)), "mask 022"),
         (Answer::Mask(Mode(0o777)), "mask 777"),
@@ -456,6 +575,60 @@ fn answers_have_lines(rt: HostRuntime) -> Result<(), Fail> {
         (Answer::Refused(Rule::BadKey), "refused 31 EACCES BadKey"),
     ];
     for (answer, line) in rows {
+        let found = line_of_answer(rt.alloc(), &answer)?;
+        assert_eq!(rt; found.as_str(), line);
+    }
+    Ok(())
+}
+
+/// The line of a received message.
+fn line_of(alloc: Global, priority: u32, message: &[u8]) -> Result<String, Fail> {
+    let bytes = Bytes::from_slice(alloc, message)?;
+    Ok(line_of_answer(alloc, &Answer::Received { priority, bytes })?)
+}
+
+#[test]
+fn messages_have_lines(rt: HostRuntime) -> Result<(), Fail> {
+    let alloc = rt.alloc();
+    let rows = [
+        (0, b"hi".as_slice(), "received 0 hi"),
+        (5, b"!~".as_slice(), "received 5 !~"),
+        (32767, b"-".as_slice(), "received 32767 -"),
+        (u32::MAX, b"hex".as_slice(), "received 4294967295 hex"),
+        // No bytes at all, one below `!`, one above `~`, and `hex:` in front.
+        (1, b"".as_slice(), "received 1 hex:"),
+        (1, b"a b".as_slice(), "received 1 hex:612062"),
+        (1, b"a\x7f".as_slice(), "received 1 hex:617f"),
+        (1, b"hex:".as_slice(), "received 1 hex:6865783a"),
+        (1, "é".as_bytes(), "received 1 hex:c3a9"),
+    ];
+    for (priority, message, line) in rows {
+        let found = line_of(alloc, priority, message)?;
+        assert_eq!(rt; found.as_str(), line);
+    }
+    Ok(())
+}
+
+#[test]
+fn attributes_have_lines(rt: HostRuntime) -> Result<(), Fail> {
+    let rows = [
+        (false, 10, 8192, 0, "attrs 0 10 8192 0"),
+        (true, 1, 8, 1, "attrs 1 1 8 1"),
+        (true, 65_536, 16_777_216, 7, "attrs 1 65536 16777216 7"),
+        (
+            false,
+            u32::MAX,
+            0,
+            u32::MAX,
+            "attrs 0 4294967295 0 4294967295",
+        ),
+    ];
+    for (nonblock, maxmsg, msgsize, messages, line) in rows {
+        let answer = Answer::Attrs {
+            nonblock,
+            attributes: Attributes { maxmsg, msgsize },
+            messages,
+        };
         let found = line_of_answer(rt.alloc(), &answer)?;
         assert_eq!(rt; found.as_str(), line);
     }

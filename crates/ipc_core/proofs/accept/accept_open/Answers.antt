@@ -6,6 +6,7 @@ use Rattle.ipc_core.specs.Kept.{is_live_row}
 use Rattle.ipc_terms.specs.declared.ids.Family.TheVariants.{Mq}
 use Rattle.ipc_core.proofs.Lookups.{found_is}
 use Rattle.ipc_core.proofs.Decisions.{open_accepted, cred_row, user_row, unbound_new}
+use Rattle.ipc_core.proofs.QueueDecisions.{open_some}
 use Rattle.ipc_core.proofs.Accepting.{agrees_found, agrees_created}
 use Rattle.ipc_core.proofs.accept.accept_open.Goals as goal
 
@@ -19,7 +20,7 @@ pub returns-in-Some-clause-ok : goal.returns-in-Some-clause-ok
 returns-in-Some-clause-ok c =
     let named = c.get.ensures ∙ ap (λ t. object_named t.bindings c.args.asked.now.name) c.names.ensures in
     let bound = sym (found_is c.args.past.now.history Mq c.args.tables.now.queues c.args.asked.now.name c.requires.core.agrees.queues) ∙ sym named ∙ c.in-Some.is in
-    rw c.in_ok-open_found.ensures.ok (agrees_found c.args.config.now c.args.past.now.history c.args.tables.now c.args.sid c.args.asked.now c.in-Some.object c.requires.core.agrees bound)
+    rw (c.in_ok-open_found.ensures.ok, c.is_nonblock-nonblock.ensures) (agrees_found c.args.config.now c.args.past.now.history c.args.tables.now c.args.sid c.args.asked.now c.in-Some.object c.requires.core.agrees bound)
 
 pub unreachable-requires : goal.unreachable-requires
 unreachable-requires c =
@@ -56,6 +57,26 @@ open_created-requires-clause-created c =
     let le = creations_le-length c.args.past.now.history in
     omega arith
 
+pub open_created-requires-clause-some_messages : goal.open_created-requires-clause-some_messages
+open_created-requires-clause-some_messages c =
+    let h = c.args.past.now.history in
+    let t = c.args.tables.now in
+    let a = c.requires.core.agrees in
+    let row = sym c.session.ensures ∙ c.in-Some-session.is in
+    let unnamed = sym (c.get.ensures ∙ ap (λ t. object_named t.bindings c.args.asked.now.name) c.names.ensures) ∙ c.in_default.is in
+    let who = sym (cred_row c.args.config.now h t.sessions c.args.sid.0 c.in-Some-session.session a.sessions row) ∙ sym c.cred.ensures ∙ ap option_copied c.in-Some-cred.is in
+    rw c.new_object-object.ensures (open_some c.args.config.now h t c.args.sid c.args.asked.now c.in-Some-cred.who.now a c.requires.core.in_range c.requires.accepted unnamed who).0
+
+pub open_created-requires-clause-some_bytes : goal.open_created-requires-clause-some_bytes
+open_created-requires-clause-some_bytes c =
+    let h = c.args.past.now.history in
+    let t = c.args.tables.now in
+    let a = c.requires.core.agrees in
+    let row = sym c.session.ensures ∙ c.in-Some-session.is in
+    let unnamed = sym (c.get.ensures ∙ ap (λ t. object_named t.bindings c.args.asked.now.name) c.names.ensures) ∙ c.in_default.is in
+    let who = sym (cred_row c.args.config.now h t.sessions c.args.sid.0 c.in-Some-session.session a.sessions row) ∙ sym c.cred.ensures ∙ ap option_copied c.in-Some-cred.is in
+    rw c.new_object-object.ensures (open_some c.args.config.now h t c.args.sid c.args.asked.now c.in-Some-cred.who.now a c.requires.core.in_range c.requires.accepted unnamed who).1
+
 pub returns-clause-ok : goal.returns-clause-ok
 returns-clause-ok c =
     let h = c.args.past.now.history in
@@ -68,4 +89,4 @@ returns-clause-ok c =
     let unbound = sym (found_is h Mq t.queues asked.name a.queues) ∙ unnamed in
     let new = unbound_new h t c.args.sid asked a.queues (open_accepted c.args.config.now h t c.args.sid asked a c.requires.accepted).1 unnamed in
     let who = sym (cred_row c.args.config.now h t.sessions c.args.sid.0 c.in-Some-session.session a.sessions row) ∙ sym c.cred.ensures ∙ ap option_copied c.in-Some-cred.is in
-    rw (c.in_ok-open_created.ensures.ok, c.new_object-object.ensures, c.new_facts-facts.ensures, m) (agrees_created c.args.config.now h t c.args.sid asked c.in-Some-cred.who.now a new unbound who)
+    rw (c.in_ok-open_created.ensures.ok, c.is_nonblock-nonblock.ensures, c.new_object-object.ensures, c.new_facts-facts.ensures, m) (agrees_created c.args.config.now h t c.args.sid asked c.in-Some-cred.who.now c.requires.core.legal a new unbound who)

@@ -1,0 +1,182 @@
+-- In a legal history only objects that were created are bound, held, or hold messages.
+use Rattle.std.proofs.Common.{◌≡◌, ℕ, ◌+◌, ◌<◌, ◌≤◌, Bool, true, false, not, ◌&&◌, eqb, cond, List, [], ◌∷◌, length, Option, Some, None, is_some, unwrap_or, refl, sym, ap, ◌∙◌, arith}
+use Rattle.std.specs.Prelude.{option_and_then}
+use Rattle.std.proofs.lemmas.Bool.{ne_eqb}
+use Rattle.ipc_terms.specs.Flags.{has_create}
+use Rattle.ipc_terms.specs.declared.rule.Rule.{Rule}
+use Rattle.ipc_terms.specs.declared.rule.Rule.TheVariants.{NoSession, NameForm, NameLong, DirSearch, Absent}
+use Rattle.ipc_terms.specs.declared.ids.Sid.{Sid}
+use Rattle.ipc_terms.specs.declared.ids.Family.{Family}
+use Rattle.ipc_terms.specs.declared.ids.Family.TheVariants.{Mq}
+use Rattle.ipc_terms.specs.declared.call.QueueOpen.{QueueOpen}
+use Rattle.ipc_terms.specs.declared.call.Call.TheVariants.{MqOpen, MqSend, MqReceive, MqUnlink}
+use Rattle.ipc_terms.specs.declared.record.Event.{Event}
+use Rattle.ipc_terms.specs.declared.record.Event.TheVariants.{Hello, Do, Hangup}
+use Rattle.ipc_policy.specs.declared.config.Config.{Config}
+use Rattle.ipc_policy.specs.declared.config.Held.{Held}
+use Rattle.ipc_policy.specs.History.{History, kept}
+use Rattle.ipc_policy.specs.Names.{unlinks, asks_name, is_bound, creations, bound}
+use Rattle.ipc_policy.specs.Descriptions.{opens, if_of, held, holds, ends_held}
+use Rattle.ipc_policy.specs.Life.{gives_object}
+use Rattle.ipc_policy.specs.Queues.{contents, contents_after}
+use Rattle.ipc_policy.specs.Grow.{is_new, creations_after, bound_after, held_after, act_by}
+use Rattle.ipc_policy.specs.Verdict.{verdict, Legal}
+use Rattle.ipc_policy.proofs.Verdicts.{queue_opening, verdict_open}
+use Rattle.ipc_policy.proofs.Holding.{held_grows}
+use Rattle.ipc_policy.proofs.Growing.{creations_grow, bound_grows}
+use Rattle.ipc_policy.proofs.Contents.{contents_grow}
+use Rattle.ipc_policy.proofs.Known.{bound_iff}
+
+-- objects are never fewer
+count_at : (n o : ℕ) (b : Bool) → cond b (n + 1) n ≤ o → n ≤ o
+count_at n o true le = omega arith
+count_at n o false le = le
+
+created_at : (h : History) (e : Event) (o : ℕ) → creations_after e (is_bound h) (creations h) ≤ o → creations h ≤ o
+created_at h (Hello found) o le = le
+created_at h (Do sid (MqOpen asked)) o le = count_at (creations h) o (is_new (queue_opening sid asked) (is_bound h)) le
+created_at h (Do sid call) o le = le
+created_at h (Hangup sid) o le = le
+
+created_before : (h : History) (e : Event) (r : Option Rule) (o : ℕ) → creations (record { event = e; rule = r } ∷ h) ≤ o → creations h ≤ o
+unfolding creations
+created_before h e (Some rule) o le = le
+created_before h e None o le = created_at h e o (rw (← creation_count) le) where
+  creation_count : creations (record { event = e; rule = None } ∷ h) ≡ creations_after e (is_bound h) (creations h)
+  creation_count = creations_grow h e
+
+-- what a name is bound to was created
+bound_open : (n o : ℕ) (b s : Bool) (w : Option ℕ) → (w ≡ Some o → o < n) → cond (b && s) (Some n) w ≡ Some o → o < cond b (n + 1) n
+bound_open n o true true w known e = let same : n ≡ o = cc in omega arith
+bound_open n o true false w known e = let lt = known e in omega arith
+bound_open n o false s w known e = known e
+
+bound_left : (n o : ℕ) (b : Bool) (w : Option ℕ) → (w ≡ Some o → o < n) → cond b None w ≡ Some o → o < n
+bound_left n o true w known e = absurd cc
+bound_left n o false w known e = known e
+
+bound_at : (h : History) (f : Family) (name : List ℕ) (o : ℕ) → (bound h f name ≡ Some o → o < creations h) → (e : Event) → bound_after f name e (is_bound h) (creations h) (bound h f name) ≡ Some o → o < creations_after e (is_bound h) (creations h)
+bound_at h f name o known (Hello found) e = known e
+bound_at h f name o known (Do sid (MqOpen asked)) e = bound_open (creations h) o (is_new (queue_opening sid asked) (is_bound h)) (asks_name (queue_opening sid asked) f name) (bound h f name) known e
+bound_at h f name o known (Do sid (MqUnlink given)) e = bound_left (creations h) o (unlinks f name (Do sid (MqUnlink given))) (bound h f name) known e
+bound_at h f name o known (Do sid call) e = known e
+bound_at h f name o known (Hangup sid) e = known e
+
+bound_more : (h : History) (f : Family) (name : List ℕ) (o : ℕ) → (bound h f name ≡ Some o → o < creations h) → (e : Event) (r : Option Rule) → bound (record { event = e; rule = r } ∷ h) f name ≡ Some o → o < creations (record { event = e; rule = r } ∷ h)
+unfolding bound creations
+bound_more h f name o known e (Some rule) k = known k
+bound_more h f name o known e None k = rw count (bound_at h f name o known e (sym now ∙ k)) where
+  count : creations (record { event = e; rule = None } ∷ h) ≡ creations_after e (is_bound h) (creations h)
+  count = creations_grow h e
+
+  now : bound (record { event = e; rule = None } ∷ h) f name ≡ bound_after f name e (is_bound h) (creations h) (bound h f name)
+  now = bound_grows h e f name
+
+pub bound_below : (h : History) (f : Family) (name : List ℕ) (o : ℕ) → bound h f name ≡ Some o → o < creations h
+unfolding bound
+bound_below [] f name o e = absurd cc
+bound_below (r ∷ h) f name o e = bound_more h f name o (bound_below h f name o) r.event r.rule e
+
+-- what is held was created: an open that is accepted finds its name bound, or creates
+passed : {X : Type 0} (b : Bool) (x : X) (o : Option X) → None ≡ cond b (Some x) o → (b ≡ false) × (None ≡ o)
+passed true x o e = absurd cc
+passed false x o e = (refl, e)
+
+open_there : (c : Config) (h : History) (sid : Sid) (asked : QueueOpen) → None ≡ verdict c h (Do sid (MqOpen asked)) → (not (has_create asked.flags) && not (is_bound h Mq asked.name)) ≡ false
+open_there c h sid asked e =
+    let past1 = passed _ NoSession _ (e ∙ verdict_open c h sid asked) in
+    let past2 = passed _ NameForm _ past1.1 in
+    let past3 = passed _ NameLong _ past2.1 in
+    let past4 = passed _ DirSearch _ past3.1 in
+    (passed _ Absent _ past4.1).0
+
+opened_below : (n o : ℕ) (create there : Bool) (w : Option ℕ) → there ≡ is_some w → (not create && not there) ≡ false → ((i : ℕ) → w ≡ Some i → i < n) → unwrap_or w n ≡ o → o < cond (create && not there) (n + 1) n
+opened_below n o true true None t k known e = absurd cc
+opened_below n o true false None t k known e = omega arith
+opened_below n o false true None t k known e = absurd cc
+opened_below n o false false None t k known e = absurd cc
+opened_below n o true true (Some i) t k known e = let lt = known i refl in let same : i ≡ o = e in omega arith
+opened_below n o true false (Some i) t k known e = absurd cc
+opened_below n o false there (Some i) t k known e = let lt = known i refl in let same : i ≡ o = e in omega arith
+
+held_open : (n m : ℕ) (b : Bool) (w : Option Held) (x y : Held) → ((z : Held) → w ≡ Some z → z.object < n) → n ≤ m → y.object < m → cond b (Some y) w ≡ Some x → x.object < m
+held_open n m true w x y known le lt e = let same : y ≡ x = cc in rw (← same) lt
+held_open n m false w x y known le lt e = let less = known x e in omega arith
+
+kept_is : (p : Held → Bool) (w : Option Held) (x : Held) → kept p w ≡ Some x → w ≡ Some x
+kept_is p None x e = absurd cc
+kept_is p (Some y) x e = at (p y) e where
+  at : (b : Bool) → cond b None (Some y) ≡ Some x → Some y ≡ Some x
+  at true k = absurd cc
+  at false k = k
+
+count_le : (n : ℕ) (b : Bool) → n ≤ cond b (n + 1) n
+count_le n true = omega arith
+count_le n false = omega arith
+
+held_at : (c : Config) (h : History) (d : ℕ) (x : Held) → ((y : Held) → held h d ≡ Some y → y.object < creations h) → (e : Event) → None ≡ verdict c h e → held_after d e (opens h) (bound h) (creations h) (held h d) ≡ Some x → x.object < creations_after e (is_bound h) (creations h)
+held_at c h d x known (Hello found) legal e = known x (kept_is (λ y. ends_held d y (Hello found)) (held h d) x e)
+held_at c h d x known (Do sid (MqOpen asked)) legal e =
+    let new = is_new (queue_opening sid asked) (is_bound h) in
+    let y : Held = record { session = sid; object = unwrap_or (bound h Mq asked.name) (creations h); access = asked.access } in
+    held_open (creations h) (cond new (creations h + 1) (creations h)) (eqb (opens h) d) (held h d) x y known (count_le (creations h) new)
+    (opened_below (creations h) (unwrap_or (bound h Mq asked.name) (creations h)) (has_create asked.flags) (is_bound h Mq asked.name) (bound h Mq asked.name) (bound_iff h Mq asked.name) (open_there c h sid asked legal) (λ i is. bound_below h Mq asked.name i is) refl)
+    e
+held_at c h d x known (Do sid call) legal e = known x (kept_is (λ y. ends_held d y (Do sid call)) (held h d) x e)
+held_at c h d x known (Hangup sid) legal e = known x (kept_is (λ y. ends_held d y (Hangup sid)) (held h d) x e)
+
+held_more : (c : Config) (h : History) (d : ℕ) (x : Held) → ((y : Held) → held h d ≡ Some y → y.object < creations h) → (e : Event) (r : Option Rule) → r ≡ verdict c h e → held (record { event = e; rule = r } ∷ h) d ≡ Some x → x.object < creations (record { event = e; rule = r } ∷ h)
+unfolding held creations
+held_more c h d x known e (Some rule) legal k = known x k
+held_more c h d x known e None legal k = rw count (held_at c h d x known e legal (sym now ∙ k)) where
+  count : creations (record { event = e; rule = None } ∷ h) ≡ creations_after e (is_bound h) (creations h)
+  count = creations_grow h e
+
+  now : held (record { event = e; rule = None } ∷ h) d ≡ held_after d e (opens h) (bound h) (creations h) (held h d)
+  now = held_grows h e d
+
+pub held_created : (c : Config) (h : History) → Legal c h → (d : ℕ) (x : Held) → held h d ≡ Some x → x.object < creations h
+unfolding held
+held_created c [] legal d x e = absurd cc
+held_created c (r ∷ h) legal d x e = held_more c h d x (held_created c h legal.1 d) r.event r.rule legal.0 e
+
+-- nothing stands in an object that was not created
+mine_is : (s : ℕ) (w : Option Held) (x : Held) → option_and_then (if_of s) w ≡ Some x → w ≡ Some x
+mine_is s None x e = absurd cc
+mine_is s (Some y) x e = at (eqb y.session.0 s) e where
+  at : (b : Bool) → cond b (Some y) None ≡ Some x → Some y ≡ Some x
+  at true k = k
+  at false k = absurd cc
+
+pub holds_is_held : (h : History) (s d : ℕ) (x : Held) → holds h s d ≡ Some x → held h d ≡ Some x
+unfolding holds
+holds_is_held h s d x e = mine_is s (held h d) x e
+
+given_at : (o n : ℕ) (w : Option Held) → n ≤ o → ((x : Held) → w ≡ Some x → x.object < n) → gives_object o w ≡ false
+given_at o n None le known = refl
+given_at o n (Some x) le known = ne_eqb x.object o (λ (q : x.object ≡ o). absurd (let lt = known x refl in omega arith))
+
+not_given : (c : Config) (h : History) (s d o : ℕ) → Legal c h → creations h ≤ o → gives_object o (holds h s d) ≡ false
+not_given c h s d o legal le = given_at o (creations h) (holds h s d) le (λ x e. held_created c h legal d x (holds_is_held h s d x e))
+
+empty_after : (c : Config) (h : History) (o : ℕ) (e : Event) → Legal c h → creations h ≤ o → contents_after (act_by (length h) (holds h) o e) [] ≡ []
+empty_after c h o (Hello found) legal le = refl
+empty_after c h o (Do sid (MqSend desc priority bytes)) legal le = rw (not_given c h sid.0 desc.0 o legal le) refl
+empty_after c h o (Do sid (MqReceive desc room)) legal le = rw (not_given c h sid.0 desc.0 o legal le) refl
+empty_after c h o (Do sid call) legal le = refl
+empty_after c h o (Hangup sid) legal le = refl
+
+refused_contents : (h : History) (e : Event) (rule : Rule) (o : ℕ) → contents (record { event = e; rule = Some rule } ∷ h) o ≡ contents h o
+unfolding contents
+refused_contents h e rule o = refl
+
+empty_more : (c : Config) (h : History) (o : ℕ) → Legal c h → contents h o ≡ [] → creations h ≤ o → (e : Event) (r : Option Rule) → contents (record { event = e; rule = r } ∷ h) o ≡ []
+empty_more c h o legal none le e (Some rule) = refused_contents h e rule o ∙ none
+empty_more c h o legal none le e None = contents_grow h e o ∙ ap (contents_after (act_by (length h) (holds h) o e)) none ∙ empty_after c h o e legal le
+
+pub not_created_empty : (c : Config) (h : History) → Legal c h → (o : ℕ) → creations h ≤ o → contents h o ≡ []
+unfolding contents
+not_created_empty c [] legal o le = refl
+not_created_empty c (r ∷ h) legal o le =
+    let before = created_before h r.event r.rule o le in
+    empty_more c h o legal.1 (not_created_empty c h legal.1 o before) before r.event r.rule

@@ -1,0 +1,10 @@
+//! The trail: every event with the rule that refused it, in order. A message's bytes stand here, in
+//! the record of its send.
+#![tactic(auto)]
+
+mod message;
+#[cfg(test)]
+mod tests;
+mod trail;
+
+pub use trail::Trail;
