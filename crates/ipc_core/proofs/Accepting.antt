@@ -1,5 +1,6 @@
 -- What each accepted event does to the tables keeps them the history's.
-use Rattle.std.proofs.Common.{◌≡◌, ℕ, ◌+◌, ◌%◌, ◌<◌, Bool, true, false, not, ◌&&◌, ◌||◌, eqb, List, [], ◌∷◌, ◌++◌, length, filter, Option, Some, None, is_some, refl, sym, ap, ◌∙◌, arith}
+use Rattle.std.proofs.Common.{◌≡◌, ℕ, ◌+◌, ◌%◌, ◌<◌, Bool, true, false, not, ◌&&◌, ◌||◌, eqb, cond, List, [], ◌∷◌, ◌++◌, length, filter, Option, Some, None, is_some, refl, sym, ap, subst, ◌∙◌, arith}
+use Rattle.std.specs.Option.{option_map}
 use Rattle.std.proofs.lemmas.Bool.{eqb-true, eq-eqb, ne_eqb}
 use Rattle.ipc_terms.specs.Flags.{has_create, has_nonblock}
 use Rattle.ipc_terms.specs.Names.{same_name}
@@ -13,20 +14,22 @@ use Rattle.ipc_terms.specs.declared.ids.Family.{Family}
 use Rattle.ipc_terms.specs.declared.ids.Family.TheVariants.{Mq, Sem}
 use Rattle.ipc_terms.specs.declared.ids.Target.{Target}
 use Rattle.ipc_terms.specs.declared.call.QueueOpen.{QueueOpen}
-use Rattle.ipc_terms.specs.declared.call.Call.TheVariants.{Umask, MqOpen, MqClose, MqSend, MqReceive, MqGetattr, MqSetattr, MqUnlink, ListNames, StatName}
+use Rattle.ipc_terms.specs.declared.call.Call.TheVariants.{Umask, MqOpen, MqClose, MqSend, MqReceive, MqGetattr, MqSetattr, MqUnlink, ListNames, StatName, Interrupt}
 use Rattle.ipc_terms.specs.declared.record.Event.{Event}
 use Rattle.ipc_terms.specs.declared.record.Event.TheVariants.{Hello, Do, Hangup}
 use Rattle.ipc_access.specs.declared.class.Cred.{Cred}
 use Rattle.ipc_names.specs.Directory.{first_directory}
 use Rattle.ipc_policy.specs.declared.config.Config.{Config}
 use Rattle.ipc_policy.specs.declared.config.Held.{Held}
-use Rattle.ipc_policy.specs.History.{History, listed, gathered_below, any_below}
+use Rattle.ipc_policy.specs.History.{History, listed, there_is, gathered_below, any_below}
 use Rattle.ipc_policy.specs.Sessions.{hellos, user, live, cred, mask}
 use Rattle.ipc_policy.specs.Names.{unlinks, is_bound, creations, bound}
 use Rattle.ipc_policy.specs.Objects.{object, facts, directory, made_by, first_facts}
 use Rattle.ipc_policy.specs.Descriptions.{opens, held, holds}
 use Rattle.ipc_policy.specs.Life.{named, bindings, gives_object, alive}
-use Rattle.ipc_policy.specs.Queues.{Send, contents}
+use Rattle.ipc_policy.specs.Queues.{Queue, Withdraws, queue, queue_after, maxmsg}
+use Rattle.ipc_policy.specs.declared.config.Object.{Object}
+use Rattle.ipc_policy.specs.Parking.{Parked, parked}
 use Rattle.ipc_policy.specs.Laws.{SameValues}
 use Rattle.ipc_policy.specs.Grow.{is_new}
 use Rattle.ipc_policy.specs.Verdict.{verdict, Legal}
@@ -37,25 +40,32 @@ use Rattle.ipc_policy.proofs.Gathering.{gathered_more, filter_all}
 use Rattle.ipc_policy.proofs.Known.{bound_iff}
 use Rattle.ipc_policy.proofs.Creating.{not_created_empty}
 use Rattle.ipc_policy.proofs.Refused.{same_values}
+use Rattle.ipc_policy.proofs.ParkedSessions.{withdrawn_elsewhere}
+use Rattle.ipc_policy.proofs.ParkedSteps.{parked_by_others, queue_by_others, queue_by_send, queue_by_receive, queue_by_interrupt, queue_by_hangup}
+use Rattle.ipc_queue.specs.Tickets.{sent, received, withdrawn}
 use Rattle.ipc_core.specs.declared.tables.Made.{Made}
 use Rattle.ipc_core.specs.declared.tables.Contents.{Contents}
-use Rattle.ipc_core.specs.Kept.{Kept, is_of, is_desc}
-use Rattle.ipc_core.specs.Steps.{empty_queue, entered, next_taken, after_hello, after_umask, after_found, after_created, after_send, after_receive, after_setattr, after_close, after_unlink, after_hangup}
+use Rattle.ipc_core.specs.Kept.{Kept, is_of, is_desc, live_at, parked_on_at}
+use Rattle.ipc_core.specs.Steps.{new_queue, with_queue, ended, after_hello, after_umask, after_found, after_created, after_send, after_receive, after_withdrawal, after_setattr, after_close, after_unlink, after_hangup}
 use Rattle.ipc_core.specs.Ranges.{first_bad}
-use Rattle.ipc_core.specs.Agrees.{Agrees, IsCore, DirectoryAgrees, ObjectsAgree, ContentsAgree, living_row, ticket_of, row_contents}
+use Rattle.ipc_core.specs.Agrees.{Agrees, IsCore, DirectoryAgrees, ObjectsAgree, ContentsAgree, living_row, tickets_of}
 use Rattle.ipc_core.proofs.Lookups.{bound_alive}
-use Rattle.ipc_core.proofs.SessionTables.{sessions_kept, sessions_begun, sessions_masked, sessions_ended}
+use Rattle.ipc_core.proofs.SessionTables.{Columns, columns_of, columns_moved, sessions_parked, sessions_kept, sessions_begun, sessions_masked, sessions_ended}
+use Rattle.ipc_core.proofs.ParkedColumn.{parked_object, column_by_send, column_by_receive, column_by_interrupt, column_by_hangup}
+use Rattle.ipc_core.proofs.Decisions.{within_live}
+use Rattle.ipc_core.proofs.QueueLookups.{holds_alive}
+use Rattle.ipc_core.proofs.Serving.{is_open, none_receives, none_sends, sessions_sent, sessions_received, queue_sent, queue_received, queue_withdrawn}
 use Rattle.ipc_core.proofs.ObjectTables.{directory_kept, row_kept, objects_kept, alive_kept, alive_less, objects_left, descriptions_kept, descriptions_dropped, descriptions_opened, descriptions_set, alive_opened}
-use Rattle.ipc_core.proofs.ContentsTables.{contents_kept, contents_left, contents_created, contents_changed, tickets_entered, tickets_taken}
+use Rattle.ipc_core.proofs.ContentsTables.{rows_of, contents_kept, contents_left, contents_created, contents_changed, contents_same, queue_changed, same_rows}
 
 -- a refused event
 agrees_as : (c : Config) (h k : History) (t : Kept) → SameValues c k h → Agrees c h t → Agrees c k t
 agrees_as c h k t q a = record {
-  sessions = record { users = λ s. a.sessions.users s ∙ sym (q.user s); masks = λ s row is. a.sessions.masks s row is ∙ sym (q.mask s); lives = λ s. a.sessions.lives s ∙ sym (q.live s); count = a.sessions.count ∙ sym q.hellos };
+  sessions = record { users = λ s. a.sessions.users s ∙ sym (q.user s); masks = λ s row is. a.sessions.masks s row is ∙ sym (q.mask s); lives = λ s. a.sessions.lives s ∙ sym (q.live s); parks = λ s. a.sessions.parks s ∙ sym (ap (option_map (λ (p : Parked). p.object)) (q.parked s)); count = a.sessions.count ∙ sym q.hellos };
   queues = record { bound = a.queues.bound ∙ sym (q.bindings Mq); facts = a.queues.facts ∙ sym (q.directory Mq) };
   semaphores = record { bound = a.semaphores.bound ∙ sym (q.bindings Sem); facts = a.semaphores.facts ∙ sym (q.directory Sem) };
   objects = objects_kept c h k t.objects t.created q.alive q.object q.facts q.creations a.objects;
-  contents = contents_kept c h k t.contents q.alive q.object q.contents q.creations a.contents;
+  contents = contents_kept c h k t.contents q.alive q.object q.queue q.creations a.contents;
   descriptions = descriptions_kept h k t.descriptions q.held q.is_nonblock q.opens a.descriptions;
 }
 
@@ -70,7 +80,7 @@ agrees_begun c h t uid k =
       queues = directory_kept c h _ (Hello (Some uid)) Mq t.queues g refl a.queues;
       semaphores = directory_kept c h _ (Hello (Some uid)) Sem t.semaphores g refl a.semaphores;
       objects = objects_kept c h _ t.objects t.created (λ o. alive_kept h _ o (g.named_by o ∙ kept_all (named h o)) held' g.open_count) g.object_of g.facts_of g.creation_count a.objects;
-      contents = contents_kept c h _ t.contents (λ o. alive_kept h _ o (g.named_by o ∙ kept_all (named h o)) held' g.open_count) g.object_of g.contents_of g.creation_count a.contents;
+      contents = contents_kept c h _ t.contents (λ o. alive_kept h _ o (g.named_by o ∙ kept_all (named h o)) held' g.open_count) g.object_of (λ o. queue_by_others c h (Hello (Some uid)) o refl) g.creation_count a.contents;
       descriptions = descriptions_kept h _ t.descriptions held' g.nonblock_of g.open_count a.descriptions;
     }
 
@@ -84,7 +94,7 @@ agrees_masked c h t sid m a =
       queues = directory_kept c h _ (Do sid (Umask m)) Mq t.queues g refl a.queues;
       semaphores = directory_kept c h _ (Do sid (Umask m)) Sem t.semaphores g refl a.semaphores;
       objects = objects_kept c h _ t.objects t.created (λ o. alive_kept h _ o (g.named_by o ∙ kept_all (named h o)) held' g.open_count) g.object_of g.facts_of g.creation_count a.objects;
-      contents = contents_kept c h _ t.contents (λ o. alive_kept h _ o (g.named_by o ∙ kept_all (named h o)) held' g.open_count) g.object_of g.contents_of g.creation_count a.contents;
+      contents = contents_kept c h _ t.contents (λ o. alive_kept h _ o (g.named_by o ∙ kept_all (named h o)) held' g.open_count) g.object_of (λ o. queue_by_others c h (Do sid (Umask m)) o refl) g.creation_count a.contents;
       descriptions = descriptions_kept h _ t.descriptions held' g.nonblock_of g.open_count a.descriptions;
     }
 
@@ -94,11 +104,11 @@ agrees_listed c h t sid family start count a =
     let g = grows c h (Do sid (ListNames family start count)) in
     let held' = λ (d : ℕ). g.held_by d ∙ kept_all (held h d) in
     record {
-      sessions = sessions_kept c h _ (Do sid (ListNames family start count)) t.sessions g refl (λ s. refl) (λ s. refl) (λ s. refl) a.sessions;
+      sessions = sessions_kept c h _ (Do sid (ListNames family start count)) t.sessions g refl (λ s. refl) (λ s. refl) (λ s. refl) (λ s. parked_by_others c h (Do sid (ListNames family start count)) s refl) a.sessions;
       queues = directory_kept c h _ (Do sid (ListNames family start count)) Mq t.queues g refl a.queues;
       semaphores = directory_kept c h _ (Do sid (ListNames family start count)) Sem t.semaphores g refl a.semaphores;
       objects = objects_kept c h _ t.objects t.created (λ o. alive_kept h _ o (g.named_by o ∙ kept_all (named h o)) held' g.open_count) g.object_of g.facts_of g.creation_count a.objects;
-      contents = contents_kept c h _ t.contents (λ o. alive_kept h _ o (g.named_by o ∙ kept_all (named h o)) held' g.open_count) g.object_of g.contents_of g.creation_count a.contents;
+      contents = contents_kept c h _ t.contents (λ o. alive_kept h _ o (g.named_by o ∙ kept_all (named h o)) held' g.open_count) g.object_of (λ o. queue_by_others c h (Do sid (ListNames family start count)) o refl) g.creation_count a.contents;
       descriptions = descriptions_kept h _ t.descriptions held' g.nonblock_of g.open_count a.descriptions;
     }
 
@@ -107,11 +117,11 @@ agrees_told c h t sid target a =
     let g = grows c h (Do sid (StatName target)) in
     let held' = λ (d : ℕ). g.held_by d ∙ kept_all (held h d) in
     record {
-      sessions = sessions_kept c h _ (Do sid (StatName target)) t.sessions g refl (λ s. refl) (λ s. refl) (λ s. refl) a.sessions;
+      sessions = sessions_kept c h _ (Do sid (StatName target)) t.sessions g refl (λ s. refl) (λ s. refl) (λ s. refl) (λ s. parked_by_others c h (Do sid (StatName target)) s refl) a.sessions;
       queues = directory_kept c h _ (Do sid (StatName target)) Mq t.queues g refl a.queues;
       semaphores = directory_kept c h _ (Do sid (StatName target)) Sem t.semaphores g refl a.semaphores;
       objects = objects_kept c h _ t.objects t.created (λ o. alive_kept h _ o (g.named_by o ∙ kept_all (named h o)) held' g.open_count) g.object_of g.facts_of g.creation_count a.objects;
-      contents = contents_kept c h _ t.contents (λ o. alive_kept h _ o (g.named_by o ∙ kept_all (named h o)) held' g.open_count) g.object_of g.contents_of g.creation_count a.contents;
+      contents = contents_kept c h _ t.contents (λ o. alive_kept h _ o (g.named_by o ∙ kept_all (named h o)) held' g.open_count) g.object_of (λ o. queue_by_others c h (Do sid (StatName target)) o refl) g.creation_count a.contents;
       descriptions = descriptions_kept h _ t.descriptions held' g.nonblock_of g.open_count a.descriptions;
     }
 
@@ -121,56 +131,111 @@ agrees_asked c h t sid desc a =
     let g = grows c h (Do sid (MqGetattr desc)) in
     let held' = λ (d : ℕ). g.held_by d ∙ kept_all (held h d) in
     record {
-      sessions = sessions_kept c h _ (Do sid (MqGetattr desc)) t.sessions g refl (λ s. refl) (λ s. refl) (λ s. refl) a.sessions;
+      sessions = sessions_kept c h _ (Do sid (MqGetattr desc)) t.sessions g refl (λ s. refl) (λ s. refl) (λ s. refl) (λ s. parked_by_others c h (Do sid (MqGetattr desc)) s refl) a.sessions;
       queues = directory_kept c h _ (Do sid (MqGetattr desc)) Mq t.queues g refl a.queues;
       semaphores = directory_kept c h _ (Do sid (MqGetattr desc)) Sem t.semaphores g refl a.semaphores;
       objects = objects_kept c h _ t.objects t.created (λ o. alive_kept h _ o (g.named_by o ∙ kept_all (named h o)) held' g.open_count) g.object_of g.facts_of g.creation_count a.objects;
-      contents = contents_kept c h _ t.contents (λ o. alive_kept h _ o (g.named_by o ∙ kept_all (named h o)) held' g.open_count) g.object_of g.contents_of g.creation_count a.contents;
+      contents = contents_kept c h _ t.contents (λ o. alive_kept h _ o (g.named_by o ∙ kept_all (named h o)) held' g.open_count) g.object_of (λ o. queue_by_others c h (Do sid (MqGetattr desc)) o refl) g.creation_count a.contents;
       descriptions = descriptions_kept h _ t.descriptions held' g.nonblock_of g.open_count a.descriptions;
     }
 
 -- an accepted send
-act_elsewhere : (i : ℕ) (w : Option Held) (x : Held) → w ≡ Some x → (i ≡ x.object → ⊥) → gives_object i w ≡ false
-act_elsewhere i None x e ne = absurd cc
-act_elsewhere i (Some y) x e ne = let same : y ≡ x = cc in ne_eqb y.object i (λ q. ne (sym q ∙ ap (λ (z : Held). z.object) same))
-
-act_here : (w : Option Held) (x : Held) → w ≡ Some x → gives_object x.object w ≡ true
-act_here None x e = absurd cc
-act_here (Some y) x e = let same : y ≡ x = cc in eq-eqb y.object x.object (ap (λ (z : Held). z.object) same)
-
-pub agrees_sent : (c : Config) (h : History) (t : Kept) (sid : Sid) (desc : Desc) (priority : ℕ) (bytes : List ℕ) (x : Held) → Agrees c h t → holds h sid.0 desc.0 ≡ Some x → Agrees c (record { event = Do sid (MqSend desc priority bytes); rule = None } ∷ h) (after_send t x.object (record { place = length h; priority = priority }))
-agrees_sent c h t sid desc priority bytes x a is =
+pub agrees_sent : (c : Config) (h : History) (t : Kept) (sid : Sid) (desc : Desc) (priority : ℕ) (bytes : List ℕ) (x : Held) (y : Object) → IsCore c h t → holds h sid.0 desc.0 ≡ Some x → object c h x.object ≡ Some y → live_at t.sessions sid.0 ≡ true → Agrees c (record { event = Do sid (MqSend desc priority bytes); rule = None } ∷ h) (after_send t x.object (record { place = length h; priority = priority }) sid)
+agrees_sent c h t sid desc priority bytes x y k is made lives =
+    let a = k.agrees in
     let g = grows c h (Do sid (MqSend desc priority bytes)) in
     let held' = λ (d : ℕ). g.held_by d ∙ kept_all (held h d) in
-    let m : Send = record { place = length h; session = sid.0; desc = desc.0; priority = priority; bytes = bytes } in
+    let alive' = λ (o : ℕ). alive_kept h (record { event = Do sid (MqSend desc priority bytes); rule = None } ∷ h) o (g.named_by o ∙ kept_all (named h o)) held' g.open_count in
+    let open' = is_open c h t x.object y k made in
+    let there = holds_alive h sid.0 desc.0 x is in
     record {
-      sessions = sessions_kept c h _ (Do sid (MqSend desc priority bytes)) t.sessions g refl (λ s. refl) (λ s. refl) (λ s. refl) a.sessions;
+      sessions = sessions_parked c h _ (Do sid (MqSend desc priority bytes)) _ _ g refl (λ s. refl) (λ s. refl) (λ s. refl)
+          (λ s. column_by_send c h sid desc priority bytes x s k.legal is (none_receives c h x.object y open' made))
+          (sessions_sent c h t x.object y sid k.legal a there made (within_live t.sessions sid.0 lives));
       queues = directory_kept c h _ (Do sid (MqSend desc priority bytes)) Mq t.queues g refl a.queues;
       semaphores = directory_kept c h _ (Do sid (MqSend desc priority bytes)) Sem t.semaphores g refl a.semaphores;
-      objects = objects_kept c h _ t.objects t.created (λ o. alive_kept h _ o (g.named_by o ∙ kept_all (named h o)) held' g.open_count) g.object_of g.facts_of g.creation_count a.objects;
-      contents = contents_changed c h _ t.contents x.object (entered (ticket_of m)) (λ o. alive_kept h _ o (g.named_by o ∙ kept_all (named h o)) held' g.open_count) g.object_of
-          (λ i ne. g.contents_of i ∙ rw (act_elsewhere i (holds h sid.0 desc.0) x is ne) refl)
-          (λ y. ap (λ l. row_contents x.object (Some y) l) (g.contents_of x.object ∙ rw (act_here (holds h sid.0 desc.0) x is) refl) ∙ tickets_entered x.object y (contents h x.object) m)
+      objects = objects_kept c h _ t.objects t.created alive' g.object_of g.facts_of g.creation_count a.objects;
+      contents = contents_changed c h (record { event = Do sid (MqSend desc priority bytes); rule = None } ∷ h) (queue c (record { event = Do sid (MqSend desc priority bytes); rule = None } ∷ h)) t.contents x.object (with_queue (sent (record { place = length h; priority = priority }) sid)) alive' g.object_of
+          (λ i ne. queue_by_send c h sid desc priority bytes x i is ∙ rw (ne_eqb x.object i (λ q. ne (sym q))) refl)
+          (λ z e. queue_changed x.object z (sent (record { place = length h; priority = priority }) sid) (queue c h x.object) _ (queue_sent c h sid desc priority bytes x z (is_open c h t x.object z k e) is))
           g.creation_count a.contents;
       descriptions = descriptions_kept h _ t.descriptions held' g.nonblock_of g.open_count a.descriptions;
     }
 
 -- an accepted receive
-pub agrees_received : (c : Config) (h : History) (t : Kept) (sid : Sid) (desc : Desc) (room : ℕ) (x : Held) → Agrees c h t → holds h sid.0 desc.0 ≡ Some x → Agrees c (record { event = Do sid (MqReceive desc room); rule = None } ∷ h) (after_receive t x.object)
-agrees_received c h t sid desc room x a is =
+pub agrees_received : (c : Config) (h : History) (t : Kept) (sid : Sid) (desc : Desc) (room : ℕ) (x : Held) (y : Object) → IsCore c h t → holds h sid.0 desc.0 ≡ Some x → object c h x.object ≡ Some y → live_at t.sessions sid.0 ≡ true → Agrees c (record { event = Do sid (MqReceive desc room); rule = None } ∷ h) (after_receive t x.object sid)
+agrees_received c h t sid desc room x y k is made lives =
+    let a = k.agrees in
     let g = grows c h (Do sid (MqReceive desc room)) in
     let held' = λ (d : ℕ). g.held_by d ∙ kept_all (held h d) in
+    let alive' = λ (o : ℕ). alive_kept h (record { event = Do sid (MqReceive desc room); rule = None } ∷ h) o (g.named_by o ∙ kept_all (named h o)) held' g.open_count in
+    let open' = is_open c h t x.object y k made in
+    let there = holds_alive h sid.0 desc.0 x is in
     record {
-      sessions = sessions_kept c h _ (Do sid (MqReceive desc room)) t.sessions g refl (λ s. refl) (λ s. refl) (λ s. refl) a.sessions;
+      sessions = sessions_parked c h _ (Do sid (MqReceive desc room)) _ _ g refl (λ s. refl) (λ s. refl) (λ s. refl)
+          (λ s. column_by_receive c h sid desc room x s k.legal is (none_sends c h x.object y open' made))
+          (sessions_received c h t x.object y sid k.legal a there made open' (within_live t.sessions sid.0 lives));
       queues = directory_kept c h _ (Do sid (MqReceive desc room)) Mq t.queues g refl a.queues;
       semaphores = directory_kept c h _ (Do sid (MqReceive desc room)) Sem t.semaphores g refl a.semaphores;
-      objects = objects_kept c h _ t.objects t.created (λ o. alive_kept h _ o (g.named_by o ∙ kept_all (named h o)) held' g.open_count) g.object_of g.facts_of g.creation_count a.objects;
-      contents = contents_changed c h _ t.contents x.object next_taken (λ o. alive_kept h _ o (g.named_by o ∙ kept_all (named h o)) held' g.open_count) g.object_of
-          (λ i ne. g.contents_of i ∙ rw (act_elsewhere i (holds h sid.0 desc.0) x is ne) refl)
-          (λ y. ap (λ l. row_contents x.object (Some y) l) (g.contents_of x.object ∙ rw (act_here (holds h sid.0 desc.0) x is) refl) ∙ tickets_taken x.object y (contents h x.object))
+      objects = objects_kept c h _ t.objects t.created alive' g.object_of g.facts_of g.creation_count a.objects;
+      contents = contents_changed c h (record { event = Do sid (MqReceive desc room); rule = None } ∷ h) (queue c (record { event = Do sid (MqReceive desc room); rule = None } ∷ h)) t.contents x.object (with_queue (received sid)) alive' g.object_of
+          (λ i ne. queue_by_receive c h sid desc room x i is ∙ rw (ne_eqb x.object i (λ q. ne (sym q))) refl)
+          (λ z e. queue_changed x.object z (received sid) (queue c h x.object) _ (queue_received c h sid desc room x z (is_open c h t x.object z k e) is))
           g.creation_count a.contents;
       descriptions = descriptions_kept h _ t.descriptions held' g.nonblock_of g.open_count a.descriptions;
     }
+
+-- a withdrawal: the tables of sessions and of queues, where the session was parked on this object, if on one
+pub record IsWithdrawn (c : Config) (h : History) (t u : Kept) (sid : Sid) (q : ℕ → Queue) : Type 0 where
+  pub sessions : Columns u.sessions (hellos h) (user h) (mask h) (live h) (λ s. cond (eqb sid.0 s) None (parked_object c h s))
+  pub contents : u.contents ≡ gathered_below (rows_of c h q) (creations h)
+  pub others : u ≡ record t { sessions = u.sessions; contents = u.contents }
+
+unparked : (c : Config) (h : History) (sid : Sid) → parked c h sid.0 ≡ None → (s : ℕ) → parked_object c h s ≡ cond (eqb sid.0 s) None (parked_object c h s)
+unparked c h sid e s = at (eqb sid.0 s) refl where
+  at : (b : Bool) → eqb sid.0 s ≡ b → parked_object c h s ≡ cond b None (parked_object c h s)
+  at true k = ap (parked_object c h) (sym (eqb-true _ _ k)) ∙ ap (option_map (λ (p : Parked). p.object)) e
+  at false k = refl
+
+pub withdrawn_at : (c : Config) (h : History) (t : Kept) (sid : Sid) (q : ℕ → Queue) → IsCore c h t → ((o : ℕ) → q o ≡ queue_after (maxmsg c h o) (Withdraws sid.0) (queue c h o)) → sid.0 < length t.sessions → (w : Option Parked) → parked c h sid.0 ≡ w → IsWithdrawn c h t (after_withdrawal t sid) sid q
+withdrawn_at c h t sid q k made lt None e =
+    let none : parked_on_at t.sessions sid.0 ≡ None = k.agrees.sessions.parks sid.0 ∙ ap (option_map (λ (p : Parked). p.object)) e in
+    rw none (record {
+      sessions = record { users = k.agrees.sessions.users; masks = k.agrees.sessions.masks; lives = k.agrees.sessions.lives; parks = λ s. k.agrees.sessions.parks s ∙ unparked c h sid e s; count = k.agrees.sessions.count };
+      contents = contents_same c h q t.contents (λ o. made o ∙ withdrawn_elsewhere c h k.legal (maxmsg c h o) sid.0 o (ap (there_is (λ x. eqb x.object o)) e)) k.agrees.contents;
+      others = refl;
+    })
+withdrawn_at c h t sid q k made lt (Some p) e =
+    let some : parked_on_at t.sessions sid.0 ≡ Some p.object = k.agrees.sessions.parks sid.0 ∙ ap (option_map (λ (p : Parked). p.object)) e in
+    rw some (record {
+      sessions = columns_moved t.sessions (hellos h) (user h) (mask h) (live h) (parked_object c h) None sid.0 lt (columns_of c h t.sessions k.agrees.sessions);
+      contents = contents_changed c h h q t.contents p.object (with_queue (withdrawn sid)) (λ i. refl) (λ i. refl)
+          (λ i ne. made i ∙ withdrawn_elsewhere c h k.legal (maxmsg c h i) sid.0 i (ap (there_is (λ x. eqb x.object i)) e ∙ ne_eqb p.object i (λ q. ne (sym q))))
+          (λ z is. queue_changed p.object z (withdrawn sid) (queue c h p.object) (q p.object) (ap (λ r. tickets_of r z) (made p.object) ∙ queue_withdrawn c h sid p.object (maxmsg c h p.object) z k.legal))
+          refl k.agrees.contents;
+      others = refl;
+    })
+
+-- an accepted interrupt
+interrupted : (c : Config) (h : History) (t u : Kept) (sid : Sid) → IsCore c h t → IsWithdrawn c h t u sid (queue c (record { event = Do sid Interrupt; rule = None } ∷ h)) → Agrees c (record { event = Do sid Interrupt; rule = None } ∷ h) (record t { sessions = u.sessions; contents = u.contents })
+interrupted c h t u sid k w =
+    let a = k.agrees in
+    let g = grows c h (Do sid Interrupt) in
+    let held' = λ (d : ℕ). g.held_by d ∙ kept_all (held h d) in
+    let alive' = λ (o : ℕ). alive_kept h (record { event = Do sid Interrupt; rule = None } ∷ h) o (g.named_by o ∙ kept_all (named h o)) held' g.open_count in
+    record {
+      sessions = sessions_parked c h _ (Do sid Interrupt) u.sessions (λ s. cond (eqb sid.0 s) None (parked_object c h s)) g refl (λ s. refl) (λ s. refl) (λ s. refl) (column_by_interrupt c h sid) w.sessions;
+      queues = directory_kept c h _ (Do sid Interrupt) Mq t.queues g refl a.queues;
+      semaphores = directory_kept c h _ (Do sid Interrupt) Sem t.semaphores g refl a.semaphores;
+      objects = objects_kept c h _ t.objects t.created alive' g.object_of g.facts_of g.creation_count a.objects;
+      contents = w.contents ∙ same_rows c h (record { event = Do sid Interrupt; rule = None } ∷ h) alive' g.object_of g.creation_count;
+      descriptions = descriptions_kept h _ t.descriptions held' g.nonblock_of g.open_count a.descriptions;
+    }
+
+pub agrees_interrupted : (c : Config) (h : History) (t : Kept) (sid : Sid) → IsCore c h t → sid.0 < length t.sessions → Agrees c (record { event = Do sid Interrupt; rule = None } ∷ h) (after_withdrawal t sid)
+agrees_interrupted c h t sid k lt =
+    let w = withdrawn_at c h t sid (queue c (record { event = Do sid Interrupt; rule = None } ∷ h)) k (queue_by_interrupt c h sid) lt (parked c h sid.0) refl in
+    subst (Agrees c (record { event = Do sid Interrupt; rule = None } ∷ h)) (sym w.others) (interrupted c h t (after_withdrawal t sid) sid k w)
 
 -- an accepted change of whether calls are refused where they would wait
 pub agrees_set : (c : Config) (h : History) (t : Kept) (sid : Sid) (desc : Desc) (nonblock : Bool) (x : Held) → Agrees c h t → holds h sid.0 desc.0 ≡ Some x → Agrees c (record { event = Do sid (MqSetattr desc nonblock); rule = None } ∷ h) (after_setattr t desc.0 nonblock)
@@ -178,11 +243,11 @@ agrees_set c h t sid desc nonblock x a is =
     let g = grows c h (Do sid (MqSetattr desc nonblock)) in
     let held' = λ (d : ℕ). g.held_by d ∙ kept_all (held h d) in
     record {
-      sessions = sessions_kept c h _ (Do sid (MqSetattr desc nonblock)) t.sessions g refl (λ s. refl) (λ s. refl) (λ s. refl) a.sessions;
+      sessions = sessions_kept c h _ (Do sid (MqSetattr desc nonblock)) t.sessions g refl (λ s. refl) (λ s. refl) (λ s. refl) (λ s. parked_by_others c h (Do sid (MqSetattr desc nonblock)) s refl) a.sessions;
       queues = directory_kept c h _ (Do sid (MqSetattr desc nonblock)) Mq t.queues g refl a.queues;
       semaphores = directory_kept c h _ (Do sid (MqSetattr desc nonblock)) Sem t.semaphores g refl a.semaphores;
       objects = objects_kept c h _ t.objects t.created (λ o. alive_kept h _ o (g.named_by o ∙ kept_all (named h o)) held' g.open_count) g.object_of g.facts_of g.creation_count a.objects;
-      contents = contents_kept c h _ t.contents (λ o. alive_kept h _ o (g.named_by o ∙ kept_all (named h o)) held' g.open_count) g.object_of g.contents_of g.creation_count a.contents;
+      contents = contents_kept c h _ t.contents (λ o. alive_kept h _ o (g.named_by o ∙ kept_all (named h o)) held' g.open_count) g.object_of (λ o. queue_by_others c h (Do sid (MqSetattr desc nonblock)) o refl) g.creation_count a.contents;
       descriptions = descriptions_set h _ t.descriptions sid.0 desc.0 nonblock x held' g.nonblock_of g.open_count is a.descriptions;
     }
 
@@ -194,11 +259,11 @@ agrees_closed c h t sid desc a =
     let s = directory_kept c h (record { event = Do sid (MqClose desc); rule = None } ∷ h) (Do sid (MqClose desc)) Sem t.semaphores g refl a.semaphores in
     let d = descriptions_dropped h (record { event = Do sid (MqClose desc); rule = None } ∷ h) t.descriptions (λ row. is_of sid.0 row && is_desc desc.0 row) (λ i x. eqb sid.0 x.session.0 && eqb desc.0 i) (λ i x. refl) g.held_by g.nonblock_of g.open_count a.descriptions in
     record {
-      sessions = sessions_kept c h _ (Do sid (MqClose desc)) t.sessions g refl (λ i. refl) (λ i. refl) (λ i. refl) a.sessions;
+      sessions = sessions_kept c h _ (Do sid (MqClose desc)) t.sessions g refl (λ i. refl) (λ i. refl) (λ i. refl) (λ i. parked_by_others c h (Do sid (MqClose desc)) i refl) a.sessions;
       queues = q;
       semaphores = s;
       objects = objects_left c h (record { event = Do sid (MqClose desc); rule = None } ∷ h) t.queues t.semaphores _ t.objects t.created q s d (λ o. alive_less h _ o (λ x. false) (λ i x. eqb sid.0 x.session.0 && eqb desc.0 i) (g.named_by o) g.held_by g.open_count) g.object_of g.facts_of g.creation_count a.objects;
-      contents = contents_left c h (record { event = Do sid (MqClose desc); rule = None } ∷ h) t.queues t.semaphores _ t.contents q s d (λ o. alive_less h _ o (λ x. false) (λ i x. eqb sid.0 x.session.0 && eqb desc.0 i) (g.named_by o) g.held_by g.open_count) g.object_of g.contents_of g.creation_count a.contents;
+      contents = contents_left c h (record { event = Do sid (MqClose desc); rule = None } ∷ h) (queue c h) t.queues t.semaphores _ t.contents q s d (λ o. alive_less h _ o (λ x. false) (λ i x. eqb sid.0 x.session.0 && eqb desc.0 i) (g.named_by o) g.held_by g.open_count) g.object_of (λ o. queue_by_others c h (Do sid (MqClose desc)) o refl) g.creation_count a.contents;
       descriptions = d;
     }
 
@@ -211,29 +276,34 @@ agrees_unlinked c h t sid name a =
     let s = directory_kept c h (record { event = Do sid (MqUnlink name); rule = None } ∷ h) (Do sid (MqUnlink name)) Sem t.semaphores g (filter_all (bindings h Sem)) a.semaphores in
     let d = descriptions_kept h (record { event = Do sid (MqUnlink name); rule = None } ∷ h) t.descriptions held' g.nonblock_of g.open_count a.descriptions in
     record {
-      sessions = sessions_kept c h _ (Do sid (MqUnlink name)) t.sessions g refl (λ i. refl) (λ i. refl) (λ i. refl) a.sessions;
+      sessions = sessions_kept c h _ (Do sid (MqUnlink name)) t.sessions g refl (λ i. refl) (λ i. refl) (λ i. refl) (λ i. parked_by_others c h (Do sid (MqUnlink name)) i refl) a.sessions;
       queues = q;
       semaphores = s;
       objects = objects_left c h (record { event = Do sid (MqUnlink name); rule = None } ∷ h) _ t.semaphores t.descriptions t.objects t.created q s d (λ o. alive_less h _ o (λ asked. unlinks asked.family asked.name (Do sid (MqUnlink name))) (λ i x. false) (g.named_by o) g.held_by g.open_count) g.object_of g.facts_of g.creation_count a.objects;
-      contents = contents_left c h (record { event = Do sid (MqUnlink name); rule = None } ∷ h) _ t.semaphores t.descriptions t.contents q s d (λ o. alive_less h _ o (λ asked. unlinks asked.family asked.name (Do sid (MqUnlink name))) (λ i x. false) (g.named_by o) g.held_by g.open_count) g.object_of g.contents_of g.creation_count a.contents;
+      contents = contents_left c h (record { event = Do sid (MqUnlink name); rule = None } ∷ h) (queue c h) _ t.semaphores t.descriptions t.contents q s d (λ o. alive_less h _ o (λ asked. unlinks asked.family asked.name (Do sid (MqUnlink name))) (λ i x. false) (g.named_by o) g.held_by g.open_count) g.object_of (λ o. queue_by_others c h (Do sid (MqUnlink name)) o refl) g.creation_count a.contents;
       descriptions = d;
     }
 
 -- an accepted hang-up
-pub agrees_ended : (c : Config) (h : History) (t : Kept) (sid : Sid) → Agrees c h t → Agrees c (record { event = Hangup sid; rule = None } ∷ h) (after_hangup t sid.0)
-agrees_ended c h t sid a =
+hung : (c : Config) (h : History) (t u : Kept) (sid : Sid) → Agrees c h t → IsWithdrawn c h t u sid (queue c (record { event = Hangup sid; rule = None } ∷ h)) → Agrees c (record { event = Hangup sid; rule = None } ∷ h) (ended (record t { sessions = u.sessions; contents = u.contents }) sid.0)
+hung c h t u sid a w =
     let g = grows c h (Hangup sid) in
     let q = directory_kept c h (record { event = Hangup sid; rule = None } ∷ h) (Hangup sid) Mq t.queues g refl a.queues in
     let s = directory_kept c h (record { event = Hangup sid; rule = None } ∷ h) (Hangup sid) Sem t.semaphores g refl a.semaphores in
     let d = descriptions_dropped h (record { event = Hangup sid; rule = None } ∷ h) t.descriptions (is_of sid.0) (λ i x. eqb sid.0 x.session.0) (λ i x. refl) g.held_by g.nonblock_of g.open_count a.descriptions in
     record {
-      sessions = sessions_ended c h t.sessions sid g a.sessions;
+      sessions = sessions_ended c h u.sessions sid (λ s. cond (eqb sid.0 s) None (parked_object c h s)) g (column_by_hangup c h sid) w.sessions;
       queues = q;
       semaphores = s;
       objects = objects_left c h (record { event = Hangup sid; rule = None } ∷ h) t.queues t.semaphores _ t.objects t.created q s d (λ o. alive_less h _ o (λ x. false) (λ i x. eqb sid.0 x.session.0) (g.named_by o) g.held_by g.open_count) g.object_of g.facts_of g.creation_count a.objects;
-      contents = contents_left c h (record { event = Hangup sid; rule = None } ∷ h) t.queues t.semaphores _ t.contents q s d (λ o. alive_less h _ o (λ x. false) (λ i x. eqb sid.0 x.session.0) (g.named_by o) g.held_by g.open_count) g.object_of g.contents_of g.creation_count a.contents;
+      contents = contents_left c h (record { event = Hangup sid; rule = None } ∷ h) (queue c (record { event = Hangup sid; rule = None } ∷ h)) t.queues t.semaphores _ u.contents q s d (λ o. alive_less h _ o (λ x. false) (λ i x. eqb sid.0 x.session.0) (g.named_by o) g.held_by g.open_count) g.object_of (λ o. refl) g.creation_count w.contents;
       descriptions = d;
     }
+
+pub agrees_ended : (c : Config) (h : History) (t : Kept) (sid : Sid) → IsCore c h t → sid.0 < length t.sessions → Agrees c (record { event = Hangup sid; rule = None } ∷ h) (after_hangup t sid)
+agrees_ended c h t sid k lt =
+    let w = withdrawn_at c h t sid (queue c (record { event = Hangup sid; rule = None } ∷ h)) k (queue_by_hangup c h sid) lt (parked c h sid.0) refl in
+    subst (λ v. Agrees c (record { event = Hangup sid; rule = None } ∷ h) (ended v sid.0)) (sym w.others) (hung c h t (after_withdrawal t sid) sid k.agrees w)
 
 -- an accepted open of what is bound
 new_of_bound : (h : History) (sid : Sid) (asked : QueueOpen) (o : ℕ) → bound h Mq asked.name ≡ Some o → is_new (queue_opening sid asked) (is_bound h) ≡ false
@@ -264,11 +334,11 @@ agrees_found c h t sid asked o a is =
     let g = grows c h (Do sid (MqOpen asked)) in
     let old = new_of_bound h sid asked o is in
     record {
-      sessions = sessions_kept c h _ (Do sid (MqOpen asked)) t.sessions g refl (λ s. refl) (λ s. refl) (λ s. refl) a.sessions;
+      sessions = sessions_kept c h _ (Do sid (MqOpen asked)) t.sessions g refl (λ s. refl) (λ s. refl) (λ s. refl) (λ s. parked_by_others c h (Do sid (MqOpen asked)) s refl) a.sessions;
       queues = directory_kept c h _ (Do sid (MqOpen asked)) Mq t.queues g (rw old refl) a.queues;
       semaphores = directory_kept c h _ (Do sid (MqOpen asked)) Sem t.semaphores g (rw old refl) a.semaphores;
       objects = objects_kept c h _ t.objects t.created (λ i. found_alive c h sid asked o i is) (λ i. g.object_of i ∙ rw old refl) (λ i. g.facts_of i ∙ rw old refl) (g.creation_count ∙ rw old refl) a.objects;
-      contents = contents_kept c h _ t.contents (λ i. found_alive c h sid asked o i is) (λ i. g.object_of i ∙ rw old refl) g.contents_of (g.creation_count ∙ rw old refl) a.contents;
+      contents = contents_kept c h _ t.contents (λ i. found_alive c h sid asked o i is) (λ i. g.object_of i ∙ rw old refl) (λ o. queue_by_others c h (Do sid (MqOpen asked)) o refl) (g.creation_count ∙ rw old refl) a.contents;
       descriptions = descriptions_opened c h _ t.descriptions sid asked o g a.descriptions (rw is refl);
     }
 
@@ -300,13 +370,13 @@ objects_created c h xs created sid asked who new none is a =
       count = ap (λ m. m + 1) a.count ∙ sym n;
     }
 
-queue_created : (c : Config) (h : History) (rows : List Contents) (created : ℕ) (sid : Sid) (asked : QueueOpen) (who : Cred) → Legal c h → is_new (queue_opening sid asked) (is_bound h) ≡ true → bound h Mq asked.name ≡ None → cred c h sid.0 ≡ Some who → created ≡ creations h → ContentsAgree c h rows → ContentsAgree c (record { event = Do sid (MqOpen asked); rule = None } ∷ h) (rows ++ empty_queue created (made_by c (queue_opening sid asked) who) ∷ [])
+queue_created : (c : Config) (h : History) (rows : List Contents) (created : ℕ) (sid : Sid) (asked : QueueOpen) (who : Cred) → Legal c h → is_new (queue_opening sid asked) (is_bound h) ≡ true → bound h Mq asked.name ≡ None → cred c h sid.0 ≡ Some who → created ≡ creations h → ContentsAgree c h rows → ContentsAgree c (record { event = Do sid (MqOpen asked); rule = None } ∷ h) (rows ++ new_queue created (made_by c (queue_opening sid asked) who) ∷ [])
 queue_created c h rows created sid asked who legal new none is count a =
     let g = grows c h (Do sid (MqOpen asked)) in
     contents_created c h (record { event = Do sid (MqOpen asked); rule = None } ∷ h) rows created (made_by c (queue_opening sid asked) who) (g.creation_count ∙ rw new refl) count
     (λ o lt. created_other c h sid asked o new none lt)
     (λ o lt. g.object_of o ∙ rw (new, ne_eqb (creations h) o (λ (q : creations h ≡ o). absurd (omega arith))) refl)
-    g.contents_of
+    (λ o. queue_by_others c h (Do sid (MqOpen asked)) o refl)
     (created_alive c h sid asked new)
     (g.object_of (creations h) ∙ rw (new, eq-eqb (creations h) (creations h) refl, is) refl)
     (not_created_empty c h legal (creations h) (omega arith))
@@ -316,7 +386,7 @@ pub agrees_created : (c : Config) (h : History) (t : Kept) (sid : Sid) (asked : 
 agrees_created c h t sid asked who legal a new none is =
     let g = grows c h (Do sid (MqOpen asked)) in
     record {
-      sessions = sessions_kept c h _ (Do sid (MqOpen asked)) t.sessions g refl (λ s. refl) (λ s. refl) (λ s. refl) a.sessions;
+      sessions = sessions_kept c h _ (Do sid (MqOpen asked)) t.sessions g refl (λ s. refl) (λ s. refl) (λ s. refl) (λ s. parked_by_others c h (Do sid (MqOpen asked)) s refl) a.sessions;
       queues = record {
         bound = ap (λ l. l ++ record { name = asked.name; object = t.created } ∷ []) a.queues.bound ∙ ap (λ n. bindings h Mq ++ record { name = asked.name; object = n } ∷ []) a.objects.count ∙ sym (g.bindings_of Mq ∙ rw new refl);
         facts = a.queues.facts ∙ sym (g.directory_of Mq);
@@ -337,12 +407,12 @@ core_refused c h t e (Some rule) k is some = record { in_range = k.in_range; leg
 
 -- the tables of no history
 pub core_new : (c : Config) → first_bad c.limits ≡ None → IsCore c [] (record { sessions = []; queues = first_directory Mq; semaphores = first_directory Sem; objects = []; contents = []; created = 0; descriptions = record { rows = []; opened = 0 } })
-unfolding hellos user live mask creations bindings object facts directory opens held
+unfolding hellos user live mask creations bindings object facts directory opens held parked
 core_new c in_range = record {
   in_range = in_range;
   legal = tt;
   agrees = record {
-    sessions = record { users = λ s. refl; masks = λ s row e. absurd cc; lives = λ s. refl; count = refl };
+    sessions = record { users = λ s. refl; masks = λ s row e. absurd cc; lives = λ s. refl; parks = λ s. refl; count = refl };
     queues = record { bound = refl; facts = refl };
     semaphores = record { bound = refl; facts = refl };
     objects = record { rows = refl; count = refl };

@@ -5,7 +5,7 @@ use Rattle.std.specs.Option.{option_map}
 use Rattle.std.proofs.lemmas.Option.{slice_get_within}
 use Rattle.ipc_terms.specs.Flags.{has_create, has_exclusive}
 use Rattle.ipc_terms.specs.Names.{has_name_form, is_long_name}
-use Rattle.ipc_terms.specs.declared.rule.Rule.TheVariants.{NoSession, NameForm, NameLong, BadDescr, DirSearch, DirRead, Absent, Present, ModeDenied, DirWrite, Sticky, AttrRange, DescrLimit}
+use Rattle.ipc_terms.specs.declared.rule.Rule.TheVariants.{NoSession, InCall, NotInCall, NameForm, NameLong, BadDescr, DirSearch, DirRead, Absent, Present, ModeDenied, DirWrite, Sticky, AttrRange, DescrLimit}
 use Rattle.ipc_terms.specs.declared.ids.Sid.{Sid}
 use Rattle.ipc_terms.specs.declared.ids.Desc.{Desc}
 use Rattle.ipc_terms.specs.declared.ids.Mode.{Mode}
@@ -13,7 +13,7 @@ use Rattle.ipc_terms.specs.declared.ids.Family.{Family}
 use Rattle.ipc_terms.specs.declared.ids.Family.TheVariants.{Mq}
 use Rattle.ipc_terms.specs.declared.ids.Target.TheVariants.{Dir, Name}
 use Rattle.ipc_terms.specs.declared.call.QueueOpen.{QueueOpen}
-use Rattle.ipc_terms.specs.declared.call.Call.TheVariants.{Umask, MqOpen, MqClose, MqUnlink, ListNames, StatName}
+use Rattle.ipc_terms.specs.declared.call.Call.TheVariants.{Umask, MqOpen, MqClose, MqUnlink, ListNames, StatName, Interrupt}
 use Rattle.ipc_terms.specs.declared.record.Event.TheVariants.{Hello, Do, Hangup}
 use Rattle.ipc_access.specs.Users.{cred_of}
 use Rattle.ipc_names.specs.Directory.{object_named}
@@ -25,24 +25,25 @@ use Rattle.ipc_policy.specs.Objects.{facts, directory}
 use Rattle.ipc_policy.specs.Descriptions.{held_count}
 use Rattle.ipc_policy.specs.Grow.{is_new}
 use Rattle.ipc_policy.specs.Rules.{denied, denied_at, removal_denied, bits_wanted, out_of_range}
+use Rattle.ipc_policy.specs.Parking.{parked}
 use Rattle.ipc_policy.specs.Verdict.{verdict}
-use Rattle.ipc_policy.proofs.Verdicts.{first_of, queue_opening, verdict_hello, verdict_umask, verdict_close, verdict_open, verdict_unlink, verdict_list, verdict_stat_directory, verdict_stat_name, verdict_hangup}
+use Rattle.ipc_policy.proofs.Verdicts.{first_of, queue_opening, verdict_hello, verdict_umask, verdict_close, verdict_open, verdict_unlink, verdict_list, verdict_stat_directory, verdict_stat_name, verdict_interrupt, verdict_hangup}
 use Rattle.ipc_policy.proofs.Known.{bound_iff}
 use Rattle.ipc_core.specs.declared.tables.Session.{Session}
-use Rattle.ipc_core.specs.Kept.{Kept, directory_kept, facts_at, cred_at, is_live_row, live_at, is_held_queue, is_of}
+use Rattle.ipc_core.specs.Kept.{Kept, directory_kept, facts_at, cred_at, is_live_row, live_at, parked_at, is_held_queue, is_of}
 use Rattle.ipc_core.specs.Agrees.{Agrees, SessionsAgree, DirectoryAgrees}
-use Rattle.ipc_core.proofs.Lookups.{cred_is, found_is, facts_found, counts_is, held_queue_is, directory_agrees}
+use Rattle.ipc_core.proofs.Lookups.{cred_is, parked_is, found_is, facts_found, counts_is, held_queue_is, directory_agrees}
 
 -- what is not there is none
 none_is : {X : Type 0} (o : Option X) → is_none o ≡ not (is_some o)
 none_is None = refl
 none_is (Some x) = refl
 
-pub close_kept : (c : Config) (h : History) (t : Kept) (sid : Sid) (desc : Desc) → Agrees c h t → verdict c h (Do sid (MqClose desc)) ≡ first_of ((not (live_at t.sessions sid.0), NoSession) ∷ (not (is_held_queue t sid.0 desc.0), BadDescr) ∷ [])
-close_kept c h t sid desc a = verdict_close c h sid desc ∙ rw (← a.sessions.lives sid.0, ← held_queue_is c h t sid.0 desc.0 a) refl
+pub close_kept : (c : Config) (h : History) (t : Kept) (sid : Sid) (desc : Desc) → Agrees c h t → verdict c h (Do sid (MqClose desc)) ≡ first_of ((not (live_at t.sessions sid.0), NoSession) ∷ (parked_at t.sessions sid.0, InCall) ∷ (not (is_held_queue t sid.0 desc.0), BadDescr) ∷ [])
+close_kept c h t sid desc a = verdict_close c h sid desc ∙ rw (← a.sessions.lives sid.0, ← parked_is c h t.sessions sid.0 a.sessions, ← held_queue_is c h t sid.0 desc.0 a) refl
 
-pub umask_kept : (c : Config) (h : History) (t : Kept) (sid : Sid) (mask : Mode) → Agrees c h t → verdict c h (Do sid (Umask mask)) ≡ first_of ((not (live_at t.sessions sid.0), NoSession) ∷ [])
-umask_kept c h t sid mask a = verdict_umask c h sid mask ∙ rw (← a.sessions.lives sid.0) refl
+pub umask_kept : (c : Config) (h : History) (t : Kept) (sid : Sid) (mask : Mode) → Agrees c h t → verdict c h (Do sid (Umask mask)) ≡ first_of ((not (live_at t.sessions sid.0), NoSession) ∷ (parked_at t.sessions sid.0, InCall) ∷ [])
+umask_kept c h t sid mask a = verdict_umask c h sid mask ∙ rw (← a.sessions.lives sid.0, ← parked_is c h t.sessions sid.0 a.sessions) refl
 
 creating_is : (h : History) (sid : Sid) (asked : QueueOpen) → creating h (queue_opening sid asked) ≡ (has_create asked.flags && is_none (bound h Mq asked.name))
 unfolding creating
@@ -51,6 +52,7 @@ creating_is h sid asked = rw (bound_iff h Mq asked.name) refl
 -- the rules on an open, by what its name is bound to
 open_found : (c : Config) (h : History) (sid : Sid) (asked : QueueOpen) → verdict c h (Do sid (MqOpen asked)) ≡ first_of (
     (not (live h sid.0), NoSession)
+    ∷ (is_some (parked c h sid.0), InCall)
     ∷ (not (has_name_form asked.name), NameForm)
     ∷ (is_long_name Mq asked.name, NameLong)
     ∷ (denied (cred c h sid.0) (directory h Mq) 1, DirSearch)
@@ -66,6 +68,7 @@ open_found c h sid asked = verdict_open c h sid asked ∙ rw (bound_iff h Mq ask
 -- the same by the tables
 pub open_kept : (c : Config) (h : History) (t : Kept) (sid : Sid) (asked : QueueOpen) → Agrees c h t → verdict c h (Do sid (MqOpen asked)) ≡ first_of (
     (not (live_at t.sessions sid.0), NoSession)
+    ∷ (parked_at t.sessions sid.0, InCall)
     ∷ (not (has_name_form asked.name), NameForm)
     ∷ (is_long_name Mq asked.name, NameLong)
     ∷ (denied (cred_at c t.sessions sid.0) t.queues.facts 1, DirSearch)
@@ -78,10 +81,11 @@ pub open_kept : (c : Config) (h : History) (t : Kept) (sid : Sid) (asked : Queue
     ∷ [])
 open_kept c h t sid asked a =
     open_found c h sid asked
-    ∙ rw (a.sessions.lives sid.0, cred_is c h t.sessions sid.0 a.sessions, a.queues.facts, found_is h Mq t.queues asked.name a.queues, facts_found c h t.objects t.created Mq asked.name a.objects, counts_is h t.descriptions sid.0 a.descriptions) refl
+    ∙ rw (a.sessions.lives sid.0, parked_is c h t.sessions sid.0 a.sessions, cred_is c h t.sessions sid.0 a.sessions, a.queues.facts, found_is h Mq t.queues asked.name a.queues, facts_found c h t.objects t.created Mq asked.name a.objects, counts_is h t.descriptions sid.0 a.descriptions) refl
 
 pub unlink_kept : (c : Config) (h : History) (t : Kept) (sid : Sid) (name : List ℕ) → Agrees c h t → verdict c h (Do sid (MqUnlink name)) ≡ first_of (
     (not (live_at t.sessions sid.0), NoSession)
+    ∷ (parked_at t.sessions sid.0, InCall)
     ∷ (not (has_name_form name), NameForm)
     ∷ (is_long_name Mq name, NameLong)
     ∷ (denied (cred_at c t.sessions sid.0) t.queues.facts 1, DirSearch)
@@ -91,21 +95,23 @@ pub unlink_kept : (c : Config) (h : History) (t : Kept) (sid : Sid) (name : List
     ∷ [])
 unlink_kept c h t sid name a =
     verdict_unlink c h sid name
-    ∙ rw (bound_iff h Mq name, a.sessions.lives sid.0, cred_is c h t.sessions sid.0 a.sessions, a.queues.facts, found_is h Mq t.queues name a.queues, facts_found c h t.objects t.created Mq name a.objects, none_is (bound h Mq name)) refl
+    ∙ rw (bound_iff h Mq name, a.sessions.lives sid.0, parked_is c h t.sessions sid.0 a.sessions, cred_is c h t.sessions sid.0 a.sessions, a.queues.facts, found_is h Mq t.queues name a.queues, facts_found c h t.objects t.created Mq name a.objects, none_is (bound h Mq name)) refl
 
 pub list_kept : (c : Config) (h : History) (t : Kept) (sid : Sid) (family : Family) (start count : ℕ) → Agrees c h t → verdict c h (Do sid (ListNames family start count)) ≡ first_of (
     (not (live_at t.sessions sid.0), NoSession)
+    ∷ (parked_at t.sessions sid.0, InCall)
     ∷ (denied (cred_at c t.sessions sid.0) (directory_kept family t).facts 4, DirRead)
     ∷ [])
 list_kept c h t sid family start count a =
     verdict_list c h sid family start count
-    ∙ rw (a.sessions.lives sid.0, cred_is c h t.sessions sid.0 a.sessions, (directory_agrees c h t family a).facts) refl
+    ∙ rw (a.sessions.lives sid.0, parked_is c h t.sessions sid.0 a.sessions, cred_is c h t.sessions sid.0 a.sessions, (directory_agrees c h t family a).facts) refl
 
-pub stat_directory_kept : (c : Config) (h : History) (t : Kept) (sid : Sid) (family : Family) → Agrees c h t → verdict c h (Do sid (StatName (Dir family))) ≡ first_of ((not (live_at t.sessions sid.0), NoSession) ∷ [])
-stat_directory_kept c h t sid family a = verdict_stat_directory c h sid family ∙ rw (← a.sessions.lives sid.0) refl
+pub stat_directory_kept : (c : Config) (h : History) (t : Kept) (sid : Sid) (family : Family) → Agrees c h t → verdict c h (Do sid (StatName (Dir family))) ≡ first_of ((not (live_at t.sessions sid.0), NoSession) ∷ (parked_at t.sessions sid.0, InCall) ∷ [])
+stat_directory_kept c h t sid family a = verdict_stat_directory c h sid family ∙ rw (← a.sessions.lives sid.0, ← parked_is c h t.sessions sid.0 a.sessions) refl
 
 pub stat_name_kept : (c : Config) (h : History) (t : Kept) (sid : Sid) (family : Family) (name : List ℕ) → Agrees c h t → verdict c h (Do sid (StatName (Name family name))) ≡ first_of (
     (not (live_at t.sessions sid.0), NoSession)
+    ∷ (parked_at t.sessions sid.0, InCall)
     ∷ (not (has_name_form name), NameForm)
     ∷ (is_long_name family name, NameLong)
     ∷ (denied (cred_at c t.sessions sid.0) (directory_kept family t).facts 1, DirSearch)
@@ -113,7 +119,10 @@ pub stat_name_kept : (c : Config) (h : History) (t : Kept) (sid : Sid) (family :
     ∷ [])
 stat_name_kept c h t sid family name a =
     verdict_stat_name c h sid family name
-    ∙ rw (bound_iff h family name, a.sessions.lives sid.0, cred_is c h t.sessions sid.0 a.sessions, (directory_agrees c h t family a).facts, found_is h family (directory_kept family t) name (directory_agrees c h t family a), none_is (bound h family name)) refl
+    ∙ rw (bound_iff h family name, a.sessions.lives sid.0, parked_is c h t.sessions sid.0 a.sessions, cred_is c h t.sessions sid.0 a.sessions, (directory_agrees c h t family a).facts, found_is h family (directory_kept family t) name (directory_agrees c h t family a), none_is (bound h family name)) refl
+
+pub interrupt_kept : (c : Config) (h : History) (t : Kept) (sid : Sid) → Agrees c h t → verdict c h (Do sid Interrupt) ≡ first_of ((not (live_at t.sessions sid.0), NoSession) ∷ (not (parked_at t.sessions sid.0), NotInCall) ∷ [])
+interrupt_kept c h t sid a = verdict_interrupt c h sid ∙ rw (← a.sessions.lives sid.0, parked_is c h t.sessions sid.0 a.sessions, none_is (parked c h sid.0)) refl
 
 pub hangup_kept : (c : Config) (h : History) (t : Kept) (sid : Sid) → Agrees c h t → verdict c h (Hangup sid) ≡ first_of ((not (live_at t.sessions sid.0), NoSession) ∷ [])
 hangup_kept c h t sid a = verdict_hangup c h sid ∙ rw (← a.sessions.lives sid.0) refl
@@ -133,7 +142,7 @@ hello_accepted c h e = let k = sym (verdict_hello c h None) ∙ e in cc
 pub umask_accepted : (c : Config) (h : History) (t : Kept) (sid : Sid) (mask : Mode) → Agrees c h t → verdict c h (Do sid (Umask mask)) ≡ None → live_at t.sessions sid.0 ≡ true
 umask_accepted c h t sid mask a e = off _ (first_none _ NoSession _ (sym (umask_kept c h t sid mask a) ∙ e)).0
 
-within_live : (xs : List Session) (s : ℕ) → live_at xs s ≡ true → s < length xs
+pub within_live : (xs : List Session) (s : ℕ) → live_at xs s ≡ true → s < length xs
 within_live xs s k = at (slice_get xs s) refl k where
   at : (o : Option Session) → slice_get xs s ≡ o → is_live_row o ≡ true → s < length xs
   at None e k = absurd cc
@@ -142,6 +151,9 @@ within_live xs s k = at (slice_get xs s) refl k where
 pub umask_within : (c : Config) (h : History) (t : Kept) (sid : Sid) (mask : Mode) → Agrees c h t → verdict c h (Do sid (Umask mask)) ≡ None → sid.0 < length t.sessions
 umask_within c h t sid mask a e = within_live t.sessions sid.0 (umask_accepted c h t sid mask a e)
 
+pub interrupt_within : (c : Config) (h : History) (t : Kept) (sid : Sid) → Agrees c h t → verdict c h (Do sid Interrupt) ≡ None → sid.0 < length t.sessions
+interrupt_within c h t sid a e = within_live t.sessions sid.0 (off _ (first_none _ NoSession _ (sym (interrupt_kept c h t sid a) ∙ e)).0)
+
 pub hangup_within : (c : Config) (h : History) (t : Kept) (sid : Sid) → Agrees c h t → verdict c h (Hangup sid) ≡ None → sid.0 < length t.sessions
 hangup_within c h t sid a e = within_live t.sessions sid.0 (off _ (first_none _ NoSession _ (sym (hangup_kept c h t sid a) ∙ e)).0)
 
@@ -149,11 +161,12 @@ hangup_within c h t sid a e = within_live t.sessions sid.0 (off _ (first_none _ 
 pub open_accepted : (c : Config) (h : History) (t : Kept) (sid : Sid) (asked : QueueOpen) → Agrees c h t → verdict c h (Do sid (MqOpen asked)) ≡ None → (live_at t.sessions sid.0 ≡ true) × ((not (has_create asked.flags) && is_none (object_named t.queues.bindings asked.name)) ≡ false)
 open_accepted c h t sid asked a e =
     let past1 = first_none _ NoSession _ (sym (open_kept c h t sid asked a) ∙ e) in
-    let past2 = first_none _ NameForm _ past1.1 in
-    let past3 = first_none _ NameLong _ past2.1 in
-    let past4 = first_none _ DirSearch _ past3.1 in
-    let past5 = first_none _ Absent _ past4.1 in
-    (off _ past1.0, past5.0)
+    let past2 = first_none _ InCall _ past1.1 in
+    let past3 = first_none _ NameForm _ past2.1 in
+    let past4 = first_none _ NameLong _ past3.1 in
+    let past5 = first_none _ DirSearch _ past4.1 in
+    let past6 = first_none _ Absent _ past5.1 in
+    (off _ past1.0, past6.0)
 
 pub none_from : {X : Type 0} (o : Option X) (b : Bool) → is_some o ≡ not b → b ≡ true → o ≡ None
 none_from None b e t = refl
@@ -163,12 +176,12 @@ pub some_from : {X : Type 0} (o : Option X) (b : Bool) → is_some o ≡ not b �
 some_from o b e f = e ∙ ap not f
 
 -- who the session of a row is
-pub user_row : (h : History) (xs : List Session) (s : ℕ) (row : Session) → SessionsAgree h xs → slice_get xs s ≡ Some row → user h s ≡ Some row.user
-user_row h xs s row a e = sym (a.users s) ∙ ap (option_map (λ (row : Session). row.user)) e
+pub user_row : (c : Config) (h : History) (xs : List Session) (s : ℕ) (row : Session) → SessionsAgree c h xs → slice_get xs s ≡ Some row → user h s ≡ Some row.user
+user_row c h xs s row a e = sym (a.users s) ∙ ap (option_map (λ (row : Session). row.user)) e
 
-pub cred_row : (c : Config) (h : History) (xs : List Session) (s : ℕ) (row : Session) → SessionsAgree h xs → slice_get xs s ≡ Some row → cred_of c.users row.user ≡ cred c h s
+pub cred_row : (c : Config) (h : History) (xs : List Session) (s : ℕ) (row : Session) → SessionsAgree c h xs → slice_get xs s ≡ Some row → cred_of c.users row.user ≡ cred c h s
 unfolding cred
-cred_row c h xs s row a e = rw (user_row h xs s row a e) refl
+cred_row c h xs s row a e = rw (user_row c h xs s row a e) refl
 
 -- an open that is not refused for its absent name creates where the name is unbound
 new_at : (b u : Bool) → u ≡ false → (not b && true) ≡ false → (b && not u) ≡ true

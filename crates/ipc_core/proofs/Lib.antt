@@ -5,9 +5,15 @@ pub mod Lookups
 pub mod Decisions
 pub mod QueueLookups
 pub mod QueueDecisions
+pub mod QueueSteps
 pub mod Taking
 pub mod Telling
+pub mod ParkedColumn
 pub mod SessionTables
 pub mod ObjectTables
 pub mod ContentsTables
+pub mod Serving
+pub mod CallTables
+pub mod BoxTables
+pub mod BoxSteps
 pub mod Accepting

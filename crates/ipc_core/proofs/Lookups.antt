@@ -23,6 +23,7 @@ use Rattle.ipc_policy.specs.Objects.{object, facts}
 use Rattle.ipc_policy.specs.Descriptions.{opens, if_of, held, holds, held_count, is_nonblock}
 use Rattle.ipc_policy.specs.Life.{named, binding_of, bindings, names, gives_object, alive}
 use Rattle.ipc_policy.specs.Rules.{is_of_family, not_held}
+use Rattle.ipc_policy.specs.Parking.{Parked, parked}
 use Rattle.ipc_policy.specs.Verdict.{facts_meant}
 use Rattle.ipc_policy.proofs.Gathering.{passes, gathered_any, gathered_find, any_one, any_below_same, any_below_at}
 use Rattle.ipc_policy.proofs.Holding.{held_below, how_many_below_same}
@@ -32,7 +33,7 @@ use Rattle.ipc_policy.proofs.Known.{object_below, object_with_facts}
 use Rattle.ipc_core.specs.declared.tables.Session.{Session}
 use Rattle.ipc_core.specs.declared.tables.Made.{Made}
 use Rattle.ipc_core.specs.declared.descriptions.Row.{Row}
-use Rattle.ipc_core.specs.Kept.{Kept, Descriptions, directory_kept, made_at, is_number, facts_at, facts_kept, cred_at, held_by, is_desc, is_of, is_to, is_open, is_alive, is_queue_of, gives_queue, is_held_queue}
+use Rattle.ipc_core.specs.Kept.{Kept, Descriptions, directory_kept, made_at, is_number, facts_at, facts_kept, cred_at, parked_at, held_by, is_desc, is_of, is_to, is_open, is_alive, is_queue_of, gives_queue, is_held_queue}
 use Rattle.ipc_core.specs.Agrees.{Agrees, SessionsAgree, DirectoryAgrees, ObjectsAgree, DescriptionsAgree, row_made, living_row, row_held}
 use Rattle.ipc_core.proofs.Lists.{counted_is, gathered_count, found_any, eqb_swapped}
 
@@ -41,16 +42,23 @@ then_map : {X Y Z : Type 0} (f : X → Y) (g : Y → Option Z) (o : Option X) �
 then_map f g None = refl
 then_map f g (Some x) = refl
 
-pub cred_is : (c : Config) (h : History) (xs : List Session) (s : ℕ) → SessionsAgree h xs → cred_at c xs s ≡ cred c h s
+pub cred_is : (c : Config) (h : History) (xs : List Session) (s : ℕ) → SessionsAgree c h xs → cred_at c xs s ≡ cred c h s
 unfolding cred
 cred_is c h xs s a = then_map (λ (row : Session). row.user) (cred_of c.users) (slice_get xs s) ∙ ap (option_and_then (cred_of c.users)) (a.users s)
 
+mapped_some : {X Y : Type 0} (f : X → Y) (o : Option X) → is_some (option_map f o) ≡ is_some o
+mapped_some f None = refl
+mapped_some f (Some x) = refl
+
+pub parked_is : (c : Config) (h : History) (xs : List Session) (s : ℕ) → SessionsAgree c h xs → parked_at xs s ≡ is_some (parked c h s)
+parked_is c h xs s a = ap is_some (a.parks s) ∙ mapped_some (λ (p : Parked). p.object) (parked c h s)
+
 -- descriptions
-row_of_other : (b : ℕ → ℕ → Bool) (d i : ℕ) (w : Option Held) → eqb d i ≡ false → passes (is_desc d) (option_map (row_held b i) w) ≡ false
+pub row_of_other : (b : ℕ → ℕ → Bool) (d i : ℕ) (w : Option Held) → eqb d i ≡ false → passes (is_desc d) (option_map (row_held b i) w) ≡ false
 row_of_other b d i None e = refl
 row_of_other b d i (Some x) e = e
 
-row_of_own : (b : ℕ → ℕ → Bool) (d : ℕ) (w : Option Held) (row : Row) → option_map (row_held b d) w ≡ Some row → is_desc d row ≡ true
+pub row_of_own : (b : ℕ → ℕ → Bool) (d : ℕ) (w : Option Held) (row : Row) → option_map (row_held b d) w ≡ Some row → is_desc d row ≡ true
 row_of_own b d None row e = absurd cc
 row_of_own b d (Some x) row e = let same : row_held b d x ≡ row = cc in rw (← same) (eq-eqb d d refl)
 

@@ -2,7 +2,7 @@
 use Rattle.std.proofs.Common.{◌≡◌, ℕ, ◌+◌, ◌<◌, Bool, true, false, not, ◌&&◌, ◌||◌, eqb, cond, List, [], ◌∷◌, ◌++◌, filter, Option, Some, None, is_some, refl, sym, ap, ◌∙◌, arith, add-one}
 use Rattle.std.specs.Prelude.{option_and_then, if◌then◌else◌}
 use Rattle.std.specs.Option.{option_map}
-use Rattle.std.proofs.lemmas.Bool.{eqb-true, eq-eqb, ne_eqb, or_left, or_right}
+use Rattle.std.proofs.lemmas.Bool.{eqb-true, eq-eqb, ne_eqb}
 use Rattle.ipc_terms.specs.Flags.{has_nonblock}
 use Rattle.ipc_terms.specs.declared.facts.Facts.{Facts}
 use Rattle.ipc_terms.specs.declared.ids.Sid.{Sid}
@@ -23,14 +23,14 @@ use Rattle.ipc_policy.specs.Descriptions.{opens, opened, if_of, held, holds, is_
 use Rattle.ipc_policy.specs.Life.{named, bindings, gives_object, alive}
 use Rattle.ipc_policy.specs.Grow.{Grows, bindings_after, named_after}
 use Rattle.ipc_policy.proofs.Verdicts.{queue_opening}
-use Rattle.ipc_policy.proofs.Gathering.{gathered_same, gathered_more, passing, passes, gathered_filter, any_below_same, any_below_more}
+use Rattle.ipc_policy.proofs.Gathering.{gathered_same, gathered_more, passing, gathered_filter, any_below_same, any_below_more, more_at}
 use Rattle.ipc_policy.proofs.Holding.{kept_some}
 use Rattle.ipc_core.specs.declared.tables.Made.{Made}
 use Rattle.ipc_core.specs.declared.descriptions.Row.{Row}
 use Rattle.ipc_core.specs.Kept.{Descriptions, is_desc, is_alive}
 use Rattle.ipc_core.specs.Steps.{with_open, with_nonblock, changed_first, living}
 use Rattle.ipc_core.specs.Agrees.{DirectoryAgrees, ObjectsAgree, DescriptionsAgree, row_made, living_row, row_held}
-use Rattle.ipc_core.proofs.Lookups.{alive_is}
+use Rattle.ipc_core.proofs.Lookups.{alive_is, row_of_other, row_of_own}
 use Rattle.ipc_core.proofs.Changing.{gathered_changed}
 
 pub directory_kept : (c : Config) (h k : History) (e : Event) (f : Family) (t : Directory) → Grows c h k e → bindings_after f e (is_bound h) (creations h) (bindings h f) ≡ bindings h f → DirectoryAgrees h f t → DirectoryAgrees k f t
@@ -63,13 +63,9 @@ gives_kept o p (Some x) e = at (p x) e where
   at true k = absurd cc
   at false k = k
 
-either_more : (a b c d : Bool) → (a ≡ true → c ≡ true) → (b ≡ true → d ≡ true) → (a || b) ≡ true → (c || d) ≡ true
-either_more true b c d one two e = or_left c d (one refl)
-either_more false b c d one two e = or_right c d (two e)
-
 pub alive_less : (h k : History) (o : ℕ) (p : Opening → Bool) (q : ℕ → Held → Bool) → named k o ≡ kept p (named h o) → ((d : ℕ) → held k d ≡ kept (q d) (held h d)) → opens k ≡ opens h → alive k o ≡ true → alive h o ≡ true
 unfolding alive
-alive_less h k o p q n d m e = either_more (is_some (named k o)) (any_below (λ i. gives_object o (held k i)) (opens k)) (is_some (named h o)) (any_below (λ i. gives_object o (held h i)) (opens h))
+alive_less h k o p q n d m e = more_at (is_some (named k o)) (any_below (λ i. gives_object o (held k i)) (opens k)) (is_some (named h o)) (any_below (λ i. gives_object o (held h i)) (opens h))
     (λ f. kept_some p (named h o) (sym (ap is_some n) ∙ f))
     (λ f. any_below_more (λ i. gives_object o (held k i)) (λ i. gives_object o (held h i)) (opens h) (λ i j. gives_kept o (q i) (held h i) (sym (ap (gives_object o) (d i)) ∙ j)) (sym (ap (any_below (λ i. gives_object o (held k i))) m) ∙ f))
     e
@@ -138,14 +134,6 @@ and_off true = refl
 and_off false = refl
 
 -- a description whose calls are refused or not where they would wait
-row_other_desc : (b : ℕ → ℕ → Bool) (d i : ℕ) (w : Option Held) → eqb d i ≡ false → passes (is_desc d) (option_map (row_held b i) w) ≡ false
-row_other_desc b d i None e = refl
-row_other_desc b d i (Some x) e = e
-
-row_own_desc : (b : ℕ → ℕ → Bool) (d : ℕ) (w : Option Held) (row : Row) → option_map (row_held b d) w ≡ Some row → is_desc d row ≡ true
-row_own_desc b d None row e = absurd cc
-row_own_desc b d (Some x) row e = let same : row_held b d x ≡ row = cc in rw (← same) (eq-eqb d d refl)
-
 same_but : (p q : ℕ → ℕ → Bool) (i : ℕ) (w : Option Held) → ((s : ℕ) → p s i ≡ q s i) → option_map (row_held p i) w ≡ option_map (row_held q i) w
 same_but p q i None e = refl
 same_but p q i (Some x) e = ap (λ nonblock. Some (record { desc = record { 0 = i }; held = x; nonblock = nonblock })) (e x.session.0)
@@ -163,8 +151,8 @@ descriptions_set h k t s d nonblock x same b n is a = record {
   rows =
       ap (changed_first (is_desc d) (with_nonblock nonblock)) a.rows
       ∙ gathered_changed (is_desc d) (with_nonblock nonblock) (λ i. option_map (row_held (is_nonblock h) i) (held h i)) (λ i. option_map (row_held (is_nonblock k) i) (held k i)) (opens h) d
-      (λ i ne. row_other_desc (is_nonblock h) d i (held h i) (ne_eqb d i (λ q. ne (sym q))))
-      (λ row e. row_own_desc (is_nonblock h) d (held h d) row e)
+      (λ i ne. row_of_other (is_nonblock h) d i (held h i) (ne_eqb d i (λ q. ne (sym q))))
+      (λ row e. row_of_own (is_nonblock h) d (held h d) row e)
       (λ i ne. ap (option_map (row_held (is_nonblock k) i)) (same i) ∙ same_but (is_nonblock k) (is_nonblock h) i (held h i) (λ r. b r i ∙ rw (ne_eqb d i (λ q. ne (sym q)), and_off (eqb s r)) refl))
       (ap (option_map (row_held (is_nonblock k) d)) (same d) ∙ set_own (is_nonblock k) (is_nonblock h) s d nonblock (held h d) x is (b s d ∙ rw (eq-eqb s s refl, eq-eqb d d refl) refl))
       ∙ ap (gathered_below (λ i. option_map (row_held (is_nonblock k) i) (held k i))) (sym n);

@@ -1,9 +1,8 @@
 -- The verdicts on the calls on a queue's description, by what is looked up in tables that agree with a history.
 use Rattle.std.proofs.Common.{◌≡◌, ℕ, ◌<◌, Bool, true, false, not, ◌&&◌, ◌||◌, eqb, nat_lt, List, [], ◌∷◌, length, Option, Some, None, is_some, is_none, refl, sym, ap, ◌∙◌, arith}
 use Rattle.std.specs.Prelude.{option_and_then, nat_le, min}
-use Rattle.std.specs.Option.{option_map}
 use Rattle.std.proofs.lemmas.Bool.Decides.{nat_tests}
-use Rattle.ipc_terms.specs.declared.rule.Rule.TheVariants.{NoSession, BadDescr, NotForWrite, NotForRead, PrioRange, MessageLong, BufferShort, WouldBlock, NameForm, NameLong, DirSearch, Absent, Present, ModeDenied, DirWrite, AttrRange}
+use Rattle.ipc_terms.specs.declared.rule.Rule.TheVariants.{NoSession, InCall, BadDescr, NotForWrite, NotForRead, PrioRange, MessageLong, BufferShort, WouldBlock, NameForm, NameLong, DirSearch, Absent, Present, ModeDenied, DirWrite, AttrRange}
 use Rattle.ipc_terms.specs.Flags.{has_create}
 use Rattle.ipc_terms.specs.declared.ids.Sid.{Sid}
 use Rattle.ipc_terms.specs.declared.ids.Desc.{Desc}
@@ -14,53 +13,56 @@ use Rattle.ipc_terms.specs.declared.call.Call.TheVariants.{MqOpen, MqSend, MqRec
 use Rattle.ipc_terms.specs.declared.record.Event.TheVariants.{Do}
 use Rattle.ipc_access.specs.declared.class.Cred.{Cred}
 use Rattle.ipc_names.specs.Directory.{object_named}
-use Rattle.ipc_queue.specs.Tickets.{Tickets, is_full_of}
+use Rattle.ipc_queue.specs.Tickets.{is_full_of}
 use Rattle.ipc_policy.specs.declared.config.Config.{Config}
 use Rattle.ipc_policy.specs.declared.config.Held.{Held}
 use Rattle.ipc_policy.specs.declared.config.Object.{Object}
 use Rattle.ipc_policy.specs.History.{History}
-use Rattle.ipc_policy.specs.Sessions.{cred}
+use Rattle.ipc_policy.specs.Sessions.{live, cred}
+use Rattle.ipc_policy.specs.Parking.{parked}
 use Rattle.ipc_policy.specs.Objects.{object, attributes_of}
 use Rattle.ipc_policy.specs.Descriptions.{holds}
 use Rattle.ipc_policy.specs.Rules.{there_is, reads_only, writes_only, is_of_family, not_held, is_full, is_empty, out_of_range}
 use Rattle.ipc_policy.specs.Verdict.{verdict}
 use Rattle.ipc_policy.proofs.Verdicts.{first_of, verdict_send, verdict_receive, verdict_getattr, verdict_setattr}
-use Rattle.ipc_core.specs.Kept.{Kept, cred_at, live_at, held_of, is_held_queue, object_of, queue_of, queue_at}
+use Rattle.ipc_core.specs.Kept.{Kept, cred_at, live_at, parked_at, held_of, nonblock_of, is_held_queue, object_of, queue_of, queue_at}
 use Rattle.ipc_core.specs.Agrees.{Agrees}
 use Rattle.ipc_core.specs.Ranges.{first_bad}
 use Rattle.ipc_core.specs.declared.fault.Field.TheVariants.{MsgMax, MsgsizeMax}
-use Rattle.ipc_core.proofs.Lookups.{cred_is, held_queue_is}
+use Rattle.ipc_core.proofs.Lookups.{cred_is, parked_is, held_queue_is}
 use Rattle.ipc_core.proofs.Decisions.{first_none, off, open_kept}
-use Rattle.ipc_core.proofs.QueueLookups.{holds_is, holds_alive, object_is, queue_alive, queue_meant, full_is, empty_is, held_full_is, held_empty_is}
+use Rattle.ipc_core.proofs.QueueLookups.{holds_is, holds_alive, object_is, queue_alive, queue_meant, held_full_is, held_empty_is, nonblock_held}
 
-pub getattr_kept : (c : Config) (h : History) (t : Kept) (sid : Sid) (desc : Desc) → Agrees c h t → verdict c h (Do sid (MqGetattr desc)) ≡ first_of ((not (live_at t.sessions sid.0), NoSession) ∷ (not (is_held_queue t sid.0 desc.0), BadDescr) ∷ [])
-getattr_kept c h t sid desc a = verdict_getattr c h sid desc ∙ rw (← a.sessions.lives sid.0, ← held_queue_is c h t sid.0 desc.0 a) refl
+pub getattr_kept : (c : Config) (h : History) (t : Kept) (sid : Sid) (desc : Desc) → Agrees c h t → verdict c h (Do sid (MqGetattr desc)) ≡ first_of ((not (live_at t.sessions sid.0), NoSession) ∷ (parked_at t.sessions sid.0, InCall) ∷ (not (is_held_queue t sid.0 desc.0), BadDescr) ∷ [])
+getattr_kept c h t sid desc a = verdict_getattr c h sid desc ∙ rw (← a.sessions.lives sid.0, ← parked_is c h t.sessions sid.0 a.sessions, ← held_queue_is c h t sid.0 desc.0 a) refl
 
-pub setattr_kept : (c : Config) (h : History) (t : Kept) (sid : Sid) (desc : Desc) (nonblock : Bool) → Agrees c h t → verdict c h (Do sid (MqSetattr desc nonblock)) ≡ first_of ((not (live_at t.sessions sid.0), NoSession) ∷ (not (is_held_queue t sid.0 desc.0), BadDescr) ∷ [])
-setattr_kept c h t sid desc nonblock a = verdict_setattr c h sid desc nonblock ∙ rw (← a.sessions.lives sid.0, ← held_queue_is c h t sid.0 desc.0 a) refl
+pub setattr_kept : (c : Config) (h : History) (t : Kept) (sid : Sid) (desc : Desc) (nonblock : Bool) → Agrees c h t → verdict c h (Do sid (MqSetattr desc nonblock)) ≡ first_of ((not (live_at t.sessions sid.0), NoSession) ∷ (parked_at t.sessions sid.0, InCall) ∷ (not (is_held_queue t sid.0 desc.0), BadDescr) ∷ [])
+setattr_kept c h t sid desc nonblock a = verdict_setattr c h sid desc nonblock ∙ rw (← a.sessions.lives sid.0, ← parked_is c h t.sessions sid.0 a.sessions, ← held_queue_is c h t sid.0 desc.0 a) refl
 
 pub send_kept : (c : Config) (h : History) (t : Kept) (sid : Sid) (desc : Desc) (priority : ℕ) (bytes : List ℕ) → Agrees c h t → verdict c h (Do sid (MqSend desc priority bytes)) ≡ first_of (
     (not (live_at t.sessions sid.0), NoSession)
+    ∷ (parked_at t.sessions sid.0, InCall)
     ∷ (not (is_held_queue t sid.0 desc.0), BadDescr)
     ∷ (there_is (λ x. reads_only x.access) (held_of t.descriptions.rows sid.0 desc.0), NotForWrite)
     ∷ (nat_le 32768 priority, PrioRange)
     ∷ (there_is (λ x. nat_lt x.attributes.msgsize (length bytes)) (object_of t.objects (held_of t.descriptions.rows sid.0 desc.0)), MessageLong)
-    ∷ (there_is is_full_of (queue_of t.contents (held_of t.descriptions.rows sid.0 desc.0)), WouldBlock)
+    ∷ (nonblock_of t.descriptions.rows desc.0 && there_is is_full_of (queue_of t.contents (held_of t.descriptions.rows sid.0 desc.0)), WouldBlock)
     ∷ [])
 send_kept c h t sid desc priority bytes a =
     verdict_send c h sid desc priority bytes
-    ∙ rw (holds_is c h t sid.0 desc.0 a, a.sessions.lives sid.0, held_queue_is c h t sid.0 desc.0 a, object_is c h t sid.0 desc.0 a, held_full_is c h t sid.0 desc.0 a) refl
+    ∙ rw (holds_is c h t sid.0 desc.0 a, a.sessions.lives sid.0, parked_is c h t.sessions sid.0 a.sessions, held_queue_is c h t sid.0 desc.0 a, object_is c h t sid.0 desc.0 a, held_full_is c h t sid.0 desc.0 a, nonblock_held c h t sid.0 desc.0 (λ x. is_full c h x.object) a) refl
 
 pub receive_kept : (c : Config) (h : History) (t : Kept) (sid : Sid) (desc : Desc) (room : ℕ) → Agrees c h t → verdict c h (Do sid (MqReceive desc room)) ≡ first_of (
     (not (live_at t.sessions sid.0), NoSession)
+    ∷ (parked_at t.sessions sid.0, InCall)
     ∷ (not (is_held_queue t sid.0 desc.0), BadDescr)
     ∷ (there_is (λ x. writes_only x.access) (held_of t.descriptions.rows sid.0 desc.0), NotForRead)
     ∷ (there_is (λ x. nat_lt room x.attributes.msgsize) (object_of t.objects (held_of t.descriptions.rows sid.0 desc.0)), BufferShort)
-    ∷ (there_is (λ q. eqb (length q.tickets) 0) (queue_of t.contents (held_of t.descriptions.rows sid.0 desc.0)), WouldBlock)
+    ∷ (nonblock_of t.descriptions.rows desc.0 && there_is (λ q. eqb (length q.tickets) 0) (queue_of t.contents (held_of t.descriptions.rows sid.0 desc.0)), WouldBlock)
     ∷ [])
 receive_kept c h t sid desc room a =
     verdict_receive c h sid desc room
-    ∙ rw (holds_is c h t sid.0 desc.0 a, a.sessions.lives sid.0, held_queue_is c h t sid.0 desc.0 a, object_is c h t sid.0 desc.0 a, held_empty_is c h t sid.0 desc.0 a) refl
+    ∙ rw (holds_is c h t sid.0 desc.0 a, a.sessions.lives sid.0, parked_is c h t.sessions sid.0 a.sessions, held_queue_is c h t sid.0 desc.0 a, object_is c h t sid.0 desc.0 a, held_empty_is c h t sid.0 desc.0 a, nonblock_held c h t sid.0 desc.0 (λ x. is_empty c h x.object) a) refl
 
 -- what is held and gives an object of the family
 there_held : (c : Config) (h : History) (w : Option Held) → is_of_family Mq (option_and_then (λ x. object c h x.object) w) ≡ true → is_some w ≡ true
@@ -82,32 +84,34 @@ not_bad_object c h s d x e k = there_object (object c h x.object) (rw k at (off 
 pub getattr_accepted : (c : Config) (h : History) (sid : Sid) (desc : Desc) → verdict c h (Do sid (MqGetattr desc)) ≡ None → not_held c h sid.0 Mq desc.0 ≡ false
 getattr_accepted c h sid desc e =
     let past1 = first_none _ NoSession _ (sym (verdict_getattr c h sid desc) ∙ e) in
-    (first_none _ BadDescr _ past1.1).0
+    let past2 = first_none _ InCall _ past1.1 in
+    (first_none _ BadDescr _ past2.1).0
 
 pub setattr_accepted : (c : Config) (h : History) (sid : Sid) (desc : Desc) (nonblock : Bool) → verdict c h (Do sid (MqSetattr desc nonblock)) ≡ None → not_held c h sid.0 Mq desc.0 ≡ false
 setattr_accepted c h sid desc nonblock e =
     let past1 = first_none _ NoSession _ (sym (verdict_setattr c h sid desc nonblock) ∙ e) in
-    (first_none _ BadDescr _ past1.1).0
+    let past2 = first_none _ InCall _ past1.1 in
+    (first_none _ BadDescr _ past2.1).0
 
--- and of its queue
-pub send_accepted : (c : Config) (h : History) (sid : Sid) (desc : Desc) (priority : ℕ) (bytes : List ℕ) → verdict c h (Do sid (MqSend desc priority bytes)) ≡ None → (not_held c h sid.0 Mq desc.0 ≡ false) × (there_is (λ x. is_full c h x.object) (holds h sid.0 desc.0) ≡ false)
+-- it comes from a session that is live and not parked
+pub record IsFree (c : Config) (h : History) (s d : ℕ) : Type 0 where
+  pub lives : live h s ≡ true
+  pub idle : is_some (parked c h s) ≡ false
+  pub held : not_held c h s Mq d ≡ false
+
+pub send_accepted : (c : Config) (h : History) (sid : Sid) (desc : Desc) (priority : ℕ) (bytes : List ℕ) → verdict c h (Do sid (MqSend desc priority bytes)) ≡ None → IsFree c h sid.0 desc.0
 send_accepted c h sid desc priority bytes e =
     let past1 = first_none _ NoSession _ (sym (verdict_send c h sid desc priority bytes) ∙ e) in
-    let past2 = first_none _ BadDescr _ past1.1 in
-    let past3 = first_none _ NotForWrite _ past2.1 in
-    let past4 = first_none _ PrioRange _ past3.1 in
-    let past5 = first_none _ MessageLong _ past4.1 in
-    let past6 = first_none _ WouldBlock _ past5.1 in
-    (past2.0, past6.0)
+    let past2 = first_none _ InCall _ past1.1 in
+    let past3 = first_none _ BadDescr _ past2.1 in
+    record { lives = off _ past1.0; idle = past2.0; held = past3.0 }
 
-pub receive_accepted : (c : Config) (h : History) (sid : Sid) (desc : Desc) (room : ℕ) → verdict c h (Do sid (MqReceive desc room)) ≡ None → (not_held c h sid.0 Mq desc.0 ≡ false) × (there_is (λ x. is_empty c h x.object) (holds h sid.0 desc.0) ≡ false)
+pub receive_accepted : (c : Config) (h : History) (sid : Sid) (desc : Desc) (room : ℕ) → verdict c h (Do sid (MqReceive desc room)) ≡ None → IsFree c h sid.0 desc.0
 receive_accepted c h sid desc room e =
     let past1 = first_none _ NoSession _ (sym (verdict_receive c h sid desc room) ∙ e) in
-    let past2 = first_none _ BadDescr _ past1.1 in
-    let past3 = first_none _ NotForRead _ past2.1 in
-    let past4 = first_none _ BufferShort _ past3.1 in
-    let past5 = first_none _ WouldBlock _ past4.1 in
-    (past2.0, past5.0)
+    let past2 = first_none _ InCall _ past1.1 in
+    let past3 = first_none _ BadDescr _ past2.1 in
+    record { lives = off _ past1.0; idle = past2.0; held = past3.0 }
 
 -- by the tables: the description is held
 pub held_there : (c : Config) (h : History) (t : Kept) (s d : ℕ) → Agrees c h t → not_held c h s Mq d ≡ false → is_some (held_of t.descriptions.rows s d) ≡ true
@@ -117,31 +121,11 @@ queue_there : (c : Config) (h : History) (o : ℕ) (w : Option Object) → objec
 queue_there c h o None e k = absurd cc
 queue_there c h o (Some x) e k = rw e refl
 
--- a test that fails of what is there
-test_fails : {A : Type 0} (p : A → Bool) (w : Option A) → is_some w ≡ true → there_is p w ≡ false → option_map p w ≡ Some false
-test_fails p None e k = absurd cc
-test_fails p (Some x) e k = ap Some k
-
-pub send_room : (c : Config) (h : History) (t : Kept) (sid : Sid) (desc : Desc) (priority : ℕ) (bytes : List ℕ) (x : Held) → Agrees c h t → verdict c h (Do sid (MqSend desc priority bytes)) ≡ None → holds h sid.0 desc.0 ≡ Some x → option_map is_full_of (queue_at t.contents x.object) ≡ Some false
-send_room c h t sid desc priority bytes x a e k =
-    let told = send_accepted c h sid desc priority bytes e in
-    let there = queue_there c h x.object (object c h x.object) refl (not_bad_object c h sid.0 desc.0 x told.0 k) in
-    ap (option_map is_full_of) (queue_alive c h t x.object a (holds_alive h sid.0 desc.0 x k))
-    ∙ test_fails is_full_of (queue_meant c h x.object) there (full_is c h x.object ∙ rw k at told.1)
-
--- tickets there are where there are not none
-some_tickets : (w : Option Tickets) → is_some w ≡ true → there_is (λ q. eqb (length q.tickets) 0) w ≡ false → option_map (λ q. nat_lt 0 (length q.tickets)) w ≡ Some true
-some_tickets None e k = absurd cc
-some_tickets (Some q) e k = ap Some (above (length q.tickets) k) where
-  above : (n : ℕ) → eqb n 0 ≡ false → nat_lt 0 n ≡ true
-  above n l = grind (arith, nat_tests)
-
-pub receive_some : (c : Config) (h : History) (t : Kept) (sid : Sid) (desc : Desc) (room : ℕ) (x : Held) → Agrees c h t → verdict c h (Do sid (MqReceive desc room)) ≡ None → holds h sid.0 desc.0 ≡ Some x → option_map (λ q. nat_lt 0 (length q.tickets)) (queue_at t.contents x.object) ≡ Some true
-receive_some c h t sid desc room x a e k =
-    let told = receive_accepted c h sid desc room e in
-    let there = queue_there c h x.object (object c h x.object) refl (not_bad_object c h sid.0 desc.0 x told.0 k) in
-    ap (option_map (λ q. nat_lt 0 (length q.tickets))) (queue_alive c h t x.object a (holds_alive h sid.0 desc.0 x k))
-    ∙ some_tickets (queue_meant c h x.object) there (empty_is c h x.object ∙ rw k at told.1)
+-- and so is its queue
+pub queue_held : (c : Config) (h : History) (t : Kept) (s d : ℕ) (x : Held) → Agrees c h t → not_held c h s Mq d ≡ false → holds h s d ≡ Some x → is_some (queue_at t.contents x.object) ≡ true
+queue_held c h t s d x a e k =
+    ap is_some (queue_alive c h t x.object a (holds_alive h s d x k))
+    ∙ queue_there c h x.object (object c h x.object) refl (not_bad_object c h s d x e k)
 
 -- what an accepted open of an unbound name asks for, or is given without asking, is some
 or_off : (a b : Bool) → (a || b) ≡ false → (a ≡ false) × (b ≡ false)
@@ -154,7 +138,7 @@ not_zero n e = grind (arith, nat_tests)
 min_some : (a b : ℕ) → 0 < a → 0 < b → 0 < min a b
 min_some a b k l = omega arith
 
-limits_some : (c : Config) → first_bad c.limits ≡ None → (0 < c.limits.msg_max) × (0 < c.limits.msgsize_max)
+pub limits_some : (c : Config) → first_bad c.limits ≡ None → (0 < c.limits.msg_max) × (0 < c.limits.msgsize_max)
 limits_some c e =
     let past1 = first_none _ MsgMax _ e in
     let past2 = first_none _ MsgsizeMax _ past1.1 in
@@ -176,7 +160,8 @@ in_range_at b false r e k l = absurd cc
 pub open_some : (c : Config) (h : History) (t : Kept) (sid : Sid) (asked : QueueOpen) (who : Cred) → Agrees c h t → first_bad c.limits ≡ None → verdict c h (Do sid (MqOpen asked)) ≡ None → object_named t.queues.bindings asked.name ≡ None → cred c h sid.0 ≡ Some who → (0 < (attributes_of c asked.attributes).maxmsg) × (0 < (attributes_of c asked.attributes).msgsize)
 open_some c h t sid asked who a in_range e unnamed is =
     let past1 = first_none _ NoSession _ (sym (open_kept c h t sid asked a) ∙ e) in
-    let past2 = first_none _ NameForm _ past1.1 in
+    let free = first_none _ InCall _ past1.1 in
+    let past2 = first_none _ NameForm _ free.1 in
     let past3 = first_none _ NameLong _ past2.1 in
     let past4 = first_none _ DirSearch _ past3.1 in
     let past5 = first_none _ Absent _ past4.1 in

@@ -1,5 +1,5 @@
 -- What the core keeps so that it need not look back over the whole history, and what is looked up in it.
-use Rattle.std.specs.Prelude.{Bool, false, ℕ, ◌==◌, ◌&&◌, ◌||◌, not, List, find, filter, slice_get, Option, Some, None, option_and_then}
+use Rattle.std.specs.Prelude.{Bool, false, ℕ, ◌==◌, ◌&&◌, ◌||◌, not, List, find, filter, slice_get, Option, Some, None, is_some, option_and_then}
 use Rattle.std.specs.List.{list_any}
 use Rattle.std.specs.Option.{option_map}
 use Rattle.ipc_terms.specs.Names.{same_family}
@@ -95,6 +95,14 @@ is_live_row (Some row) = row.is_live
 -- whether session s is live
 abbrev pub live_at : List Session → ℕ → Bool
 live_at sessions s = is_live_row (slice_get sessions s)
+
+-- the object on which the call of session s is parked
+abbrev pub parked_on_at : List Session → ℕ → Option ℕ
+parked_on_at sessions s = option_and_then (λ row. row.parked_on) (slice_get sessions s)
+
+-- whether the call of session s is parked
+abbrev pub parked_at : List Session → ℕ → Bool
+parked_at sessions s = is_some (parked_on_at sessions s)
 
 -- all that the core keeps; sessions stand at their numbers
 pub record Kept : Type 0 where

@@ -3,3 +3,4 @@ pub mod Kept
 pub mod Agrees
 pub mod Steps
 pub mod Ranges
+pub mod Outboxes

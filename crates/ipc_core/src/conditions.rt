@@ -6,7 +6,7 @@ ghost use Rattle.ipc_terms.specs.Flags.{has_create, has_exclusive};
 ghost use Rattle.ipc_access.specs.Users.{cred_of};
 ghost use Rattle.ipc_queue.specs.Tickets.{is_full_of};
 ghost use Rattle.ipc_policy.specs.Rules.{there_is, denied, denied_at, removal_denied, reads_only, writes_only, bits_wanted, out_of_range};
-ghost use Rattle.ipc_core.specs.Kept.{cred_at, live_at, facts_at, is_held_queue, is_of, object_of, queue_of};
+ghost use Rattle.ipc_core.specs.Kept.{cred_at, live_at, parked_at, nonblock_of, facts_at, is_held_queue, is_of, object_of, queue_of};
 
 use crate::tables::Tables;
 use ipc_access::{Cred, grants, may_remove};
@@ -36,6 +36,16 @@ pub fn is_live(tables: &Tables, sid: Sid) -> bool
 {
     match tables.session(sid) {
         Some(session) => session.is_live,
+        None => false,
+    }
+}
+
+/// Whether the session's call is parked.
+pub fn is_parked(tables: &Tables, sid: Sid) -> bool
+    ensures { result ≡ parked_at tables.now.sessions sid.0 }
+{
+    match tables.session(sid) {
+        Some(session) => session.parked_on.is_some(),
         None => false,
     }
 }
@@ -115,6 +125,13 @@ pub fn is_too_short(object: Option<Object>, length: u32) -> bool
         Some(object) => length < object.attributes.msgsize,
         None => false,
     }
+}
+
+/// Whether a call by the description is refused where it would wait, and it would.
+pub fn is_refused_at_once(tables: &Tables, desc: Desc, would_wait: bool) -> bool
+    ensures { result ≡ (nonblock_of tables.now.descriptions.rows desc.0 && would_wait) }
+{
+    tables.descriptions().is_nonblock(desc) && would_wait
 }
 
 /// Whether there is a queue, and it has as many messages as it may.

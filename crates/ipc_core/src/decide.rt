@@ -2,7 +2,7 @@
 
 ghost use Rattle.std.specs.Prelude.{◌≡◌, Bool};
 ghost use Rattle.ipc_terms.specs.declared.record.Event.TheVariants.{Hello, Do, Hangup};
-ghost use Rattle.ipc_terms.specs.declared.call.Call.TheVariants.{Umask, MqOpen, MqClose, MqSend, MqReceive, MqGetattr, MqSetattr, MqUnlink, ListNames, StatName};
+ghost use Rattle.ipc_terms.specs.declared.call.Call.TheVariants.{Umask, MqOpen, MqClose, MqSend, MqReceive, MqGetattr, MqSetattr, MqUnlink, ListNames, StatName, Interrupt};
 ghost use Rattle.ipc_terms.specs.declared.ids.Target.TheVariants.{Dir, Name as TargetName};
 ghost use Rattle.ipc_policy.specs.Verdict.{verdict};
 ghost use Rattle.ipc_core.specs.Agrees.{IsCore};
@@ -10,8 +10,8 @@ ghost use Rattle.ipc_core.specs.Agrees.{IsCore};
 use crate::conditions::{
     bits_of, cred, facts_of, first_of, holds_most, holds_queue, is_absent, is_creating, is_denied,
     is_denied_at, is_empty, is_full, is_known, is_live, is_new_denied, is_new_out_of_range,
-    is_present, is_read_only, is_removal_denied, is_too_long, is_too_short, is_unbound,
-    is_write_only, object_of, queue_of,
+    is_parked, is_present, is_read_only, is_refused_at_once, is_removal_denied, is_too_long,
+    is_too_short, is_unbound, is_write_only, object_of, queue_of,
 };
 use crate::tables::Tables;
 use ipc_names::{has_form, is_long};
@@ -47,6 +47,7 @@ pub fn decide(config: &Config, past: &Trail, tables: &Tables, event: &Event) -> 
                 count,
             } => decide_list(config, past, tables, *sid, *family, *start, *count),
             Call::StatName(target) => decide_stat(config, past, tables, *sid, target),
+            Call::Interrupt => decide_interrupt(config, past, tables, *sid),
         },
         Event::Hangup { sid } => decide_hangup(config, past, tables, *sid),
     }
@@ -68,7 +69,10 @@ fn decide_umask(
     requires { IsCore config.now past.now.history tables.now }
     ensures { result ≡ verdict config.now past.now.history (Do sid (Umask mask)) }
 {
-    first_of(&[(!is_live(tables, sid), Rule::NoSession)])
+    first_of(&[
+        (!is_live(tables, sid), Rule::NoSession),
+        (is_parked(tables, sid), Rule::InCall),
+    ])
 }
 
 /// The verdict on a close, and on a call that asks for a queue's attributes or sets them.
@@ -80,6 +84,7 @@ fn decide_held(config: &Config, past: &Trail, tables: &Tables, sid: Sid, desc: D
 {
     first_of(&[
         (!is_live(tables, sid), Rule::NoSession),
+        (is_parked(tables, sid), Rule::InCall),
         (!holds_queue(tables, sid, desc), Rule::BadDescr),
     ])
 }
@@ -100,6 +105,7 @@ fn decide_send(
     let length = bytes.as_slice().len();
     first_of(&[
         (!is_live(tables, sid), Rule::NoSession),
+        (is_parked(tables, sid), Rule::InCall),
         (!holds_queue(tables, sid, desc), Rule::BadDescr),
         (is_read_only(held), Rule::NotForWrite),
         (priority >= 32_768, Rule::PrioRange),
@@ -107,7 +113,10 @@ fn decide_send(
             is_too_long(object_of(tables, held), length),
             Rule::MessageLong,
         ),
-        (is_full(queue_of(tables, held)), Rule::WouldBlock),
+        (
+            is_refused_at_once(tables, desc, is_full(queue_of(tables, held))),
+            Rule::WouldBlock,
+        ),
     ])
 }
 
@@ -125,13 +134,17 @@ fn decide_receive(
     let held = tables.descriptions().held_of(sid, desc);
     first_of(&[
         (!is_live(tables, sid), Rule::NoSession),
+        (is_parked(tables, sid), Rule::InCall),
         (!holds_queue(tables, sid, desc), Rule::BadDescr),
         (is_write_only(held), Rule::NotForRead),
         (
             is_too_short(object_of(tables, held), length),
             Rule::BufferShort,
         ),
-        (is_empty(queue_of(tables, held)), Rule::WouldBlock),
+        (
+            is_refused_at_once(tables, desc, is_empty(queue_of(tables, held))),
+            Rule::WouldBlock,
+        ),
     ])
 }
 
@@ -151,6 +164,7 @@ fn decide_open(
     let is_new = is_creating(asked, found);
     first_of(&[
         (!is_live(tables, sid), Rule::NoSession),
+        (is_parked(tables, sid), Rule::InCall),
         (!has_form(asked.name.as_slice()), Rule::NameForm),
         (is_long(Family::Mq, asked.name.as_slice()), Rule::NameLong),
         (is_denied(who, directory, 1), Rule::DirSearch),
@@ -184,6 +198,7 @@ fn decide_unlink(
     let directory = tables.names(Family::Mq).facts();
     first_of(&[
         (!is_live(tables, sid), Rule::NoSession),
+        (is_parked(tables, sid), Rule::InCall),
         (!has_form(name.as_slice()), Rule::NameForm),
         (is_long(Family::Mq, name.as_slice()), Rule::NameLong),
         (is_denied(who, directory, 1), Rule::DirSearch),
@@ -212,6 +227,7 @@ fn decide_list(
     let directory = tables.names(family).facts();
     first_of(&[
         (!is_live(tables, sid), Rule::NoSession),
+        (is_parked(tables, sid), Rule::InCall),
         (is_denied(who, directory, 4), Rule::DirRead),
     ])
 }
@@ -242,7 +258,10 @@ fn decide_stat_directory(
     requires { IsCore config.now past.now.history tables.now }
     ensures { result ≡ verdict config.now past.now.history (Do sid (StatName (Dir family))) }
 {
-    first_of(&[(!is_live(tables, sid), Rule::NoSession)])
+    first_of(&[
+        (!is_live(tables, sid), Rule::NoSession),
+        (is_parked(tables, sid), Rule::InCall),
+    ])
 }
 
 fn decide_stat_name(
@@ -261,10 +280,21 @@ fn decide_stat_name(
     let directory = tables.names(family).facts();
     first_of(&[
         (!is_live(tables, sid), Rule::NoSession),
+        (is_parked(tables, sid), Rule::InCall),
         (!has_form(name.as_slice()), Rule::NameForm),
         (is_long(family, name.as_slice()), Rule::NameLong),
         (is_denied(who, directory, 1), Rule::DirSearch),
         (is_unbound(found), Rule::Absent),
+    ])
+}
+
+fn decide_interrupt(config: &Config, past: &Trail, tables: &Tables, sid: Sid) -> Option<Rule>
+    requires { IsCore config.now past.now.history tables.now }
+    ensures { result ≡ verdict config.now past.now.history (Do sid Interrupt) }
+{
+    first_of(&[
+        (!is_live(tables, sid), Rule::NoSession),
+        (!is_parked(tables, sid), Rule::NotInCall),
     ])
 }
 

@@ -4,11 +4,16 @@
 mod accept;
 mod answer;
 mod conditions;
+mod copies;
 mod core_state;
 mod decide;
 mod descriptions;
 mod fault;
 pub mod laws;
+mod outboxes;
+#[cfg(test)]
+mod parking_tests;
+mod posting;
 mod tables;
 #[cfg(test)]
 mod tests;

@@ -1,12 +1,12 @@
 //! Each public function with ample memory, what no clause says (the texts of the faults), and
-//! worked opens.
+//! worked opens, sends and receives.
 
 use crate::{Config, Core, CoreFault, Field, Limits, laws};
 use bitflags::Flags;
 use ipc_access::Users;
 use ipc_terms::{
     Access, Answer, Attributes, Bytes, Call, Desc, Event, Family, Mode, Name, OpenFlags, QueueOpen,
-    Rule, Sid, Target, Uid,
+    Record, Rule, Sid, Target, Uid,
 };
 use std::alloc::Global;
 use std::process::Abort;
@@ -27,16 +27,7 @@ fn core(alloc: Global) -> Result<Core, Fail> {
     Ok(Core::new(alloc, config)?)
 }
 
-/// A core with sessions 0, 1 and 2 of root, ann and bob.
-fn core_of_three(alloc: Global) -> Result<Core, Fail> {
-    let mut core = core(alloc)?;
-    for uid in [0, 1000, 1001] {
-        core.step(alloc, hello(uid))?;
-    }
-    Ok(core)
-}
-
-fn hello(uid: u32) -> Event {
+pub fn hello(uid: u32) -> Event {
     Event::Hello {
         found: Some(Uid(uid)),
     }
@@ -44,7 +35,8 @@ fn hello(uid: u32) -> Event {
 
 /// An event, with names and messages as bytes, so that a table of events takes no memory.
 #[derive(Clone, Copy)]
-enum Asked<'a> {
+pub enum Asked<'a> {
+    Hello(u32),
     Umask(u16),
     Close(u64),
     /// An open for both accesses, with these flags, mode and attributes.
@@ -61,6 +53,7 @@ enum Asked<'a> {
     List(Family, u32, u16),
     StatDirectory(Family),
     Stat(Family, &'a [u8]),
+    Interrupt,
     Hangup,
 }
 
@@ -68,9 +61,21 @@ fn name(alloc: Global, bytes: &[u8]) -> Result<Name, Fail> {
     Ok(Name::new(Bytes::from_slice(alloc, bytes)?))
 }
 
-fn event(alloc: Global, sid: u64, asked: Asked) -> Result<Event, Fail> {
+/// An open of what there is.
+fn found(name: Name, access: Access) -> Call {
+    Call::MqOpen(QueueOpen {
+        name,
+        access,
+        flags: OpenFlags::empty(),
+        mode: Mode(0),
+        attributes: None,
+    })
+}
+
+pub fn event(alloc: Global, sid: u64, asked: Asked) -> Result<Event, Fail> {
     let sid = Sid(sid);
     let call = match asked {
+        Asked::Hello(uid) => return Ok(hello(uid)),
         Asked::Hangup => return Ok(Event::Hangup { sid }),
         Asked::Umask(mask) => Call::Umask(Mode(mask)),
         Asked::Close(desc) => Call::MqClose(Desc(desc)),
@@ -81,13 +86,7 @@ fn event(alloc: Global, sid: u64, asked: Asked) -> Result<Event, Fail> {
             mode: Mode(mode),
             attributes,
         }),
-        Asked::Find(bytes, access) => Call::MqOpen(QueueOpen {
-            name: name(alloc, bytes)?,
-            access,
-            flags: OpenFlags::empty(),
-            mode: Mode(0),
-            attributes: None,
-        }),
+        Asked::Find(bytes, access) => found(name(alloc, bytes)?, access),
         Asked::Send(desc, priority, bytes) => Call::MqSend {
             desc: Desc(desc),
             priority,
@@ -110,6 +109,7 @@ fn event(alloc: Global, sid: u64, asked: Asked) -> Result<Event, Fail> {
         },
         Asked::StatDirectory(family) => Call::StatName(Target::Dir(family)),
         Asked::Stat(family, bytes) => Call::StatName(Target::Name(family, name(alloc, bytes)?)),
+        Asked::Interrupt => Call::Interrupt,
     };
     Ok(Event::Do { sid, call })
 }
@@ -127,8 +127,9 @@ fn create_with(name: &[u8], maxmsg: u32, msgsize: u32) -> Asked {
 
 /// An answer, with names and messages as bytes.
 #[derive(Clone, Copy, Debug)]
-enum Wanted<'a> {
+pub enum Wanted<'a> {
     Nothing,
+    Started(u64),
     Done,
     Opened(u64),
     Mask(u16),
@@ -142,12 +143,14 @@ enum Wanted<'a> {
     Names(&'a [u8]),
     Stat(u32, u32, u16),
     Refused(Rule),
+    Interrupted,
 }
 
 /// Whether this is what is wanted.
-fn is_wanted(given: &Answer, wanted: Wanted) -> bool {
+pub fn is_wanted(given: &Answer, wanted: Wanted) -> bool {
     match wanted {
         Wanted::Nothing => false,
+        Wanted::Started(sid) => matches!(given, Answer::Started(s) if s.0 == sid),
         Wanted::Done => matches!(given, Answer::Done),
         Wanted::Opened(desc) => matches!(given, Answer::Opened(d) if d.0 == desc),
         Wanted::Mask(mask) => matches!(given, Answer::Mask(m) if m.0 == mask),
@@ -179,7 +182,18 @@ fn is_wanted(given: &Answer, wanted: Wanted) -> bool {
             _ => false,
         },
         Wanted::Refused(rule) => matches!(given, Answer::Refused(r) if *r == rule),
+        Wanted::Interrupted => matches!(given, Answer::Interrupted),
     }
+}
+
+/// Whether these are the answers, in this order.
+pub fn are_wanted(given: &[Answer], wanted: &[Wanted]) -> bool {
+    for (told, want) in given.iter().zip(wanted.iter().copied()) {
+        if !is_wanted(told, want) {
+            return false;
+        }
+    }
+    given.len() == wanted.len()
 }
 
 /// Whether the names, one after the other, are these bytes.
@@ -194,8 +208,37 @@ fn are_names(names: &[Name], bytes: &[u8]) -> bool {
     rest.is_empty()
 }
 
-/// Each session's event in turn is answered so, and to the session.
-fn answers(
+/// Whether a step answered this session alone, and this; or nobody, if nothing is wanted.
+pub fn is_told(given: &[(Sid, Answer)], sid: u64, wanted: Wanted) -> bool {
+    match given {
+        [] => matches!(wanted, Wanted::Nothing),
+        [only] => only.0.0 == sid && is_wanted(&only.1, wanted),
+        _ => false,
+    }
+}
+
+/// A core with the sessions 0, 1 and 2 of root, ann and bob.
+pub fn core_of_three(alloc: Global) -> Result<Core, Fail> {
+    let mut core = core(alloc)?;
+    start(alloc, &mut core, &[0, 1000, 1001])?;
+    Ok(core)
+}
+
+/// In a core of three sessions, each session's event in turn is answered so, and to the session.
+fn answers(rt: &impl Abort, alloc: Global, rows: &[(u64, Asked, Wanted)]) -> Result<(), Fail> {
+    let mut core = core_of_three(alloc)?;
+    answers_of(rt, alloc, &mut core, rows)
+}
+
+/// Starts a session of each user.
+fn start(alloc: Global, core: &mut Core, users: &[u32]) -> Result<(), Fail> {
+    for uid in users.iter().copied() {
+        core.step(alloc, hello(uid))?;
+    }
+    Ok(())
+}
+
+fn answers_of(
     rt: &impl Abort,
     alloc: Global,
     core: &mut Core,
@@ -204,11 +247,7 @@ fn answers(
     for (sid, asked, wanted) in rows.iter().copied() {
         let place = core.trail().len();
         let given = core.step(alloc, event(alloc, sid, asked)?)?;
-        let is_so = match given.as_slice() {
-            [] => matches!(wanted, Wanted::Nothing),
-            [only] => only.0.0 == sid && is_wanted(&only.1, wanted),
-            _ => false,
-        };
+        let is_so = is_told(&given, sid, wanted);
         assert!(rt; is_so, "at {place}: not {wanted:?}");
     }
     Ok(())
@@ -262,6 +301,7 @@ fn faults_have_texts(rt: HostRuntime) -> Result<(), Fail> {
 fn a_new_core_has_its_configuration_and_no_records(rt: HostRuntime) -> Result<(), Fail> {
     let core = core(rt.alloc())?;
     core.is_legal();
+    core.keeps_the_last();
     assert_eq!(rt; core.config().limits, Limits::STANDARD);
     assert_eq!(rt; core.config().users.as_slice().len(), 4);
     assert_eq!(rt; core.trail().len(), 0);
@@ -269,42 +309,66 @@ fn a_new_core_has_its_configuration_and_no_records(rt: HostRuntime) -> Result<()
     Ok(())
 }
 
+fn decided(core: &Core, event: Event) -> Option<Rule> {
+    core.decide(&event)
+}
+
 #[test]
 fn deciding_records_nothing(rt: HostRuntime) -> Result<(), Fail> {
     let core = core(rt.alloc())?;
-    assert_eq!(rt; core.decide(&hello(1000)), None);
-    assert_eq!(rt; core.decide(&hello(5)), Some(Rule::BadKey));
-    assert_eq!(rt;
-        core.decide(&event(rt.alloc(), 0, Asked::Umask(0))?),
-        Some(Rule::NoSession)
-    );
-    assert_eq!(rt; core.trail().len(), 0);
+    let umask = event(rt.alloc(), 0, Asked::Umask(0))?;
+    assert!(rt; decided(&core, hello(1000)) == None);
+    assert!(rt; decided(&core, hello(5)) == Some(Rule::BadKey));
+    assert!(rt; decided(&core, umask) == Some(Rule::NoSession));
+    assert!(rt; core.trail().len() == 0);
     Ok(())
+}
+
+/// A hello of ann, a hello of nobody, and a umask of session 0.
+fn three_events(alloc: Global) -> Result<Vec<Event>, Fail> {
+    let umask = event(alloc, 0, Asked::Umask(0))?;
+    let events = [hello(1000), Event::Hello { found: None }, umask];
+    Ok(Vec::from_array(alloc, events)?)
+}
+
+/// Whether each step answered this session alone, and this.
+fn are_told(given: &[Vec<(Sid, Answer)>], wanted: &[(u64, Wanted)]) -> bool {
+    for ((sid, want), told) in wanted.iter().copied().zip(given.iter()) {
+        if !is_told(told, sid, want) {
+            return false;
+        }
+    }
+    given.len() == wanted.len()
 }
 
 #[test]
 fn a_run_answers_and_records_each_event(rt: HostRuntime) -> Result<(), Fail> {
     let mut core = core(rt.alloc())?;
-    let mut events = Vec::new(rt.alloc());
-    events.push(hello(1000))?;
-    events.push(Event::Hello { found: None })?;
-    events.push(event(rt.alloc(), 0, Asked::Umask(0))?)?;
-    let given = core.run(rt.alloc(), events)?;
+    let given = core.run(rt.alloc(), three_events(rt.alloc())?)?;
     let wanted = [
-        (Sid(0), Answer::Started(Sid(0))),
-        (Sid::NOBODY, Answer::Refused(Rule::BadKey)),
-        (Sid(0), Answer::Mask(Mode(0o22))),
+        (0, Wanted::Started(0)),
+        (u64::MAX, Wanted::Refused(Rule::BadKey)),
+        (0, Wanted::Mask(0o22)),
     ];
-    assert_eq!(rt; given.len(), wanted.len());
-    for (told, want) in given.iter().zip(wanted.iter()) {
-        assert!(rt; matches!(told.as_slice(), [only] if only == want));
-    }
-    assert_eq!(rt; core.trail().len(), 3);
-    let second = core.trail().get(1).ok_or("no record")?;
-    assert!(rt; matches!(&second.event, Event::Hello { found: None }));
-    assert_eq!(rt; second.rule, Some(Rule::BadKey));
+    assert!(rt; are_told(&given, &wanted));
+    assert!(rt; core.trail().len() == 3);
+    assert!(rt; is_refused_hello(core.trail().get(1)));
+    let taken = core.take(Sid(0));
+    assert!(rt; are_wanted(&taken, &[Wanted::Started(0), Wanted::Mask(0o22)]));
+    assert_eq!(rt; core.waiting(Sid(0)), 0);
     assert!(rt; core.trail().get(3).is_none());
     Ok(())
+}
+
+/// Whether it is the record of a hello of nobody, which rule 31 refused.
+fn is_refused_hello(found: Option<&Record>) -> bool {
+    match found {
+        Some(record) => {
+            matches!(record.event, Event::Hello { found: None })
+                && record.rule == Some(Rule::BadKey)
+        }
+        None => false,
+    }
 }
 
 #[test]
@@ -314,11 +378,16 @@ fn the_laws_are_there(rt: HostRuntime) {
     laws::grow();
     laws::listed();
     laws::bound();
+    laws::parked_by_place();
+    laws::inside_by_place();
+    laws::in_order();
+    laws::parked_listed();
+    laws::parked_alive();
+    laws::bounded();
 }
 
 #[test]
 fn one_class_decides_on_what_the_mask_left(rt: HostRuntime) -> Result<(), Fail> {
-    let mut core = core_of_three(rt.alloc())?;
     let denied = Wanted::Refused(Rule::ModeDenied);
     let rows = [
         (1, create(b"/a", 0o666), Wanted::Opened(0)),
@@ -335,12 +404,11 @@ fn one_class_decides_on_what_the_mask_left(rt: HostRuntime) -> Result<(), Fail> 
         (1, Asked::Find(b"/c", Access::Read), denied),
         (2, Asked::Find(b"/c", Access::Both), Wanted::Opened(6)),
     ];
-    answers(&rt, rt.alloc(), &mut core, &rows)
+    answers(&rt, rt.alloc(), &rows)
 }
 
 #[test]
 fn descriptions_are_closed_once_by_their_session(rt: HostRuntime) -> Result<(), Fail> {
-    let mut core = core_of_three(rt.alloc())?;
     let bad = Wanted::Refused(Rule::BadDescr);
     let rows = [
         (1, create(b"/a", 0o666), Wanted::Opened(0)),
@@ -352,12 +420,11 @@ fn descriptions_are_closed_once_by_their_session(rt: HostRuntime) -> Result<(), 
         (1, Asked::Find(b"/a", Access::Read), Wanted::Opened(1)),
         (1, Asked::Close(1), Wanted::Done),
     ];
-    answers(&rt, rt.alloc(), &mut core, &rows)
+    answers(&rt, rt.alloc(), &rows)
 }
 
 #[test]
 fn refused_opens_use_up_no_number(rt: HostRuntime) -> Result<(), Fail> {
-    let mut core = core_of_three(rt.alloc())?;
     let mut long = [b'x'; 257];
     long[0] = b'/';
     let exclusive = OpenFlags::CREATE | OpenFlags::EXCLUSIVE;
@@ -385,12 +452,11 @@ fn refused_opens_use_up_no_number(rt: HostRuntime) -> Result<(), Fail> {
         ),
         (2, Asked::Open(b"/y", exclusive, 0, None), Wanted::Opened(1)),
     ];
-    answers(&rt, rt.alloc(), &mut core, &rows)
+    answers(&rt, rt.alloc(), &rows)
 }
 
 #[test]
 fn attributes_have_ranges(rt: HostRuntime) -> Result<(), Fail> {
-    let mut core = core_of_three(rt.alloc())?;
     let out = Wanted::Refused(Rule::AttrRange);
     let rows = [
         (1, create_with(b"/a", 11, 8192), out),
@@ -404,12 +470,11 @@ fn attributes_have_ranges(rt: HostRuntime) -> Result<(), Fail> {
         (0, create_with(b"/b", 10, 16_777_217), out),
         (0, create_with(b"/b", 65_536, 16_777_216), Wanted::Opened(2)),
     ];
-    answers(&rt, rt.alloc(), &mut core, &rows)
+    answers(&rt, rt.alloc(), &rows)
 }
 
 #[test]
 fn names_are_unlinked_and_listed(rt: HostRuntime) -> Result<(), Fail> {
-    let mut core = core_of_three(rt.alloc())?;
     let absent = Wanted::Refused(Rule::Absent);
     let rows = [
         (1, create(b"/v", 0o600), Wanted::Opened(0)),
@@ -432,12 +497,11 @@ fn names_are_unlinked_and_listed(rt: HostRuntime) -> Result<(), Fail> {
         ),
         (2, Asked::List(Family::Mq, 0, 10), Wanted::Names(b"/b/a")),
     ];
-    answers(&rt, rt.alloc(), &mut core, &rows)
+    answers(&rt, rt.alloc(), &rows)
 }
 
 #[test]
 fn an_object_outlives_its_name_while_it_is_open(rt: HostRuntime) -> Result<(), Fail> {
-    let mut core = core_of_three(rt.alloc())?;
     let bad = Wanted::Refused(Rule::BadDescr);
     let rows = [
         (1, create(b"/a", 0o666), Wanted::Opened(0)),
@@ -460,12 +524,11 @@ fn an_object_outlives_its_name_while_it_is_open(rt: HostRuntime) -> Result<(), F
         (1, Asked::Close(2), Wanted::Done),
         (1, Asked::Find(b"/a", Access::Read), Wanted::Opened(3)),
     ];
-    answers(&rt, rt.alloc(), &mut core, &rows)
+    answers(&rt, rt.alloc(), &rows)
 }
 
 #[test]
 fn a_sticky_directory_keeps_names_from_others(rt: HostRuntime) -> Result<(), Fail> {
-    let mut core = core_of_three(rt.alloc())?;
     let rows = [
         (1, create(b"/s", 0o666), Wanted::Opened(0)),
         (2, create(b"/t", 0o666), Wanted::Opened(1)),
@@ -474,12 +537,11 @@ fn a_sticky_directory_keeps_names_from_others(rt: HostRuntime) -> Result<(), Fai
         (0, Asked::Unlink(b"/t"), Wanted::Done),
         (0, Asked::List(Family::Mq, 0, 10), Wanted::Names(b"")),
     ];
-    answers(&rt, rt.alloc(), &mut core, &rows)
+    answers(&rt, rt.alloc(), &rows)
 }
 
 #[test]
 fn a_session_that_hung_up_holds_nothing(rt: HostRuntime) -> Result<(), Fail> {
-    let mut core = core_of_three(rt.alloc())?;
     let gone = Wanted::Refused(Rule::NoSession);
     let rows = [
         (1, create(b"/a", 0o666), Wanted::Opened(0)),
@@ -492,20 +554,16 @@ fn a_session_that_hung_up_holds_nothing(rt: HostRuntime) -> Result<(), Fail> {
         (2, Asked::Close(1), Wanted::Done),
         (2, Asked::Find(b"/a", Access::Read), Wanted::Opened(2)),
         (9, Asked::Hangup, gone),
-    ];
-    answers(&rt, rt.alloc(), &mut core, &rows)?;
-    core.step(rt.alloc(), hello(1000))?;
-    let rows = [
+        (3, Asked::Hello(1000), Wanted::Started(3)),
         (3, Asked::Close(0), Wanted::Refused(Rule::BadDescr)),
         (3, Asked::Umask(0), Wanted::Mask(0o22)),
         (1, Asked::Umask(0), gone),
     ];
-    answers(&rt, rt.alloc(), &mut core, &rows)
+    answers(&rt, rt.alloc(), &rows)
 }
 
 #[test]
 fn directories_and_names_have_facts(rt: HostRuntime) -> Result<(), Fail> {
-    let mut core = core_of_three(rt.alloc())?;
     let mut long = [b'x'; 257];
     long[0] = b'/';
     let form = Wanted::Refused(Rule::NameForm);
@@ -544,12 +602,11 @@ fn directories_and_names_have_facts(rt: HostRuntime) -> Result<(), Fail> {
             Wanted::Refused(Rule::NoSession),
         ),
     ];
-    answers(&rt, rt.alloc(), &mut core, &rows)
+    answers(&rt, rt.alloc(), &rows)
 }
 
 #[test]
 fn the_greatest_priority_comes_out_first_and_then_the_oldest(rt: HostRuntime) -> Result<(), Fail> {
-    let mut core = core_of_three(rt.alloc())?;
     let rows = [
         (1, create_with(b"/q", 5, 3), Wanted::Opened(0)),
         (0, Asked::Find(b"/q", Access::Read), Wanted::Opened(1)),
@@ -562,17 +619,17 @@ fn the_greatest_priority_comes_out_first_and_then_the_oldest(rt: HostRuntime) ->
         (1, Asked::Receive(0, 3), Wanted::Received(32_767, b"")),
         (1, Asked::Unlink(b"/q"), Wanted::Done),
         (1, create_with(b"/q", 5, 3), Wanted::Opened(2)),
+        (1, Asked::Setattr(2, true), Wanted::Attrs(false, 5, 3, 0)),
         (1, Asked::Receive(2, 3), Wanted::Refused(Rule::WouldBlock)),
         (1, Asked::Receive(0, 4), Wanted::Received(1, b"a")),
         (0, Asked::Receive(1, 3), Wanted::Received(1, b"\0\xff")),
         (1, Asked::Receive(0, 3), Wanted::Received(0, b"xyz")),
     ];
-    answers(&rt, rt.alloc(), &mut core, &rows)
+    answers(&rt, rt.alloc(), &rows)
 }
 
 #[test]
 fn attributes_are_told_of_a_description(rt: HostRuntime) -> Result<(), Fail> {
-    let mut core = core_of_three(rt.alloc())?;
     let flags = OpenFlags::CREATE | OpenFlags::NONBLOCK;
     let rows = [
         (1, Asked::Open(b"/q", flags, 0o600, None), Wanted::Opened(0)),
@@ -592,18 +649,19 @@ fn attributes_are_told_of_a_description(rt: HostRuntime) -> Result<(), Fail> {
         (1, Asked::Getattr(1), Wanted::Attrs(true, 10, 8192, 1)),
         (1, Asked::Getattr(0), Wanted::Attrs(false, 10, 8192, 1)),
     ];
-    answers(&rt, rt.alloc(), &mut core, &rows)
+    answers(&rt, rt.alloc(), &rows)
 }
 
 #[test]
 fn sends_and_receives_are_refused(rt: HostRuntime) -> Result<(), Fail> {
-    let mut core = core_of_three(rt.alloc())?;
     let bad = Wanted::Refused(Rule::BadDescr);
     let block = Wanted::Refused(Rule::WouldBlock);
     let rows = [
         (1, create_with(b"/q", 1, 2), Wanted::Opened(0)),
         (1, Asked::Find(b"/q", Access::Read), Wanted::Opened(1)),
         (1, Asked::Find(b"/q", Access::Write), Wanted::Opened(2)),
+        (1, Asked::Setattr(0, true), Wanted::Attrs(false, 1, 2, 0)),
+        (1, Asked::Setattr(1, true), Wanted::Attrs(false, 1, 2, 0)),
         (1, Asked::Receive(1, 2), block),
         (1, Asked::Receive(1, 1), Wanted::Refused(Rule::BufferShort)),
         (1, Asked::Receive(2, 1), Wanted::Refused(Rule::NotForRead)),
@@ -629,5 +687,5 @@ fn sends_and_receives_are_refused(rt: HostRuntime) -> Result<(), Fail> {
         (2, Asked::Getattr(0), bad),
         (2, Asked::Setattr(0, true), bad),
     ];
-    answers(&rt, rt.alloc(), &mut core, &rows)
+    answers(&rt, rt.alloc(), &rows)
 }

@@ -1,10 +1,9 @@
 -- What a name is bound to in a legal history.
-use Rattle.std.proofs.Common.{◌≡◌, ℕ, ◌+◌, ◌<◌, Bool, true, false, not, ◌&&◌, eqb, cond, List, [], ◌∷◌, Option, Some, None, is_some, refl, ◌∙◌, arith}
+use Rattle.std.proofs.Common.{◌≡◌, ℕ, ◌+◌, ◌<◌, Bool, true, false, ◌&&◌, eqb, cond, List, [], ◌∷◌, Option, Some, None, is_some, refl, ◌∙◌, arith}
 use Rattle.std.specs.Prelude.{IsTrue, option_and_then}
 use Rattle.std.specs.Option.{option_or, option_map}
 use Rattle.std.proofs.lemmas.Bool.{eqb-false}
 use Rattle.ipc_terms.specs.declared.rule.Rule.{Rule}
-use Rattle.ipc_terms.specs.declared.rule.Rule.TheVariants.{NoSession}
 use Rattle.ipc_terms.specs.declared.ids.Uid.{Uid}
 use Rattle.ipc_terms.specs.declared.ids.Sid.{Sid}
 use Rattle.ipc_terms.specs.declared.ids.Family.{Family}
@@ -25,7 +24,7 @@ use Rattle.ipc_policy.proofs.Verdicts.{queue_opening, verdict_open}
 use Rattle.ipc_policy.proofs.Grown.{grows}
 use Rattle.ipc_policy.proofs.Refused.{same_values}
 use Rattle.ipc_policy.proofs.Creating.{bound_below}
-use Rattle.ipc_policy.proofs.Known.{known_user, live_user, object_with_facts}
+use Rattle.ipc_policy.proofs.Known.{known_user, live_user, object_with_facts, live_of_none}
 
 -- a live session of a legal history has credentials
 cred_at : (c : Config) (h : History) (s : ℕ) (w : Option Uid) → user h s ≡ w → is_some w ≡ true → ((uid : Uid) → user h s ≡ Some uid → is_some (cred_of c.users uid) ≡ true) → is_some (option_and_then (cred_of c.users) w) ≡ true
@@ -37,12 +36,8 @@ unfolding cred
 cred_known c h legal s k = cred_at c h s (user h s) refl (live_user h s k) (known_user c h legal s)
 
 -- an open that is accepted comes from a live session
-live_first : (b : Bool) (o : Option Rule) → None ≡ cond (not b) (Some NoSession) o → b ≡ true
-live_first true o e = refl
-live_first false o e = absurd cc
-
 open_live : (c : Config) (h : History) (sid : Sid) (asked : QueueOpen) → None ≡ verdict c h (Do sid (MqOpen asked)) → live h sid.0 ≡ true
-open_live c h sid asked e = live_first (live h sid.0) _ (e ∙ verdict_open c h sid asked)
+open_live c h sid asked e = live_of_none (live h sid.0) _ (e ∙ verdict_open c h sid asked)
 
 -- every object of a legal history has an owner, a group and a mode
 facts_opened : (n o : ℕ) (b d : Bool) → eqb n o ≡ d → (w v : Option Facts) → (b ≡ true → is_some w ≡ true) → (o < n → is_some v ≡ true) → o < cond b (n + 1) n → is_some (cond (b && d) (option_or w v) v) ≡ true

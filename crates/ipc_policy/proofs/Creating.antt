@@ -1,10 +1,10 @@
--- In a legal history only objects that were created are bound, held, or hold messages.
+-- In a legal history only objects that were created are bound or held, or have messages or parked calls.
 use Rattle.std.proofs.Common.{◌≡◌, ℕ, ◌+◌, ◌<◌, ◌≤◌, Bool, true, false, not, ◌&&◌, eqb, cond, List, [], ◌∷◌, length, Option, Some, None, is_some, unwrap_or, refl, sym, ap, ◌∙◌, arith}
 use Rattle.std.specs.Prelude.{option_and_then}
 use Rattle.std.proofs.lemmas.Bool.{ne_eqb}
 use Rattle.ipc_terms.specs.Flags.{has_create}
 use Rattle.ipc_terms.specs.declared.rule.Rule.{Rule}
-use Rattle.ipc_terms.specs.declared.rule.Rule.TheVariants.{NoSession, NameForm, NameLong, DirSearch, Absent}
+use Rattle.ipc_terms.specs.declared.rule.Rule.TheVariants.{NoSession, InCall, NameForm, NameLong, DirSearch, Absent}
 use Rattle.ipc_terms.specs.declared.ids.Sid.{Sid}
 use Rattle.ipc_terms.specs.declared.ids.Family.{Family}
 use Rattle.ipc_terms.specs.declared.ids.Family.TheVariants.{Mq}
@@ -18,13 +18,14 @@ use Rattle.ipc_policy.specs.History.{History, kept}
 use Rattle.ipc_policy.specs.Names.{unlinks, asks_name, is_bound, creations, bound}
 use Rattle.ipc_policy.specs.Descriptions.{opens, if_of, held, holds, ends_held}
 use Rattle.ipc_policy.specs.Life.{gives_object}
-use Rattle.ipc_policy.specs.Queues.{contents, contents_after}
-use Rattle.ipc_policy.specs.Grow.{is_new, creations_after, bound_after, held_after, act_by}
+use Rattle.ipc_policy.specs.Objects.{object}
+use Rattle.ipc_policy.specs.Queues.{act_by, queue, empty_queue, queue_after, room}
+use Rattle.ipc_policy.specs.Grow.{is_new, creations_after, bound_after, held_after}
 use Rattle.ipc_policy.specs.Verdict.{verdict, Legal}
 use Rattle.ipc_policy.proofs.Verdicts.{queue_opening, verdict_open}
 use Rattle.ipc_policy.proofs.Holding.{held_grows}
 use Rattle.ipc_policy.proofs.Growing.{creations_grow, bound_grows}
-use Rattle.ipc_policy.proofs.Contents.{contents_grow}
+use Rattle.ipc_policy.proofs.Queueing.{queue_grows, refused_queue}
 use Rattle.ipc_policy.proofs.Known.{bound_iff}
 
 -- objects are never fewer
@@ -85,7 +86,8 @@ passed false x o e = (refl, e)
 open_there : (c : Config) (h : History) (sid : Sid) (asked : QueueOpen) → None ≡ verdict c h (Do sid (MqOpen asked)) → (not (has_create asked.flags) && not (is_bound h Mq asked.name)) ≡ false
 open_there c h sid asked e =
     let past1 = passed _ NoSession _ (e ∙ verdict_open c h sid asked) in
-    let past2 = passed _ NameForm _ past1.1 in
+    let past' = passed _ InCall _ past1.1 in
+    let past2 = passed _ NameForm _ past'.1 in
     let past3 = passed _ NameLong _ past2.1 in
     let past4 = passed _ DirSearch _ past3.1 in
     (passed _ Absent _ past4.1).0
@@ -159,23 +161,20 @@ given_at o n (Some x) le known = ne_eqb x.object o (λ (q : x.object ≡ o). abs
 not_given : (c : Config) (h : History) (s d o : ℕ) → Legal c h → creations h ≤ o → gives_object o (holds h s d) ≡ false
 not_given c h s d o legal le = given_at o (creations h) (holds h s d) le (λ x e. held_created c h legal d x (holds_is_held h s d x e))
 
-empty_after : (c : Config) (h : History) (o : ℕ) (e : Event) → Legal c h → creations h ≤ o → contents_after (act_by (length h) (holds h) o e) [] ≡ []
-empty_after c h o (Hello found) legal le = refl
-empty_after c h o (Do sid (MqSend desc priority bytes)) legal le = rw (not_given c h sid.0 desc.0 o legal le) refl
-empty_after c h o (Do sid (MqReceive desc room)) legal le = rw (not_given c h sid.0 desc.0 o legal le) refl
-empty_after c h o (Do sid call) legal le = refl
-empty_after c h o (Hangup sid) legal le = refl
+pub empty_after : (c : Config) (h : History) (o n : ℕ) (e : Event) → Legal c h → creations h ≤ o → queue_after n (act_by (length h) (holds h) o e) empty_queue ≡ empty_queue
+empty_after c h o n (Hello found) legal le = refl
+empty_after c h o n (Do sid (MqSend desc priority bytes)) legal le = rw (not_given c h sid.0 desc.0 o legal le) refl
+empty_after c h o n (Do sid (MqReceive desc length')) legal le = rw (not_given c h sid.0 desc.0 o legal le) refl
+empty_after c h o n (Do sid call) legal le = refl
+empty_after c h o n (Hangup sid) legal le = refl
 
-refused_contents : (h : History) (e : Event) (rule : Rule) (o : ℕ) → contents (record { event = e; rule = Some rule } ∷ h) o ≡ contents h o
-unfolding contents
-refused_contents h e rule o = refl
+empty_more : (c : Config) (h : History) (o : ℕ) → Legal c h → queue c h o ≡ empty_queue → creations h ≤ o → (e : Event) (r : Option Rule) → queue c (record { event = e; rule = r } ∷ h) o ≡ empty_queue
+empty_more c h o legal none le e (Some rule) = refused_queue c h e rule o ∙ none
+empty_more c h o legal none le e None = queue_grows c h e o ∙ ap (queue_after (room (object c h o)) (act_by (length h) (holds h) o e)) none ∙ empty_after c h o (room (object c h o)) e legal le
 
-empty_more : (c : Config) (h : History) (o : ℕ) → Legal c h → contents h o ≡ [] → creations h ≤ o → (e : Event) (r : Option Rule) → contents (record { event = e; rule = r } ∷ h) o ≡ []
-empty_more c h o legal none le e (Some rule) = refused_contents h e rule o ∙ none
-empty_more c h o legal none le e None = contents_grow h e o ∙ ap (contents_after (act_by (length h) (holds h) o e)) none ∙ empty_after c h o e legal le
-
-pub not_created_empty : (c : Config) (h : History) → Legal c h → (o : ℕ) → creations h ≤ o → contents h o ≡ []
-unfolding contents
+-- no message stands in an object that was not created, and no call is parked on it
+pub not_created_empty : (c : Config) (h : History) → Legal c h → (o : ℕ) → creations h ≤ o → queue c h o ≡ empty_queue
+unfolding queue
 not_created_empty c [] legal o le = refl
 not_created_empty c (r ∷ h) legal o le =
     let before = created_before h r.event r.rule o le in

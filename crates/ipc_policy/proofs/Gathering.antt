@@ -70,7 +70,7 @@ any_below_same p q zero same = refl
 any_below_same p q (suc n) same = ap (λ b. b || any_below p n) (same n (omega arith)) ∙ ap (λ b. q n || b) (any_below_same p q n (λ i lt. same i (omega arith)))
 
 -- what holds of one kind holds of another that each of the first is of
-more_at : (a b c d : Bool) → (a ≡ true → c ≡ true) → (b ≡ true → d ≡ true) → (a || b) ≡ true → (c || d) ≡ true
+pub more_at : (a b c d : Bool) → (a ≡ true → c ≡ true) → (b ≡ true → d ≡ true) → (a || b) ≡ true → (c || d) ≡ true
 more_at true b c d one two e = rw (one refl) refl
 more_at false b true d one two e = refl
 more_at false b false d one two e = two e

@@ -7,7 +7,7 @@ use Rattle.ipc_policy.specs.Objects.{makes, sets_facts, object, facts, directory
 use Rattle.ipc_policy.specs.Grow.{Grows}
 use Rattle.ipc_policy.proofs.Holding.{held_grows, count_grows}
 use Rattle.ipc_policy.proofs.Growing.{hello_grows, user_grows, live_grows, mask_grows, is_bound_grows, creations_grow, bound_grows, made_grows, opens_grow, nonblock_grows}
-use Rattle.ipc_policy.proofs.Contents.{contents_grow}
+use Rattle.ipc_policy.proofs.Queueing.{queue_grows, parked_grows, outbox_grows}
 use Rattle.ipc_policy.proofs.Living.{named_grows, bindings_grow, names_grow, alive_grows}
 
 -- an accepted event changes each value as stated
@@ -28,9 +28,11 @@ grows c h e = record {
   held_by = held_grows h e;
   count_of = count_grows h e;
   nonblock_of = nonblock_grows h e;
-  contents_of = contents_grow h e;
+  queue_of = queue_grows c h e;
+  parked_in = parked_grows c h e;
   named_by = named_grows h e;
   bindings_of = bindings_grow h e;
   names_of = names_grow h e;
   alive_or_not = alive_grows h e;
+  outbox_of = outbox_grows c h e;
 }

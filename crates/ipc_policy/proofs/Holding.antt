@@ -7,7 +7,7 @@ use Rattle.ipc_terms.specs.declared.rule.Rule.{Rule}
 use Rattle.ipc_terms.specs.declared.ids.Sid.{Sid}
 use Rattle.ipc_terms.specs.declared.ids.Desc.{Desc}
 use Rattle.ipc_terms.specs.declared.call.QueueOpen.{QueueOpen}
-use Rattle.ipc_terms.specs.declared.call.Call.TheVariants.{Umask, MqOpen, MqClose, MqSend, MqReceive, MqGetattr, MqSetattr, MqUnlink, ListNames, StatName}
+use Rattle.ipc_terms.specs.declared.call.Call.TheVariants.{Umask, MqOpen, MqClose, MqSend, MqReceive, MqGetattr, MqSetattr, MqUnlink, ListNames, StatName, Interrupt}
 use Rattle.ipc_terms.specs.declared.record.Event.{Event}
 use Rattle.ipc_terms.specs.declared.record.Record.{Record}
 use Rattle.ipc_terms.specs.declared.record.Event.TheVariants.{Hello, Do, Hangup}
@@ -224,4 +224,5 @@ count_grows h (Do sid (MqSetattr desc nonblock)) s = count_quiet h (Do sid (MqSe
 count_grows h (Do sid (MqUnlink name)) s = count_quiet h (Do sid (MqUnlink name)) s refl (held_grows h (Do sid (MqUnlink name)))
 count_grows h (Do sid (ListNames family start count)) s = count_quiet h (Do sid (ListNames family start count)) s refl (held_grows h (Do sid (ListNames family start count)))
 count_grows h (Do sid (StatName target)) s = count_quiet h (Do sid (StatName target)) s refl (held_grows h (Do sid (StatName target)))
+count_grows h (Do sid Interrupt) s = count_quiet h (Do sid Interrupt) s refl (held_grows h (Do sid Interrupt))
 count_grows h (Hangup sid) s = count_left h sid s

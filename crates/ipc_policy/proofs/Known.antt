@@ -198,9 +198,9 @@ pub live_user : (h : History) (s : ℕ) → live h s ≡ true → is_some (user 
 unfolding live user
 live_user h s k = unended_newest (begins s) (λ who e before. hangs_up s e) h k
 
-live_of_none : (b : Bool) → None ≡ cond (not b) (Some NoSession) None → b ≡ true
-live_of_none true h = refl
-live_of_none false h = absurd cc
+pub live_of_none : (b : Bool) (o : Option Rule) → None ≡ cond (not b) (Some NoSession) o → b ≡ true
+live_of_none true o h = refl
+live_of_none false o h = absurd cc
 
 first_mask_more : (c : Config) (before : History) (s : ℕ) → (hellos before ≤ s → mask before s ≡ 18) → (e : Event) (o : Option Rule) → o ≡ verdict c before e → hellos (record { event = e; rule = o } ∷ before) ≤ s → mask (record { event = e; rule = o } ∷ before) s ≡ 18
 unfolding mask hellos
@@ -210,7 +210,7 @@ first_mask_more c before s known (Do sid (Umask m)) None legal h = set_at (eqb s
   set_at : (b : Bool) → eqb sid.0 s ≡ b → unwrap_or (option_or (cond b (Some (m.0 % 512)) None) (newest (sets_mask s) before)) 18 ≡ 18
   set_at true e =
       let same : sid.0 ≡ s = eqb-true _ _ e in
-      let lives : is_some (user before sid.0) ≡ true = live_user before sid.0 (live_of_none _ (legal ∙ verdict_umask c before sid m)) in
+      let lives : is_some (user before sid.0) ≡ true = live_user before sid.0 (live_of_none _ _ (legal ∙ verdict_umask c before sid m)) in
       let below : sid.0 < hellos before = user_below before sid.0 lives in
       let k : hellos before ≤ s = h in
       absurd (omega arith)

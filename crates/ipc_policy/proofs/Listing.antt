@@ -11,7 +11,7 @@ use Rattle.ipc_terms.specs.declared.ids.Family.{Family}
 use Rattle.ipc_terms.specs.declared.ids.Family.TheVariants.{Mq, Sem}
 use Rattle.ipc_terms.specs.declared.rule.Rule.{Rule}
 use Rattle.ipc_terms.specs.declared.call.QueueOpen.{QueueOpen}
-use Rattle.ipc_terms.specs.declared.call.Call.TheVariants.{Umask, MqOpen, MqClose, MqSend, MqReceive, MqGetattr, MqSetattr, MqUnlink, ListNames, StatName}
+use Rattle.ipc_terms.specs.declared.call.Call.TheVariants.{Umask, MqOpen, MqClose, MqSend, MqReceive, MqGetattr, MqSetattr, MqUnlink, ListNames, StatName, Interrupt}
 use Rattle.ipc_terms.specs.declared.record.Event.{Event}
 use Rattle.ipc_terms.specs.declared.record.Event.TheVariants.{Hello, Do, Hangup}
 use Rattle.ipc_policy.specs.History.{History}
@@ -87,6 +87,7 @@ listed_more h f name known (Do sid (MqSetattr desc nonblock)) = known
 listed_more h f name known (Do sid (MqUnlink given)) = found_unlinked h f name given known
 listed_more h f name known (Do sid (ListNames family start count)) = known
 listed_more h f name known (Do sid (StatName target)) = known
+listed_more h f name known (Do sid Interrupt) = known
 listed_more h f name known (Hangup sid) = known
 
 listed_at : (h : History) (f : Family) (name : List ℕ) → found (bindings h f) name ≡ bound h f name → (e : Event) (r : Option Rule) → found (bindings (record { event = e; rule = r } ∷ h) f) name ≡ bound (record { event = e; rule = r } ∷ h) f name

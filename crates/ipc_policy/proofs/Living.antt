@@ -10,7 +10,7 @@ use Rattle.ipc_terms.specs.declared.ids.Family.{Family}
 use Rattle.ipc_terms.specs.declared.ids.Family.TheVariants.{Mq, Sem}
 use Rattle.ipc_terms.specs.declared.rule.Rule.{Rule}
 use Rattle.ipc_terms.specs.declared.call.QueueOpen.{QueueOpen}
-use Rattle.ipc_terms.specs.declared.call.Call.TheVariants.{Umask, MqOpen, MqClose, MqSend, MqReceive, MqGetattr, MqSetattr, MqUnlink, ListNames, StatName}
+use Rattle.ipc_terms.specs.declared.call.Call.TheVariants.{Umask, MqOpen, MqClose, MqSend, MqReceive, MqGetattr, MqSetattr, MqUnlink, ListNames, StatName, Interrupt}
 use Rattle.ipc_terms.specs.declared.record.Event.{Event}
 use Rattle.ipc_terms.specs.declared.record.Event.TheVariants.{Hello, Do, Hangup}
 use Rattle.ipc_policy.specs.History.{History, kept, unended, listed, gathered_below, any_below}
@@ -140,6 +140,7 @@ bindings_grow h (Do sid (MqSetattr desc nonblock)) f = bindings_quiet h (Do sid 
 bindings_grow h (Do sid (MqUnlink name)) f = bindings_unlinked h sid name f
 bindings_grow h (Do sid (ListNames family start count)) f = bindings_quiet h (Do sid (ListNames family start count)) f refl (λ o. kept_all (named h o))
 bindings_grow h (Do sid (StatName target)) f = bindings_quiet h (Do sid (StatName target)) f refl (λ o. kept_all (named h o))
+bindings_grow h (Do sid Interrupt) f = bindings_quiet h (Do sid Interrupt) f refl (λ o. kept_all (named h o))
 bindings_grow h (Hangup sid) f = bindings_quiet h (Hangup sid) f refl (λ o. kept_all (named h o))
 
 -- the names alone
@@ -167,6 +168,7 @@ names_grow h (Do sid (MqSetattr desc nonblock)) f = ap (map (λ (b : Binding). b
 names_grow h (Do sid (MqUnlink name)) f = ap (map (λ (b : Binding). b.name)) (bindings_grow h (Do sid (MqUnlink name)) f) ∙ names_filtered f name (bindings h f)
 names_grow h (Do sid (ListNames family start count)) f = ap (map (λ (b : Binding). b.name)) (bindings_grow h (Do sid (ListNames family start count)) f)
 names_grow h (Do sid (StatName target)) f = ap (map (λ (b : Binding). b.name)) (bindings_grow h (Do sid (StatName target)) f)
+names_grow h (Do sid Interrupt) f = ap (map (λ (b : Binding). b.name)) (bindings_grow h (Do sid Interrupt) f)
 names_grow h (Hangup sid) f = ap (map (λ (b : Binding). b.name)) (bindings_grow h (Hangup sid) f)
 
 -- which objects are alive

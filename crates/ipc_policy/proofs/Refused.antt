@@ -9,11 +9,12 @@ use Rattle.ipc_policy.specs.Names.{is_bound, bound, creations}
 use Rattle.ipc_policy.specs.Objects.{object, facts, directory}
 use Rattle.ipc_policy.specs.Descriptions.{opens, held, holds, held_count, is_nonblock}
 use Rattle.ipc_policy.specs.Life.{named, bindings, names, alive}
-use Rattle.ipc_policy.specs.Queues.{contents}
+use Rattle.ipc_policy.specs.Queues.{queue}
+use Rattle.ipc_policy.specs.Parking.{parked}
 use Rattle.ipc_policy.specs.Laws.{SameValues}
 
 pub same_values : (c : Config) (h : History) (e : Event) (rule : Rule) → SameValues c (record { event = e; rule = Some rule } ∷ h) h
-unfolding hellos user live cred mask is_bound bound creations object facts directory opens held holds held_count is_nonblock named bindings names alive contents
+unfolding hellos user live cred mask is_bound bound creations object facts directory opens held holds held_count is_nonblock named bindings names alive queue parked
 same_values c h e rule = record {
   hellos = refl;
   user = λ s. refl;
@@ -35,5 +36,6 @@ same_values c h e rule = record {
   bindings = λ f. refl;
   names = λ f. refl;
   alive = λ o. refl;
-  contents = λ o. refl;
+  queue = λ o. refl;
+  parked = λ s. refl;
 }

@@ -6,7 +6,7 @@ use Rattle.ipc_terms.specs.Names.{same_family, same_name}
 use Rattle.ipc_terms.specs.declared.binding.Binding.{Binding}
 use Rattle.ipc_terms.specs.declared.ids.Uid.{Uid}
 use Rattle.ipc_terms.specs.declared.ids.Family.{Family}
-use Rattle.ipc_terms.specs.declared.call.Call.TheVariants.{Umask, MqOpen, MqClose, MqSend, MqReceive, MqSetattr}
+use Rattle.ipc_terms.specs.declared.call.Call.TheVariants.{Umask, MqOpen, MqClose, MqSetattr}
 use Rattle.ipc_terms.specs.declared.record.Event.{Event}
 use Rattle.ipc_terms.specs.declared.record.Event.TheVariants.{Hello, Do, Hangup}
 use Rattle.ipc_policy.specs.declared.config.Config.{Config}
@@ -17,7 +17,10 @@ use Rattle.ipc_policy.specs.Names.{Opening, Naming, opening, unlinking, unlinks,
 use Rattle.ipc_policy.specs.Objects.{object, facts, directory, made_by, first_facts}
 use Rattle.ipc_policy.specs.Descriptions.{opens, held, holds, held_count, is_nonblock, ends_held}
 use Rattle.ipc_policy.specs.Life.{named, bindings, names, alive, gives_object}
-use Rattle.ipc_policy.specs.Queues.{Act, Sends, Receives, Rests, contents, contents_after}
+pub use Rattle.ipc_policy.specs.Queues.{act_by}
+use Rattle.ipc_policy.specs.Queues.{Queue, queue, queue_after, room, is_full, is_empty}
+use Rattle.ipc_policy.specs.Parking.{Parked, parks_by, ends_call, parked}
+use Rattle.ipc_policy.specs.Verdict.{answers, for_session, outbox}
 
 abbrev pub hellos_after : Event → ℕ → ℕ
 hellos_after (Hello found) hellos = hellos + 1
@@ -123,11 +126,10 @@ names_after f e is_bound was = by_open (opening e) where
 abbrev pub alive_after : ℕ → Option Opening → (ℕ → Option Held) → ℕ → Bool
 alive_after o named held opens = is_some named || any_below (λ d. gives_object o (held d)) opens
 
--- what an event does to queue o, by the place and by what is held
-abbrev pub act_by : ℕ → (ℕ → ℕ → Option Held) → ℕ → Event → Act
-act_by place holds o (Do sid (MqSend desc priority bytes)) = if gives_object o (holds sid.0 desc.0) then Sends (record { place = place; session = sid.0; desc = desc.0; priority = priority; bytes = bytes }) else Rests
-act_by place holds o (Do sid (MqReceive desc length')) = if gives_object o (holds sid.0 desc.0) then Receives else Rests
-act_by place holds o _ = Rests
+-- the call of session s that parks, or else the one that was parked, unless the event ends it
+abbrev pub parked_after : ℕ → Event → ℕ → (ℕ → ℕ → Option Held) → (ℕ → Bool) → (ℕ → Bool) → (ℕ → Queue) → Option Parked → Option Parked
+parked_after s e place holds full empty queue was =
+    option_or (parks_by place holds full empty s e) (kept (λ p. ends_call s p (act_by place holds p.object e) (queue p.object)) was)
 
 -- each value after an accepted event, by the values before it
 pub record Grows (c : Config) (h k : History) (e : Event) : Type 0 where
@@ -145,11 +147,13 @@ pub record Grows (c : Config) (h k : History) (e : Event) : Type 0 where
   pub held_by : (d : ℕ) → held k d ≡ held_after d e (opens h) (bound h) (creations h) (held h d)
   pub count_of : (s : ℕ) → held_count k s ≡ held_count_after s e (holds h) (held_count h s)
   pub nonblock_of : (s d : ℕ) → is_nonblock k s d ≡ nonblock_after s d e (opens h) (is_nonblock h s d)
-  pub contents_of : (o : ℕ) → contents k o ≡ contents_after (act_by (length h) (holds h) o e) (contents h o)
+  pub queue_of : (o : ℕ) → queue c k o ≡ queue_after (room (object c h o)) (act_by (length h) (holds h) o e) (queue c h o)
+  pub parked_in : (s : ℕ) → parked c k s ≡ parked_after s e (length h) (holds h) (is_full c h) (is_empty c h) (queue c h) (parked c h s)
   pub named_by : (o : ℕ) → named k o ≡ named_after o e (is_bound h) (creations h) (named h o)
   pub bindings_of : (f : Family) → bindings k f ≡ bindings_after f e (is_bound h) (creations h) (bindings h f)
   pub names_of : (f : Family) → names k f ≡ names_after f e (is_bound h) (names h f)
   pub alive_or_not : (o : ℕ) → alive k o ≡ alive_after o (named_after o e (is_bound h) (creations h) (named h o)) (λ d. held_after d e (opens h) (bound h) (creations h) (held h d)) (opens_after e (opens h))
+  pub outbox_of : (s : ℕ) → outbox c k s ≡ outbox c h s ++ (if live_after s e (hellos h) (live h s) then for_session s (answers c h e) else [])
 
 -- an accepted event changes each value as stated, by the values before it
 abbrev pub AcceptedGrows : Type 0

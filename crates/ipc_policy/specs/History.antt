@@ -1,7 +1,7 @@
 -- A history is a list of records, the newest first. What came before a record is the list behind it.
 -- A question about a history is asked in one of three ways: what does the newest accepted event
 -- that says something about it say; what did the newest one begin, unless a later one ended it;
--- and how many accepted events are of a kind. What stands in a queue alone is asked event by event.
+-- and how many accepted events are of a kind. Queues alone are asked event by event.
 -- Refused events say, begin and end nothing.
 use Rattle.std.specs.Prelude.{Bool, false, ℕ, zero, suc, ◌+◌, ◌&&◌, ◌||◌, List, [], ◌∷◌, ◌++◌, Option, Some, None, is_none, if◌then◌else◌}
 use Rattle.std.specs.Option.{option_or}
@@ -23,6 +23,11 @@ abbrev pub how_many : (Event → History → Bool) → History → ℕ
 how_many is_one [] = 0
 how_many is_one (r ∷ before) =
     if is_accepted r && is_one r.event before then how_many is_one before + 1 else how_many is_one before
+
+-- there is one, and this holds of it
+abbrev pub there_is : {A : Type 0} → (A → Bool) → Option A → Bool
+there_is test None = false
+there_is test (Some x) = test x
 
 -- what is left of it unless it was ended
 abbrev pub kept : {A : Type 0} → (A → Bool) → Option A → Option A

@@ -1,21 +1,25 @@
 -- Laws that hold of every history, or of every legal one where they say so.
-use Rattle.std.specs.Prelude.{◌≡◌, ℕ, ◌≤◌, false, IsTrue, List, ◌∷◌, find, Some, is_some, MatchOption}
+use Rattle.std.specs.Prelude.{◌≡◌, ℕ, ◌≤◌, ◌==◌, true, false, length, IsTrue, List, [], ◌∷◌, ◌++◌, find, Option, Some, is_some, MatchOption, if◌then◌else◌}
 use Rattle.std.specs.Option.{option_map}
 use Rattle.ipc_terms.specs.Names.{same_name}
 use Rattle.ipc_terms.specs.Rules.{number_of}
 use Rattle.ipc_terms.specs.declared.rule.Rule.{Rule}
 use Rattle.ipc_terms.specs.declared.ids.Family.{Family}
 use Rattle.ipc_terms.specs.declared.record.Event.{Event}
+use Rattle.ipc_terms.specs.declared.call.Answer.TheVariants.{Refused}
 use Rattle.ipc_policy.specs.declared.config.Config.{Config}
+use Rattle.ipc_policy.specs.declared.config.Held.{Held}
 use Rattle.ipc_policy.specs.History.{History}
 use Rattle.ipc_policy.specs.Sessions.{hellos, user, live, cred, mask}
 use Rattle.ipc_policy.specs.Names.{is_bound, creations, bound}
 use Rattle.ipc_policy.specs.Objects.{object, facts, directory}
 use Rattle.ipc_policy.specs.Descriptions.{opens, held, holds, held_count, is_nonblock}
 use Rattle.ipc_policy.specs.Life.{named, bindings, names, alive}
-use Rattle.ipc_policy.specs.Queues.{contents}
+use Rattle.ipc_policy.specs.Queues.{Queue, has_none, queue, maxmsg, senders, receivers}
+use Rattle.ipc_policy.specs.Parking.{Kind, Sending, Receiving, Parked, parked}
+use Rattle.ipc_policy.specs.Readings.{Each}
 use Rattle.ipc_policy.specs.Rules.{forbids}
-use Rattle.ipc_policy.specs.Verdict.{verdict, Legal}
+use Rattle.ipc_policy.specs.Verdict.{verdict, caller, Legal, for_session, outbox}
 
 -- the rule forbids the event, and no rule of a lower number does
 pub record IsLeastForbidding (c : Config) (h : History) (e : Event) (least : Rule) : Type 0 where
@@ -50,13 +54,21 @@ pub record SameValues (c : Config) (h k : History) : Type 0 where
   pub bindings : (f : Family) → bindings h f ≡ bindings k f
   pub names : (f : Family) → names h f ≡ names k f
   pub alive : (o : ℕ) → alive h o ≡ alive k o
-  pub contents : (o : ℕ) → contents h o ≡ contents k o
+  pub queue : (o : ℕ) → queue c h o ≡ queue c k o
+  pub parked : (s : ℕ) → parked c h s ≡ parked c k s
 
 -- a refused event changes no value
 abbrev pub RefusedIsQuiet : Type 0
 RefusedIsQuiet =
     (c : Config) (h : History) (e : Event) (rule : Rule) →
     SameValues c (record { event = e; rule = Some rule } ∷ h) h
+
+-- a refused event adds its refusal to the answers of the session that it names, where that is live, and no other answer
+abbrev pub RefusedIsAnswered : Type 0
+RefusedIsAnswered =
+    (c : Config) (h : History) (e : Event) (rule : Rule) (s : ℕ) → verdict c h e ≡ Some rule →
+    outbox c (record { event = e; rule = Some rule } ∷ h) s
+    ≡ outbox c h s ++ (if live h s then for_session s ((caller e, Refused rule) ∷ []) else [])
 
 -- the names in the list are those that are bound, each to its object
 abbrev pub ListedIsBound : Type 0
@@ -69,3 +81,46 @@ abbrev pub BoundIsMade : Type 0
 BoundIsMade =
     (c : Config) (h : History) (f : Family) (name : List ℕ) (o : ℕ) → Legal c h → bound h f name ≡ Some o →
     IsTrue (is_some (object c h o)) × IsTrue (is_some (facts c h o))
+
+-- the place of the call of session s in the list of its kind
+abbrev pub place_listed : Kind → ℕ → Queue → Option ℕ
+place_listed Sending s q = option_map (λ m. m.place) (find (λ m. m.session == s) q.senders)
+place_listed Receiving s q = option_map (λ w. w.place) (find (λ w. w.session == s) q.receivers)
+
+-- each call that an object lists is the one in which its session is parked, and the call in which a session is parked
+-- is listed by its object: so a session stands in at most one list, and there once, as the places in a list differ
+pub record IsListed (c : Config) (h : History) : Type 0 where
+  pub each_send : (o : ℕ) → Each (λ m. parked c h m.session ≡ Some (record { object = o; place = m.place; kind = Sending })) (senders c h o)
+  pub each_receive : (o : ℕ) → Each (λ w. parked c h w.session ≡ Some (record { object = o; place = w.place; kind = Receiving })) (receivers c h o)
+  pub each_parked : (s : ℕ) (p : Parked) → parked c h s ≡ Some p → place_listed p.kind s (queue c h p.object) ≡ Some p.place
+
+-- in a legal history a session is parked on an object exactly if the object lists its call
+abbrev pub ParkedIsListed : Type 0
+ParkedIsListed = (c : Config) (h : History) → Legal c h → IsListed c h
+
+-- a queue that may have so many messages has no more, a receive is parked on it only while it has none, and a send only while it is full
+pub record IsBounded (maxmsg : ℕ) (q : Queue) : Type 0 where
+  pub within : length q.contents ≤ maxmsg
+  pub receivers_wait : has_none q.receivers ≡ false → q.contents ≡ []
+  pub senders_wait : has_none q.senders ≡ false → length q.contents ≡ maxmsg
+
+-- in a legal history each queue is so, where the limits let a queue have a message at all
+abbrev pub EachIsBounded : Type 0
+EachIsBounded = (c : Config) (h : History) (o : ℕ) → 1 ≤ c.limits.msg_max → Legal c h → IsBounded (maxmsg c h o) (queue c h o)
+
+-- a description that session s holds gives object o
+pub record HoldsFor (h : History) (s o : ℕ) : Type 0 where
+  pub desc : ℕ
+  pub x : Held
+  pub held : holds h s desc ≡ Some x
+  pub object : x.object ≡ o
+
+-- the session of a parked call is live, and holds a description of the object, which was made
+pub record IsParked (c : Config) (h : History) (s : ℕ) (p : Parked) : Type 0 where
+  pub lives : live h s ≡ true
+  pub holding : HoldsFor h s p.object
+  pub made : is_some (object c h p.object) ≡ true
+
+-- in a legal history each parked call is so
+abbrev pub ParkedIsAlive : Type 0
+ParkedIsAlive = (c : Config) (h : History) → Legal c h → (s : ℕ) (p : Parked) → parked c h s ≡ Some p → IsParked c h s p

@@ -5,7 +5,9 @@ pub mod Objects
 pub mod Descriptions
 pub mod Life
 pub mod Queues
+pub mod Parking
 pub mod Rules
 pub mod Verdict
+pub mod Readings
 pub mod Laws
 pub mod Grow

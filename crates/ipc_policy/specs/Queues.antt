@@ -1,10 +1,15 @@
--- What sends and receives make of a queue.
-use Rattle.std.specs.Prelude.{ℕ, ◌==◌, not, List, [], ◌∷◌, ◌++◌, length, filter, Option, Some, None, if◌then◌else◌}
+-- What sends, receives, interrupts and hang-ups make of a queue.
+use Rattle.std.specs.Prelude.{Bool, true, false, ℕ, ◌||◌, ◌==◌, not, nat_le, List, [], ◌∷◌, ◌++◌, length, filter, Option, Some, None, if◌then◌else◌}
+use Rattle.ipc_terms.specs.Lists.{first}
 use Rattle.ipc_terms.specs.Priorities.{first_of_greatest}
-use Rattle.ipc_terms.specs.declared.call.Call.TheVariants.{MqSend, MqReceive}
+use Rattle.ipc_terms.specs.declared.call.Call.TheVariants.{MqSend, MqReceive, Interrupt}
 use Rattle.ipc_terms.specs.declared.record.Event.{Event}
-use Rattle.ipc_terms.specs.declared.record.Event.TheVariants.{Do}
-use Rattle.ipc_policy.specs.History.{History, is_accepted}
+use Rattle.ipc_terms.specs.declared.record.Event.TheVariants.{Do, Hangup}
+use Rattle.ipc_policy.specs.declared.config.Config.{Config}
+use Rattle.ipc_policy.specs.declared.config.Held.{Held}
+use Rattle.ipc_policy.specs.declared.config.Object.{Object}
+use Rattle.ipc_policy.specs.History.{History, is_accepted, listed, there_is}
+use Rattle.ipc_policy.specs.Objects.{object}
 use Rattle.ipc_policy.specs.Descriptions.{holds}
 use Rattle.ipc_policy.specs.Life.{gives_object}
 
@@ -16,21 +21,31 @@ pub record Send : Type 0 where
   pub priority : ℕ
   pub bytes : List ℕ
 
+-- a receive: its place, and who made it by which description
+pub record Wait : Type 0 where
+  pub place : ℕ
+  pub session : ℕ
+  pub desc : ℕ
+
 -- what an event does to one queue
 pub data Act : Type 0 where
   Sends : Send → Act
-  Receives : Act
+  Receives : Wait → Act
+  Withdraws : ℕ → Act
   Rests : Act
 
--- the act, where the session's description gives object o
-abbrev pub by : History → ℕ → ℕ → ℕ → Act → Act
-by before s d o a = if gives_object o (holds before s d) then a else Rests
+-- what an event does to queue o, by the event's place and by what each session holds; an interrupt and a hang-up
+-- withdraw the parked call of their session, wherever it is
+abbrev pub act_by : ℕ → (ℕ → ℕ → Option Held) → ℕ → Event → Act
+act_by place holds o (Do sid (MqSend desc priority bytes)) = if gives_object o (holds sid.0 desc.0) then Sends (record { place = place; session = sid.0; desc = desc.0; priority = priority; bytes = bytes }) else Rests
+act_by place holds o (Do sid (MqReceive desc length')) = if gives_object o (holds sid.0 desc.0) then Receives (record { place = place; session = sid.0; desc = desc.0 }) else Rests
+act_by place holds o (Do sid Interrupt) = Withdraws sid.0
+act_by place holds o (Hangup sid) = Withdraws sid.0
+act_by place holds o _ = Rests
 
 -- what an event does to queue o
 abbrev pub act : ℕ → Event → History → Act
-act o (Do sid (MqSend desc priority bytes)) before = by before sid.0 desc.0 o (Sends (record { place = length before; session = sid.0; desc = desc.0; priority = priority; bytes = bytes }))
-act o (Do sid (MqReceive desc length')) before = by before sid.0 desc.0 o Receives
-act o _ before = Rests
+act o e before = act_by (length before) (holds before) o e
 
 -- the message that a receive takes: the earliest of those with the greatest priority
 abbrev pub next : List Send → Option Send
@@ -41,13 +56,88 @@ abbrev pub others : Option Send → List Send → List Send
 others None messages = messages
 others (Some n) messages = filter (λ m. not (m.place == n.place)) messages
 
--- a send enters; a receive takes the next message
-abbrev pub contents_after : Act → List Send → List Send
-contents_after (Sends m) messages = messages ++ m ∷ []
-contents_after Receives messages = others (next messages) messages
-contents_after Rests messages = messages
+-- what entered a queue and was not taken, in order of entry; and the sends and the receives that are parked on
+-- it, longest parked first
+pub record Queue : Type 0 where
+  pub contents : List Send
+  pub senders : List Send
+  pub receivers : List Wait
+
+-- a queue at its creation
+abbrev pub empty_queue : Queue
+empty_queue = record { contents = []; senders = []; receivers = [] }
+
+-- all but the first
+abbrev pub behind : {A : Type 0} → List A → List A
+behind [] = []
+behind (x ∷ xs) = xs
+
+-- there is nothing in the list
+abbrev pub has_none : {A : Type 0} → List A → Bool
+has_none [] = true
+has_none (x ∷ xs) = false
+
+-- there are as many as there may be
+abbrev pub has_all : {A : Type 0} → ℕ → List A → Bool
+has_all most xs = nat_le most (length xs)
+
+-- a send enters, unless the queue is full or a parked receive takes the message at once; a receive takes the next
+-- message, and lets the longest parked send enter behind what is left
+abbrev pub contents_after : ℕ → Act → Queue → List Send
+contents_after maxmsg (Sends m) q = if has_all maxmsg q.contents || not (has_none q.receivers) then q.contents else q.contents ++ m ∷ []
+contents_after maxmsg (Receives w) q = others (next q.contents) q.contents ++ listed (first q.senders)
+contents_after maxmsg (Withdraws s) q = q.contents
+contents_after maxmsg Rests q = q.contents
+
+-- a send to a full queue parks; a receive lets the longest parked send enter; an interrupt or a hang-up withdraws
+abbrev pub senders_after : ℕ → Act → Queue → List Send
+senders_after maxmsg (Sends m) q = if has_all maxmsg q.contents then q.senders ++ m ∷ [] else q.senders
+senders_after maxmsg (Receives w) q = behind q.senders
+senders_after maxmsg (Withdraws s) q = filter (λ m. not (m.session == s)) q.senders
+senders_after maxmsg Rests q = q.senders
+
+-- a receive from an empty queue parks; a send is taken by the longest parked receive; an interrupt or a hang-up withdraws
+abbrev pub receivers_after : Act → Queue → List Wait
+receivers_after (Sends m) q = behind q.receivers
+receivers_after (Receives w) q = if has_none q.contents then q.receivers ++ w ∷ [] else q.receivers
+receivers_after (Withdraws s) q = filter (λ w. not (w.session == s)) q.receivers
+receivers_after Rests q = q.receivers
+
+-- a queue of so many messages at most after an act
+abbrev pub queue_after : ℕ → Act → Queue → Queue
+queue_after maxmsg a q = record { contents = contents_after maxmsg a q; senders = senders_after maxmsg a q; receivers = receivers_after a q }
+
+-- how many messages an object may have: 0 where there is no object
+abbrev pub room : Option Object → ℕ
+room None = 0
+room (Some x) = x.attributes.maxmsg
+
+-- how many messages queue o may have
+abbrev pub maxmsg : Config → History → ℕ → ℕ
+maxmsg c h o = room (object c h o)
+
+-- queue o
+unfoldable pub queue : Config → History → ℕ → Queue
+queue c [] o = empty_queue
+queue c (r ∷ before) o =
+    if is_accepted r then queue_after (maxmsg c before o) (act o r.event before) (queue c before o) else queue c before o
 
 -- the sends that entered queue o and were not taken, in order of entry
-unfoldable pub contents : History → ℕ → List Send
-contents [] o = []
-contents (r ∷ before) o = if is_accepted r then contents_after (act o r.event before) (contents before o) else contents before o
+abbrev pub contents : Config → History → ℕ → List Send
+contents c h o = (queue c h o).contents
+
+-- the sends that are parked on queue o, longest parked first
+abbrev pub senders : Config → History → ℕ → List Send
+senders c h o = (queue c h o).senders
+
+-- the receives that are parked on queue o, longest parked first
+abbrev pub receivers : Config → History → ℕ → List Wait
+receivers c h o = (queue c h o).receivers
+
+-- there is such an object, and it has as many messages as it may
+abbrev pub is_full : Config → History → ℕ → Bool
+is_full c h o = there_is (λ x. has_all x.attributes.maxmsg (contents c h o)) (object c h o)
+
+-- there is such an object, and it has no messages
+abbrev pub is_empty : Config → History → ℕ → Bool
+is_empty c h o = there_is (λ x. has_none (contents c h o)) (object c h o)

@@ -1,10 +1,10 @@
 -- What each rule forbids. A condition that speaks of a user, an object or a description holds only
 -- where there is one, but for the rules 8 and 31.
-use Rattle.std.specs.Prelude.{Bool, true, false, ℕ, ◌&&◌, ◌||◌, ◌==◌, not, nat_lt, nat_le, length, Option, Some, None, is_none, if◌then◌else◌, option_and_then}
+use Rattle.std.specs.Prelude.{Bool, true, false, ℕ, ◌&&◌, ◌||◌, ◌==◌, not, nat_lt, nat_le, length, Option, Some, None, is_some, is_none, if◌then◌else◌, option_and_then}
 use Rattle.ipc_terms.specs.Flags.{has_create, has_exclusive}
 use Rattle.ipc_terms.specs.Names.{same_family, has_name_form, is_long_name}
 use Rattle.ipc_terms.specs.declared.rule.Rule.{Rule}
-use Rattle.ipc_terms.specs.declared.rule.Rule.TheVariants.{NoSession, NameForm, NameLong, BadDescr, NotForWrite, NotForRead, DirSearch, DirRead, Absent, Present, ModeDenied, DirWrite, Sticky, AttrRange, DescrLimit, PrioRange, MessageLong, BufferShort, WouldBlock, BadKey}
+use Rattle.ipc_terms.specs.declared.rule.Rule.TheVariants.{NoSession, InCall, NotInCall, NameForm, NameLong, BadDescr, NotForWrite, NotForRead, DirSearch, DirRead, Absent, Present, ModeDenied, DirWrite, Sticky, AttrRange, DescrLimit, PrioRange, MessageLong, BufferShort, WouldBlock, BadKey}
 use Rattle.ipc_terms.specs.declared.ids.Desc.{Desc}
 use Rattle.ipc_terms.specs.declared.ids.Family.{Family}
 use Rattle.ipc_terms.specs.declared.ids.Family.TheVariants.{Mq}
@@ -12,7 +12,7 @@ use Rattle.ipc_terms.specs.declared.call.Access.{Access}
 use Rattle.ipc_terms.specs.declared.call.Access.TheVariants.{Read, Write, Both}
 use Rattle.ipc_terms.specs.declared.call.Attributes.{Attributes}
 use Rattle.ipc_terms.specs.declared.call.Call.{Call}
-use Rattle.ipc_terms.specs.declared.call.Call.TheVariants.{MqClose, MqSend, MqReceive, MqGetattr, MqSetattr, ListNames}
+use Rattle.ipc_terms.specs.declared.call.Call.TheVariants.{MqClose, MqSend, MqReceive, MqGetattr, MqSetattr, ListNames, Interrupt}
 use Rattle.ipc_terms.specs.declared.record.Event.{Event}
 use Rattle.ipc_terms.specs.declared.record.Event.TheVariants.{Hello, Do, Hangup}
 use Rattle.ipc_access.specs.declared.class.Cred.{Cred}
@@ -23,11 +23,13 @@ use Rattle.ipc_policy.specs.declared.config.Config.{Config}
 use Rattle.ipc_terms.specs.declared.facts.Facts.{Facts}
 use Rattle.ipc_policy.specs.declared.config.Object.{Object}
 use Rattle.ipc_policy.specs.History.{History}
+pub use Rattle.ipc_policy.specs.History.{there_is}
 use Rattle.ipc_policy.specs.Sessions.{live, cred}
 use Rattle.ipc_policy.specs.Names.{opening, unlinking, naming, is_bound, creating, bound, Opening}
 use Rattle.ipc_policy.specs.Objects.{object, facts, directory}
-use Rattle.ipc_policy.specs.Descriptions.{holds, held_count}
-use Rattle.ipc_policy.specs.Queues.{contents}
+use Rattle.ipc_policy.specs.Descriptions.{holds, held_count, is_nonblock}
+pub use Rattle.ipc_policy.specs.Queues.{is_full, is_empty}
+use Rattle.ipc_policy.specs.Parking.{parked}
 
 -- there is a user, and what has these facts does not grant it what is wanted: read is 4, write 2, search 1
 abbrev pub denied : Option Cred → Facts → ℕ → Bool
@@ -52,11 +54,6 @@ out_of_range c (Some who) (Some given) =
     || nat_lt (if who.uid.0 == 0 then 65536 else c.limits.msg_max) given.maxmsg
     || nat_lt (if who.uid.0 == 0 then 16777216 else c.limits.msgsize_max) given.msgsize
 out_of_range c _ _ = false
-
--- there is one, and this holds of it
-abbrev pub there_is : {A : Type 0} → (A → Bool) → Option A → Bool
-there_is test None = false
-there_is test (Some x) = test x
 
 -- there are a user and an object, and the directory does not let the user remove the object's name
 abbrev pub removal_denied : Option Cred → Facts → Option Facts → Bool
@@ -95,19 +92,26 @@ abbrev pub writes_only : Access → Bool
 writes_only Write = true
 writes_only _ = false
 
--- the object has as many messages as it may
-abbrev pub is_full : Config → History → ℕ → Bool
-is_full c h o = there_is (λ x. nat_le x.attributes.maxmsg (length (contents h o))) (object c h o)
-
--- the object has no messages
-abbrev pub is_empty : Config → History → ℕ → Bool
-is_empty c h o = there_is (λ x. length (contents h o) == 0) (object c h o)
+-- the call is an interrupt
+abbrev pub is_interrupt : Call → Bool
+is_interrupt Interrupt = true
+is_interrupt _ = false
 
 -- 1: a call or a hang-up of a session that is not live
 unfoldable pub no_session : Config → History → Event → Bool
 no_session c h (Hello found) = false
 no_session c h (Do sid call) = not (live h sid.0)
 no_session c h (Hangup sid) = not (live h sid.0)
+
+-- 2: any call but an interrupt while the session is parked; a hang-up is no call
+unfoldable pub in_call : Config → History → Event → Bool
+in_call c h (Do sid call) = not (is_interrupt call) && is_some (parked c h sid.0)
+in_call c h _ = false
+
+-- 3: an interrupt while the session is not parked
+unfoldable pub not_in_call : Config → History → Event → Bool
+not_in_call c h (Do sid call) = is_interrupt call && is_none (parked c h sid.0)
+not_in_call c h _ = false
 
 -- 4: a named call, and the name has not the form of a name
 unfoldable pub name_form : Config → History → Event → Bool
@@ -190,10 +194,10 @@ unfoldable pub buffer_short : Config → History → Event → Bool
 buffer_short c h (Do sid (MqReceive desc length')) = there_is (λ x. nat_lt length' x.attributes.msgsize) (object_held c h sid.0 desc.0)
 buffer_short c h _ = false
 
--- 29: a send to a full queue, and a receive from an empty one
+-- 29: a send to a full queue, or a receive from an empty one, by a description with NONBLOCK
 unfoldable pub would_block : Config → History → Event → Bool
-would_block c h (Do sid (MqSend desc priority bytes)) = there_is (λ x. is_full c h x.object) (holds h sid.0 desc.0)
-would_block c h (Do sid (MqReceive desc length')) = there_is (λ x. is_empty c h x.object) (holds h sid.0 desc.0)
+would_block c h (Do sid (MqSend desc priority bytes)) = is_nonblock h sid.0 desc.0 && there_is (λ x. is_full c h x.object) (holds h sid.0 desc.0)
+would_block c h (Do sid (MqReceive desc length')) = is_nonblock h sid.0 desc.0 && there_is (λ x. is_empty c h x.object) (holds h sid.0 desc.0)
 would_block c h _ = false
 
 -- 31: a hello for no user of the file
@@ -204,6 +208,8 @@ bad_key c h _ = false
 -- whether the rule forbids the event after the history; a rule that is not named here forbids nothing yet
 unfoldable pub forbids : Rule → Config → History → Event → Bool
 forbids NoSession = no_session
+forbids InCall = in_call
+forbids NotInCall = not_in_call
 forbids NameForm = name_form
 forbids NameLong = name_long
 forbids BadDescr = bad_descr

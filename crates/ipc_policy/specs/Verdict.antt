@@ -1,5 +1,6 @@
 -- The verdict on an event, what is answered, and which histories are legal.
-use Rattle.std.specs.Prelude.{◌≡◌, ℕ, find, List, [], ◌∷◌, length, Option, Some, None, option_and_then}
+use Rattle.std.specs.Prelude.{◌≡◌, ℕ, ◌==◌, find, filter, map, List, [], ◌∷◌, ◌++◌, length, Option, Some, None, option_and_then, if◌then◌else◌}
+use Rattle.ipc_terms.specs.Lists.{first}
 use Rattle.ipc_terms.specs.Rules.{every_rule}
 use Rattle.ipc_terms.specs.declared.rule.Rule.{Rule}
 use Rattle.ipc_terms.specs.Pages.{page}
@@ -8,19 +9,19 @@ use Rattle.ipc_terms.specs.declared.ids.Target.{Target}
 use Rattle.ipc_terms.specs.declared.ids.Target.TheVariants.{Dir, Name}
 use Rattle.ipc_terms.specs.declared.facts.Facts.{Facts}
 use Rattle.ipc_terms.specs.declared.call.Answer.{Answer}
-use Rattle.ipc_terms.specs.declared.call.Answer.TheVariants.{Started, Done, Opened, Mask, Sent, Received, Attrs, Names, Stat, Refused}
-use Rattle.ipc_terms.specs.declared.call.Call.TheVariants.{Umask, MqOpen, MqClose, MqSend, MqReceive, MqGetattr, MqSetattr, MqUnlink, ListNames, StatName}
+use Rattle.ipc_terms.specs.declared.call.Answer.TheVariants.{Started, Done, Opened, Mask, Sent, Received, Attrs, Names, Stat, Refused, Interrupted}
+use Rattle.ipc_terms.specs.declared.call.Call.TheVariants.{Umask, MqOpen, MqClose, MqSend, MqReceive, MqGetattr, MqSetattr, MqUnlink, ListNames, StatName, Interrupt}
 use Rattle.ipc_terms.specs.declared.record.Event.{Event}
 use Rattle.ipc_terms.specs.declared.record.Event.TheVariants.{Hello, Do, Hangup}
 use Rattle.ipc_policy.specs.declared.config.Config.{Config}
 use Rattle.ipc_policy.specs.History.{History}
-use Rattle.ipc_policy.specs.Sessions.{hellos, mask}
+use Rattle.ipc_policy.specs.Sessions.{hellos, live, mask}
 use Rattle.ipc_policy.specs.Names.{bound}
 use Rattle.ipc_policy.specs.declared.config.Held.{Held}
 use Rattle.ipc_policy.specs.declared.config.Object.{Object}
 use Rattle.ipc_policy.specs.Objects.{object, facts, directory}
 use Rattle.ipc_policy.specs.Descriptions.{opens, holds, is_nonblock}
-use Rattle.ipc_policy.specs.Queues.{Send, next, contents}
+use Rattle.ipc_policy.specs.Queues.{Send, Wait, next, contents, senders, receivers, is_full}
 use Rattle.ipc_policy.specs.Life.{names}
 use Rattle.ipc_policy.specs.Rules.{forbids}
 
@@ -44,21 +45,41 @@ abbrev pub told : Sid → Option Facts → List (Sid × Answer)
 told sid None = []
 told sid (Some found) = (sid, Stat found) ∷ []
 
--- a session is given a message, where there is one
-abbrev pub given : Sid → Option Send → List (Sid × Answer)
-given sid None = []
-given sid (Some m) = (sid, Received m.priority m.bytes) ∷ []
+-- what is answered of the object that a description gives, where there is one
+abbrev pub answers_of : Option Held → (ℕ → List (Sid × Answer)) → List (Sid × Answer)
+answers_of None answered = []
+answers_of (Some x) answered = answered x.object
 
--- the message that session s takes by description d
-abbrev pub message_taken : History → ℕ → ℕ → Option Send
-message_taken h s d = option_and_then (λ x. next (contents h x.object)) (holds h s d)
+-- a session whose receive was parked is given a message, where there is one
+abbrev pub given : ℕ → List ℕ → Option Wait → List (Sid × Answer)
+given priority bytes None = []
+given priority bytes (Some w) = (record { 0 = w.session }, Received priority bytes) ∷ []
+
+-- a session whose send was parked is told that its message entered, where there is one
+abbrev pub let_in : Option Send → List (Sid × Answer)
+let_in None = []
+let_in (Some m) = (record { 0 = m.session }, Sent) ∷ []
+
+-- a send that parks is not answered yet; else the sender is, and then the longest parked receive gets the message
+abbrev pub send_answers : Config → History → Sid → ℕ → List ℕ → ℕ → List (Sid × Answer)
+send_answers c h sid priority bytes o =
+    if is_full c h o then [] else (sid, Sent) ∷ given priority bytes (first (receivers c h o))
+
+-- a session takes a message, and then the sender that it lets in is told
+abbrev pub received : Sid → Option Send → Option Send → List (Sid × Answer)
+received sid None sender = []
+received sid (Some m) sender = (sid, Received m.priority m.bytes) ∷ let_in sender
+
+-- a receive that parks is not answered yet; else the next message is, and then the longest parked send enters
+abbrev pub receive_answers : Config → History → Sid → ℕ → List (Sid × Answer)
+receive_answers c h sid o = received sid (next (contents c h o)) (first (senders c h o))
 
 -- a session is told of the queue that it has by description d, where it has one
 abbrev pub attributes_told : Config → History → Sid → ℕ → List (Sid × Answer)
 attributes_told c h sid d = by_held (holds h sid.0 d) where
   by_object : ℕ → Option Object → List (Sid × Answer)
   by_object o None = []
-  by_object o (Some x) = (sid, Attrs (is_nonblock h sid.0 d) x.attributes (length (contents h o))) ∷ []
+  by_object o (Some x) = (sid, Attrs (is_nonblock h sid.0 d) x.attributes (length (contents c h o))) ∷ []
 
   by_held : Option Held → List (Sid × Answer)
   by_held None = []
@@ -70,13 +91,14 @@ accepted_answers c h (Hello found) = (record { 0 = hellos h }, Started (record {
 accepted_answers c h (Do sid (Umask mask')) = (sid, Mask (record { 0 = mask h sid.0 })) ∷ []
 accepted_answers c h (Do sid (MqOpen asked)) = (sid, Opened (record { 0 = opens h })) ∷ []
 accepted_answers c h (Do sid (MqClose desc)) = (sid, Done) ∷ []
-accepted_answers c h (Do sid (MqSend desc priority bytes)) = (sid, Sent) ∷ []
-accepted_answers c h (Do sid (MqReceive desc length')) = given sid (message_taken h sid.0 desc.0)
+accepted_answers c h (Do sid (MqSend desc priority bytes)) = answers_of (holds h sid.0 desc.0) (send_answers c h sid priority bytes)
+accepted_answers c h (Do sid (MqReceive desc length')) = answers_of (holds h sid.0 desc.0) (receive_answers c h sid)
 accepted_answers c h (Do sid (MqGetattr desc)) = attributes_told c h sid desc.0
 accepted_answers c h (Do sid (MqSetattr desc nonblock)) = attributes_told c h sid desc.0
 accepted_answers c h (Do sid (MqUnlink name)) = (sid, Done) ∷ []
 accepted_answers c h (Do sid (ListNames family start count)) = (sid, Names (page start count (names h family))) ∷ []
 accepted_answers c h (Do sid (StatName target)) = told sid (facts_meant c h target)
+accepted_answers c h (Do sid Interrupt) = (sid, Interrupted) ∷ (sid, Done) ∷ []
 accepted_answers c h (Hangup sid) = []
 
 -- what is answered where this is the verdict
@@ -87,6 +109,15 @@ answers_at None c h e = accepted_answers c h e
 -- to whom an event is answered, and what
 unfoldable pub answers : Config → History → Event → List (Sid × Answer)
 answers c h e = answers_at (verdict c h e) c h e
+
+-- of answers, those that are for session s
+abbrev pub for_session : ℕ → List (Sid × Answer) → List Answer
+for_session s answered = map (λ p. p.1) (filter (λ p. p.0.0 == s) answered)
+
+-- the answers to session s at every place in order, without the places after whose record it is not live
+unfoldable pub outbox : Config → History → ℕ → List Answer
+outbox c [] s = []
+outbox c (r ∷ before) s = outbox c before s ++ (if live (r ∷ before) s then for_session s (answers c before r.event) else [])
 
 -- at every place the record's rule is the verdict on its event after what came before
 abbrev pub Legal : Config → History → Type 0

@@ -1,17 +1,19 @@
-//! Laws of the policy, over every history; `bound` is over the legal ones. These functions do nothing:
-//! what they ensure is what is proved.
+//! Laws of the policy, over every history; `bound`, `parked_listed`, `parked_alive` and `bounded` are
+//! over the legal ones. These functions do nothing: what they ensure is what is proved.
 
-ghost use Rattle.ipc_policy.specs.Laws.{VerdictIsLeast, RefusedIsQuiet, ListedIsBound, BoundIsMade};
+ghost use Rattle.ipc_policy.specs.Laws.{VerdictIsLeast, RefusedIsQuiet, RefusedIsAnswered, ListedIsBound, BoundIsMade, ParkedIsListed, ParkedIsAlive, EachIsBounded};
 ghost use Rattle.ipc_policy.specs.Grow.{AcceptedGrows};
+ghost use Rattle.ipc_policy.specs.Readings.{EachParkedByPlace, EachInsideByPlace, EachInsideInOrder, EachNextIsGreatest};
 
 /// The verdict is the least of the rules that forbid, or none where no rule does.
 pub fn least()
     ensures { VerdictIsLeast }
 {}
 
-/// A refused event changes no value.
+/// A refused event changes no value, and adds its refusal alone to the answers of the session that it names.
 pub fn quiet()
-    ensures { RefusedIsQuiet }
+    ensures values { RefusedIsQuiet }
+    ensures answers { RefusedIsAnswered }
 {}
 
 /// An accepted event changes each value as stated, by the values before it alone.
@@ -27,4 +29,36 @@ pub fn listed()
 /// In a legal history what a name is bound to is an object, and it has an owner, a group and a mode.
 pub fn bound()
     ensures { BoundIsMade }
+{}
+
+/// A call is parked exactly if it parked and no later record ended it, and the longest parked is listed first.
+pub fn parked_by_place()
+    ensures { EachParkedByPlace }
+{}
+
+/// The contents of a queue are the sends that entered it and that no record took.
+pub fn inside_by_place()
+    ensures { EachInsideByPlace }
+{}
+
+/// The contents stand in the order of entry, and what a receive takes is the earliest of the greatest priority.
+pub fn in_order()
+    ensures order { EachInsideInOrder }
+    ensures greatest { EachNextIsGreatest }
+{}
+
+/// In a legal history a session is parked on an object exactly if the object lists its call.
+pub fn parked_listed()
+    ensures { ParkedIsListed }
+{}
+
+/// In a legal history the session of a parked call is live, and holds a description of the queue.
+pub fn parked_alive()
+    ensures { ParkedIsAlive }
+{}
+
+/// In a legal history a queue has at most as many messages as its attributes allow, a receive is parked on it only
+/// while it is empty, and a send only while it is full.
+pub fn bounded()
+    ensures { EachIsBounded }
 {}

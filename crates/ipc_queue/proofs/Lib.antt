@@ -1,1 +1,3 @@
 pub mod Greatest
+pub mod Removing
+pub mod Leaving

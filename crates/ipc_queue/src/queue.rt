@@ -1,11 +1,14 @@
 //! The queue.
 
-ghost use Rattle.std.specs.Prelude.{◌≡◌, ◌<◌, ◌≤◌, ◌^◌, [], ◌∷◌, ◌++◌, false, length, Some, OnOk, OnErr, IfOk, IsOk};
+ghost use Rattle.std.specs.Prelude.{◌≡◌, ◌<◌, ◌≤◌, ◌^◌, [], true, length, vec_len, vec_capacity, OnOk, OnErr, IfOk, IsOk};
+ghost use Rattle.std.specs.List.{list_any, position};
 ghost use Rattle.std.specs.Option.{option_map};
-ghost use Rattle.ipc_queue.specs.Tickets.{next_ticket, next_place, without_place, without_next, is_full_of};
+ghost use Rattle.ipc_terms.specs.Lists.{first};
+ghost use Rattle.ipc_queue.specs.Tickets.{IsQueue, without_first, is_ticket, is_session, is_sender, next_ticket, next_place, is_full_of, send_outcome, sent, receive_outcome, received, is_parked, withdrawn};
 
-use ipc_terms::{NoMemory, Sid};
+use ipc_terms::{NoMemory, Sid, push_within};
 use std::alloc::Global;
+use std::collections::VecDeque;
 use std::marker::Model;
 
 /// A message: the place of its send in the trail, and its priority.
@@ -15,11 +18,24 @@ pub struct Ticket {
     pub priority: u32,
 }
 
+/// A send that waits for room.
+#[derive(Clone, Copy)]
+pub struct ParkedSend {
+    /// Its message.
+    pub ticket: Ticket,
+    /// The session that sent it, and waits.
+    pub session: Sid,
+}
+
 /// What became of a send.
 #[derive(Clone, Copy, PartialEq, Eq, Debug)]
 pub enum SendOutcome {
     /// The message entered the queue.
     Queued,
+    /// This session's receive, which was parked, took the message. It entered nothing.
+    HandedTo(Sid),
+    /// The queue is full: the send waits for room.
+    Parked,
 }
 
 /// What became of a receive.
@@ -27,15 +43,22 @@ pub enum SendOutcome {
 pub enum ReceiveOutcome {
     /// It took the message of this place.
     Took(u64),
+    /// It took the message of this place, and this session's send, which was parked, entered.
+    TookAndAdmitted(u64, Sid),
+    /// The queue is empty: the receive waits for a message.
+    Parked,
 }
 
-/// A queue of at most `maxmsg` messages of at most `msgsize` bytes each. The oldest message of the
-/// greatest priority comes out first (POSIX.1-2017, `mq_receive`).
+/// A queue of at most `maxmsg` messages of at most `msgsize` bytes each, and the calls that are
+/// parked on it. The oldest message of the greatest priority comes out first (POSIX.1-2017,
+/// `mq_receive`), and of parked calls the longest parked is served first.
 #[derive(Drop)]
 pub struct Queue {
     maxmsg: u32,
     msgsize: u32,
     tickets: Vec<Ticket>,
+    senders: VecDeque<ParkedSend>,
+    receivers: VecDeque<Sid>,
 }
 
 impl Model for Queue {
@@ -43,55 +66,108 @@ impl Model for Queue {
 
     ghost Value = { Tickets };
 
-    ghost view = { λ q. record { maxmsg = q.maxmsg; msgsize = q.msgsize; tickets = q.tickets.items } };
+    ghost view = { λ q. record { maxmsg = q.maxmsg; msgsize = q.msgsize; tickets = q.tickets.items; senders = q.senders.items; receivers = q.receivers.items } };
 
-    ghost invariant = { λ q. IsQueue (record { maxmsg = q.maxmsg; msgsize = q.msgsize; tickets = q.tickets.items }) };
+    ghost invariant = { λ q. IsQueue (record { maxmsg = q.maxmsg; msgsize = q.msgsize; tickets = q.tickets.items; senders = q.senders.items; receivers = q.receivers.items }) };
 }
 
 impl Queue {
-    /// A queue without messages. Takes no memory.
+    /// A queue without messages and parked calls, for at most `maxmsg` messages of at most `msgsize`
+    /// bytes each, both at least 1 (POSIX.1-2017, `mq_open`). Takes no memory.
     pub fn new(alloc: Global, maxmsg: u32, msgsize: u32) -> Self
         requires some_messages { 0 < maxmsg }
         requires some_bytes { 0 < msgsize }
-        ensures { result ≡ record { maxmsg = maxmsg; msgsize = msgsize; tickets = [] } }
+        ensures { result ≡ record { maxmsg = maxmsg; msgsize = msgsize; tickets = []; senders = []; receivers = [] } }
     {
         Queue {
             maxmsg,
             msgsize,
             tickets: Vec::new(alloc),
+            senders: VecDeque::new(alloc),
+            receivers: VecDeque::new(alloc),
         }
     }
 
-    /// The message that `_who` sent at the place `ticket` enters the queue behind all others
-    /// (POSIX.1-2017, `mq_send`). How many bytes it has, how great its priority is, and whether
-    /// another message has this place isn't asked here. An `Err` leaves the queue as it was.
-    pub fn send(&mut self, ticket: u64, priority: u32, _who: Sid) -> Result<SendOutcome, NoMemory>
-        requires { is_full_of self.old ≡ false }
-        ensures outcome { IfOk result (λ outcome. outcome ≡ SendOutcome.Queued) }
-        ensures ok { OnOk result (self.new ≡ record self.old { tickets = self.old.tickets ++ record { place = ticket; priority = priority } ∷ [] }) }
+    /// `who` sends the message of the place `ticket` (POSIX.1-2017, `mq_send`). The longest parked
+    /// receive takes it; where none is parked, it enters behind all others, or, at a full queue, the
+    /// send parks behind all parked ones. How many bytes the message has, how great its priority is,
+    /// and whether another one has this place isn't asked here. What is handed on takes no memory;
+    /// an `Err` leaves the queue as it was.
+    #[tactic(auto, unfolding(crate::specs::Tickets::send_outcome, crate::specs::Tickets::sent))]
+    pub fn send(&mut self, ticket: u64, priority: u32, who: Sid) -> Result<SendOutcome, NoMemory>
+        ensures outcome { IfOk result (λ outcome. outcome ≡ send_outcome self.old) }
+        ensures ok { OnOk result (self.new ≡ sent (record { place = ticket; priority = priority }) who self.old) }
         ensures err { OnErr result (self.new ≡ self.old) }
+        ensures without_memory { 0 < length self.old.receivers → IsOk result }
     {
-        self.tickets.push(Ticket {
+        let ticket = Ticket {
             place: ticket,
             priority,
-        })?;
+        };
+        if let Some(receiver) = self.receivers.pop_front() {
+            return Ok(SendOutcome::HandedTo(receiver));
+        }
+        if self.is_full() {
+            self.senders.push_back(ParkedSend {
+                ticket,
+                session: who,
+            })?;
+            return Ok(SendOutcome::Parked);
+        }
+        self.tickets.push(ticket)?;
         Ok(SendOutcome::Queued)
     }
 
-    /// The oldest message of the greatest priority leaves the queue, and `_who` takes it
-    /// (POSIX.1-2017, `mq_receive`). Takes no memory. If several messages have its place, all of
-    /// them leave.
-    pub fn receive(&mut self, _who: Sid) -> Result<ReceiveOutcome, NoMemory>
-        requires { 0 < length self.old.tickets }
-        ensures ok { IsOk result }
-        ensures took { IfOk result (λ outcome. option_map (λ place. ReceiveOutcome.Took place) (next_place self.old.tickets) ≡ Some outcome) }
-        ensures rest { self.new ≡ record self.old { tickets = without_next self.old.tickets } }
+    /// `who` receives (POSIX.1-2017, `mq_receive`). The oldest message of the greatest priority
+    /// leaves the queue, and then the message of the longest parked send, if there is one, enters
+    /// behind what is left; this takes no memory. At an empty queue the receive parks behind all
+    /// parked ones. An `Err` leaves the queue as it was.
+    #[tactic(auto, unfolding(crate::specs::Tickets::receive_outcome, crate::specs::Tickets::received))]
+    pub fn receive(&mut self, who: Sid) -> Result<ReceiveOutcome, NoMemory>
+        ensures outcome { IfOk result (λ outcome. outcome ≡ receive_outcome self.old) }
+        ensures ok { OnOk result (self.new ≡ received who self.old) }
+        ensures err { OnErr result (self.new ≡ self.old) }
+        ensures without_memory { 0 < length self.old.tickets → IsOk result }
     {
-        let Some(place) = self.next() else {
-            unreachable!();
+        let Some(next) = first_of_greatest(&self.tickets) else {
+            self.receivers.push_back(who)?;
+            return Ok(ReceiveOutcome::Parked);
         };
-        remove_place(&mut self.tickets, place);
-        Ok(ReceiveOutcome::Took(place))
+        remove_ticket(&mut self.tickets, next);
+        match self.senders.pop_front() {
+            Some(sender) => {
+                push_within(&mut self.tickets, sender.ticket);
+                Ok(ReceiveOutcome::TookAndAdmitted(next.place, sender.session))
+            }
+            None => Ok(ReceiveOutcome::Took(next.place)),
+        }
+    }
+
+    /// Takes back the longest parked call of the session, and says whether there was one
+    /// (POSIX.1-2017, `mq_send` and `mq_receive`, EINTR). A message so taken back never enters.
+    /// Takes no memory.
+    #[tactic(auto, unfolding(crate::specs::Tickets::is_parked, crate::specs::Tickets::withdrawn))]
+    pub fn withdraw(&mut self, sid: Sid) -> bool
+        ensures found { result ≡ is_parked sid self.old }
+        ensures rest { self.new ≡ withdrawn sid self.old }
+    {
+        let sends = remove_sender(&mut self.senders, sid);
+        let receives = remove_receiver(&mut self.receivers, sid);
+        sends || receives
+    }
+
+    /// The session whose receive has been parked longest; `None` where none is parked.
+    pub fn receiver(&self) -> Option<Sid>
+        ensures { result ≡ first self.now.receivers }
+    {
+        self.receivers.front().copied()
+    }
+
+    /// The session whose send has been parked longest; `None` where none is parked.
+    pub fn sender(&self) -> Option<Sid>
+        ensures { result ≡ option_map (λ sender. sender.session) (first self.now.senders) }
+    {
+        self.senders.front().map(|sender| sender.session)
     }
 
     /// The place of the message that a receive would take; `None` where the queue is empty.
@@ -101,7 +177,7 @@ impl Queue {
         first_of_greatest(&self.tickets).map(|ticket| ticket.place)
     }
 
-    /// How many messages the queue has.
+    /// How many messages the queue has; parked sends aren't in it.
     pub fn len(&self) -> usize
         ensures count { result ≡ length self.now.tickets }
         ensures within { result ≤ self.now.maxmsg }
@@ -114,10 +190,18 @@ impl Queue {
 
     /// Whether the queue has as many messages as it may. An empty queue is never full.
     pub fn is_full(&self) -> bool
-        ensures full { result ≡ is_full_of self.now }
-        ensures some_messages { 0 < self.now.maxmsg }
+        ensures { result ≡ is_full_of self.now }
     {
         self.tickets.len() >= self.maxmsg as usize
+    }
+
+    /// A receive is parked only where there is no message, and a send only where there is no room,
+    /// so never both. Does nothing; a fact of every queue.
+    pub fn parks_one_kind(&self)
+        ensures facts { IsQueue self.now }
+        ensures one_kind { 0 < length self.now.senders → length self.now.receivers ≡ 0 }
+    {
+        let _least = self.msgsize;
     }
 }
 
@@ -134,8 +218,54 @@ fn first_of_greatest(tickets: &[Ticket]) -> Option<Ticket>
     first
 }
 
-fn remove_place(tickets: &mut Vec<Ticket>, place: u64)
-    ensures { tickets.new.items ≡ without_place place tickets.old.items }
+/// Takes the ticket out, which leaves room for another.
+fn remove_ticket(tickets: &mut Vec<Ticket>, ticket: Ticket)
+    requires { list_any (is_ticket ticket) tickets.old.items ≡ true }
+    ensures items { tickets.new.items ≡ without_first (is_ticket ticket) tickets.old.items }
+    ensures room { vec_len tickets.new < vec_capacity tickets.new }
 {
-    tickets.retain(|ticket| ticket.place != place);
+    let Some(index) = ticket_index(tickets, ticket) else {
+        unreachable!();
+    };
+    tickets.remove(index);
+}
+
+fn ticket_index(tickets: &[Ticket], ticket: Ticket) -> Option<usize>
+    ensures { result ≡ position (is_ticket ticket) tickets.now }
+{
+    tickets.iter().position(|found| *found == ticket)
+}
+
+/// Takes out the session's longest parked send, and says whether there was one.
+fn remove_sender(senders: &mut VecDeque<ParkedSend>, sid: Sid) -> bool
+    ensures found { result ≡ list_any (is_sender sid) senders.old.items }
+    ensures rest { senders.new.items ≡ without_first (is_sender sid) senders.old.items }
+{
+    match sender_index(senders, sid) {
+        Some(index) => senders.remove(index).is_some(),
+        None => false,
+    }
+}
+
+fn sender_index(senders: &VecDeque<ParkedSend>, sid: Sid) -> Option<usize>
+    ensures { result ≡ position (is_sender sid) senders.now.items }
+{
+    senders.iter().position(|sender| sender.session == sid)
+}
+
+/// Takes out the session's longest parked receive, and says whether there was one.
+fn remove_receiver(receivers: &mut VecDeque<Sid>, sid: Sid) -> bool
+    ensures found { result ≡ list_any (is_session sid) receivers.old.items }
+    ensures rest { receivers.new.items ≡ without_first (is_session sid) receivers.old.items }
+{
+    match receiver_index(receivers, sid) {
+        Some(index) => receivers.remove(index).is_some(),
+        None => false,
+    }
+}
+
+fn receiver_index(receivers: &VecDeque<Sid>, sid: Sid) -> Option<usize>
+    ensures { result ≡ position (is_session sid) receivers.now.items }
+{
+    receivers.iter().position(|receiver| *receiver == sid)
 }

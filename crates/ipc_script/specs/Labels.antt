@@ -1,5 +1,5 @@
 -- What a table of started sessions, the oldest first, says of labels.
-use Rattle.std.specs.Prelude.{Bool, ℕ, ◌==◌, ◌&&◌, ◌||◌, nat_le, List, reverse, length, Option, find}
+use Rattle.std.specs.Prelude.{Bool, ℕ, ◌==◌, ◌&&◌, ◌||◌, nat_le, List, reverse, length, Option, find, unwrap_or}
 use Rattle.std.specs.List.{list_all}
 use Rattle.std.specs.Option.{option_map}
 use Rattle.std.specs.Str.{bytes_eq}
@@ -24,3 +24,8 @@ newest_of started label = option_map (λ s. s.sid) (find (λ s. bytes_eq s.label
 -- the label that started a session
 abbrev pub starter_of : List Started → Sid → Option (List ℕ)
 starter_of started sid = option_map (λ s. s.label) (find (λ s. s.sid.0 == sid.0) started)
+
+-- the label under which an answer to a session is printed: the one that started it, and where none did
+-- the step's own
+abbrev pub label_for : List Started → List ℕ → Sid → List ℕ
+label_for started own sid = unwrap_or (starter_of started sid) own

@@ -1,10 +1,3 @@
 pub mod Faults
 pub mod Labels
-pub mod WordsNumbers
-pub mod WordsValues
-pub mod WordsHyphens
-pub mod WordsCalls
-pub mod WordsGrammar
-pub mod WordsPrinting
-pub mod WordsAnswers
 pub mod Steps

@@ -7,8 +7,6 @@ mod lines;
 mod script;
 #[cfg(test)]
 mod tests;
-mod words;
 
 pub use fault::ScriptFault;
 pub use script::run_script;
-pub use words::{WordFault, call_of_words, line_of_answer};

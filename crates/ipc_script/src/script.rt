@@ -1,17 +1,18 @@
 //! Running a script.
 
 ghost use Rattle.std.specs.Prelude.{◌≡◌, IfOk, IfErr, false, map, unwrap_or};
+ghost use Rattle.std.specs.String.{string_bytes};
 ghost use Rattle.ipc_script.specs.Faults.{is_users_memory};
-ghost use Rattle.ipc_script.specs.Labels.{newest_of};
-ghost use Rattle.ipc_script.specs.Steps.{AsksFor};
+ghost use Rattle.ipc_script.specs.Labels.{label_for, newest_of};
+ghost use Rattle.ipc_script.specs.Steps.{AsksFor, labelled_line};
 
 use crate::fault::ScriptFault;
 use crate::labels::{Labels, is_label};
 use crate::lines::Lines;
-use crate::words::{WordFault, call_of_words, line_of_answer};
 use ipc_access::Users;
 use ipc_core::{Config, Core, Limits};
-use ipc_terms::{Answer, Event, Sid};
+use ipc_terms::{Answer, Event, NoMemory, Sid};
+use ipc_words::{WordFault, call_of_words, line_of_answer};
 use std::alloc::{AllocError, Global};
 use std::io::{ErrorKind, Read, Write};
 
@@ -23,8 +24,9 @@ const MOST_READS: u64 = 1_000_000_000;
 /// The input is a user file, a line `.`, and then one step a line: a label and what its session
 /// does, parted by spaces or tabs. `LABEL hello KEY` starts a session; `LABEL hangup` ends the
 /// session that the label started last, and other words are a call of that session. Empty lines and
-/// lines that begin with `#` are skipped. Each answer is written as a line, under the label that
-/// started the session which it is for.
+/// lines that begin with `#` are skipped. Each answer of a step is written as a line, in their order
+/// and under the label that started the session which it is for. So a call that is parked writes none
+/// until a later step answers it, another session's or its own interrupt.
 ///
 /// # Errors
 ///
@@ -152,29 +154,38 @@ impl<W: Write + Drop> Script<W> {
         self.labels.newest(label).unwrap_or(Sid::NOBODY)
     }
 
-    /// Steps the core, and writes its answers.
+    /// Steps the core, and writes its answers. What is written isn't kept for the session to take.
     fn step(&mut self, label: &str, event: Event) -> Result<(), ScriptFault>
         ensures { IfErr result (λ fault. is_users_memory fault ≡ false) }
     {
         let answers = self.core.step(self.alloc, event)?;
         for (sid, answer) in &answers {
             self.write_answer(label, *sid, answer)?;
+            self.core.take(*sid);
         }
         Ok(())
     }
 
-    /// Writes an answer under the label that started the session which it is for, and that of no
-    /// session under the line's own.
+    /// Writes an answer, and keeps under which label a session was started.
     fn write_answer(&mut self, label: &str, sid: Sid, answer: &Answer) -> Result<(), ScriptFault>
         ensures { IfErr result (λ fault. is_users_memory fault ≡ false) }
     {
         if let Answer::Started(started) = answer {
             self.labels.start(self.alloc, label, *started)?;
         }
+        let line = self.line_of(label, sid, answer)?;
+        self.write(line.as_str())
+    }
+
+    /// The line of an answer, under the label that started the session which it is for, and that of
+    /// no session under the line's own.
+    fn line_of(&self, label: &str, sid: Sid, answer: &Answer) -> Result<String, NoMemory>
+        ensures { IfOk result (λ line. string_bytes line
+            ≡ labelled_line (label_for self.now.labels label.now sid) answer.now) }
+    {
         let text = line_of_answer(self.alloc, answer)?;
         let label = self.labels.starter(sid).unwrap_or(label);
-        let line = format!(in self.alloc; "{label} {text}\n")?;
-        self.write(line.as_str())
+        Ok(format!(in self.alloc; "{label} {text}\n")?)
     }
 
     fn write_line(&mut self, label: &str, text: &str) -> Result<(), ScriptFault>

@@ -159,6 +159,99 @@ fn messages_are_sent_and_received(rt: HostRuntime) {
     );
 }
 
+/// A queue for one message that both may use: descriptions 0 of `a` and 1 of `b`.
+const SHARED_QUEUE: &str =
+    "a hello ka1\na umask 000\na mq-open /m rw --create --mode 0666 --maxmsg 1 --msgsize 8\nb hello kb1\nb mq-open /m rw\n";
+
+const SHARED_QUEUE_ANSWERS: &str = "a started 0\na mask 022\na opened 0\nb started 1\nb opened 1\n";
+
+fn assert_writes_behind_queue(
+    rt: &(impl Abort + AllocGlobal),
+    steps: &str,
+    written: &str,
+) -> Result<(), AllocError> {
+    let alloc = rt.alloc();
+    let all = format!(in alloc; "{SHARED_QUEUE}{steps}")?;
+    let answers = format!(in alloc; "{SHARED_QUEUE_ANSWERS}{written}")?;
+    assert_writes(rt, all.as_str(), answers.as_str());
+    Ok(())
+}
+
+#[test]
+fn parked_calls_write_no_line(rt: HostRuntime) -> Result<(), Fail> {
+    assert_writes_behind_queue(&rt, "b mq-receive 1 8\n", "")?;
+    assert_writes_behind_queue(
+        &rt,
+        "b mq-receive 1 8\nb umask 022\nb interrupts\na umask 022\n",
+        "b refused 2 EBUSY InCall\nb fault usage\na mask 000\n",
+    )?;
+    assert_writes_behind_queue(
+        &rt,
+        "a mq-send 0 0 p\na mq-send 0 0 q\nb mq-getattr 1\n",
+        "a sent\nb attrs 0 1 8 1\n",
+    )?;
+    Ok(())
+}
+
+#[test]
+fn a_step_answers_two_sessions(rt: HostRuntime) -> Result<(), Fail> {
+    // The caller's answer stands first, and each under its own session's label.
+    assert_writes_behind_queue(
+        &rt,
+        "b mq-receive 1 8\na mq-send 0 4 m\nb umask 022\n",
+        "a sent\nb received 4 m\nb mask 022\n",
+    )?;
+    assert_writes_behind_queue(
+        &rt,
+        "a mq-receive 0 8\nb mq-send 1 4 hex:00\n",
+        "b sent\na received 4 hex:00\n",
+    )?;
+    assert_writes_behind_queue(
+        &rt,
+        "a mq-send 0 0 p\na mq-send 0 9 q\nb mq-receive 1 8\nb mq-receive 1 8\n",
+        "a sent\nb received 0 p\na sent\nb received 9 q\n",
+    )?;
+    Ok(())
+}
+
+#[test]
+fn parked_calls_are_answered_under_the_label_that_started_them(
+    rt: HostRuntime,
+) -> Result<(), Fail> {
+    // The label has a newer session by then, or another label's session makes the step.
+    assert_writes_behind_queue(
+        &rt,
+        "b mq-receive 1 8\nb hello kb1\nb umask 022\na mq-send 0 4 m\n",
+        "b started 2\nb mask 022\na sent\nb received 4 m\n",
+    )?;
+    assert_writes_behind_queue(
+        &rt,
+        "b mq-receive 1 8\nb hello kb1\nb mq-open /m w\nb mq-send 2 4 m\n",
+        "b started 2\nb opened 2\nb sent\nb received 4 m\n",
+    )?;
+    assert_writes_behind_queue(
+        &rt,
+        "a mq-receive 0 8\nc hello ka1\nc mq-open /m w\nc mq-send 2 4 m\n",
+        "c started 2\nc opened 2\nc sent\na received 4 m\n",
+    )?;
+    Ok(())
+}
+
+#[test]
+fn interrupts_end_the_session_s_own_call(rt: HostRuntime) -> Result<(), Fail> {
+    assert_writes_behind_queue(
+        &rt,
+        "b mq-receive 1 8\na interrupt\nb interrupt\nb interrupt\na mq-send 0 4 m\nb mq-receive 1 8\n",
+        "a refused 3 EINVAL NotInCall\nb interrupted EINTR\nb done\nb refused 3 EINVAL NotInCall\na sent\nb received 4 m\n",
+    )?;
+    assert_writes_behind_queue(
+        &rt,
+        "interrupt interrupt\na interrupt 0\nb mq-receive 1 8\nb hangup\nb interrupt\na mq-send 0 4 m\n",
+        "interrupt refused 1 ESRCH NoSession\na fault usage\nb refused 1 ESRCH NoSession\na sent\n",
+    )?;
+    Ok(())
+}
+
 #[test]
 fn lines_are_words(rt: HostRuntime) {
     assert_writes(&rt, "\n# a hello ka1\n#\n", "");

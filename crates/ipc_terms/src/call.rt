@@ -73,6 +73,9 @@ pub enum Call {
     },
     /// Asks for the owner, group and mode of what is meant.
     StatName(Target),
+    /// Ends the session's call that is parked: that call is answered that it was interrupted, and has no
+    /// other effect (POSIX.1-2017, `EINTR`).
+    Interrupt,
 }
 
 /// What is answered.
@@ -106,4 +109,6 @@ pub enum Answer {
     Stat(Facts),
     /// To anything: the rule of the lowest number that forbids it.
     Refused(Rule),
+    /// To a call that was parked: an interrupt ended it (POSIX.1-2017, `EINTR`).
+    Interrupted,
 }

@@ -10,7 +10,7 @@ use row::judge;
 use std::io;
 
 /// The scripts, in the order in which they are run.
-const ROWS: [&str; 32] = [
+const ROWS: [&str; 41] = [
     "first_run",
     "present_before_mode",
     "name_forms",
@@ -32,6 +32,15 @@ const ROWS: [&str; 32] = [
     "open_rights_outlive_mode_and_name",
     "message_rules_in_order",
     "messages_stay_in_their_queue",
+    "parked_receiver_is_served",
+    "interrupted_sender",
+    "parked_served_in_order",
+    "longest_parked_sender_enters",
+    "parked_without_the_name",
+    "others_leave_while_one_is_parked",
+    "refused_while_parked",
+    "nonblock_where_others_park",
+    "parked_under_an_older_label",
     "users_found_by_key",
     "users_none",
     "users_most",

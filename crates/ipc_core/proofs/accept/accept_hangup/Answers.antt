@@ -6,4 +6,4 @@ pub end_session-requires : goal.end_session-requires
 end_session-requires c = hangup_within _ _ _ c.args.sid c.requires.core.agrees c.requires.accepted
 
 pub returns : goal.returns
-returns c = rw c.end_session.ensures (agrees_ended _ _ _ c.args.sid c.requires.core.agrees)
+returns c = rw c.end_session.ensures (agrees_ended _ _ _ c.args.sid c.requires.core (hangup_within _ _ _ c.args.sid c.requires.core.agrees c.requires.accepted))

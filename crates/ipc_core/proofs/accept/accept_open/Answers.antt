@@ -31,7 +31,7 @@ unreachable-requires c =
 
 pub unreachable-requires-in_default-cred : goal.unreachable-requires-in_default-cred
 unreachable-requires-in_default-cred c =
-    let user = user_row c.args.past.now.history c.args.tables.now.sessions c.args.sid.0 c.in-Some-session.session c.requires.core.agrees.sessions (sym c.session.ensures ∙ c.in-Some-session.is) in
+    let user = user_row c.args.config.now c.args.past.now.history c.args.tables.now.sessions c.args.sid.0 c.in-Some-session.session c.requires.core.agrees.sessions (sym c.session.ensures ∙ c.in-Some-session.is) in
     let known = known_user c.args.config.now c.args.past.now.history c.requires.core.legal c.args.sid.0 c.in-Some-session.session.user user in
     let none = ap is_some (sym c.cred.ensures ∙ ap option_copied c.in_default-cred.is) in
     cc

@@ -1,22 +1,36 @@
 use Rattle.std.proofs.Common.{sym, ap, ◌∙◌, is_some}
 use Rattle.ipc_core.specs.Kept.{Descriptions, held_of}
 use Rattle.ipc_core.proofs.QueueLookups.{holds_is}
-use Rattle.ipc_core.proofs.QueueDecisions.{receive_accepted, held_there, receive_some}
+use Rattle.ipc_core.proofs.QueueDecisions.{receive_accepted, held_there, queue_held}
+use Rattle.ipc_core.proofs.Serving.{call_here, sender_is}
 use Rattle.ipc_core.proofs.Accepting.{agrees_received}
 use Rattle.ipc_core.proofs.accept.accept_receive.Goals as goal
 
 pub unreachable-requires : goal.unreachable-requires
 unreachable-requires c =
     let none = sym (c.held_of.ensures ∙ ap (λ (ds : Descriptions). held_of ds.rows c.args.sid.0 c.args.desc.0) c.descriptions.ensures) ∙ c.in_default.is in
-    let some = sym (ap is_some none) ∙ held_there c.args.config.now c.args.past.now.history c.args.tables.now c.args.sid.0 c.args.desc.0 c.requires.core.agrees (receive_accepted c.args.config.now c.args.past.now.history c.args.sid c.args.desc c.args.length c.requires.accepted).0 in
+    let some = sym (ap is_some none) ∙ held_there c.args.config.now c.args.past.now.history c.args.tables.now c.args.sid.0 c.args.desc.0 c.requires.core.agrees (receive_accepted c.args.config.now c.args.past.now.history c.args.sid c.args.desc c.args.length c.requires.accepted).held in
     cc
 
-pub receive-requires : goal.receive-requires
-receive-requires c =
+pub receive-requires-clause-queue : goal.receive-requires-clause-queue
+receive-requires-clause-queue c =
     let held = c.held_of.ensures ∙ ap (λ (ds : Descriptions). held_of ds.rows c.args.sid.0 c.args.desc.0) c.descriptions.ensures ∙ holds_is c.args.config.now c.args.past.now.history c.args.tables.now c.args.sid.0 c.args.desc.0 c.requires.core.agrees in
-    receive_some c.args.config.now c.args.past.now.history c.args.tables.now c.args.sid c.args.desc c.args.length c.in-Some.held c.requires.core.agrees c.requires.accepted (sym held ∙ c.in-Some.is)
+    queue_held c.args.config.now c.args.past.now.history c.args.tables.now c.args.sid.0 c.args.desc.0 c.in-Some.held c.requires.core.agrees (receive_accepted c.args.config.now c.args.past.now.history c.args.sid c.args.desc c.args.length c.requires.accepted).held (sym held ∙ c.in-Some.is)
+
+pub receive-requires-clause-sender : goal.receive-requires-clause-sender
+receive-requires-clause-sender c =
+    let held = c.held_of.ensures ∙ ap (λ (ds : Descriptions). held_of ds.rows c.args.sid.0 c.args.desc.0) c.descriptions.ensures ∙ holds_is c.args.config.now c.args.past.now.history c.args.tables.now c.args.sid.0 c.args.desc.0 c.requires.core.agrees in
+    let here = call_here c.args.config.now c.args.past.now.history c.args.tables.now c.args.sid.0 c.args.desc.0 c.in-Some.held c.requires.core.agrees (receive_accepted c.args.config.now c.args.past.now.history c.args.sid c.args.desc c.args.length c.requires.accepted) (sym held ∙ c.in-Some.is) in
+    sender_is c.args.config.now c.args.past.now.history c.args.tables.now c.in-Some.held.object here.object' c.requires.core.legal c.requires.core.agrees here.alive' here.made
+
+pub receive-requires-clause-session : goal.receive-requires-clause-session
+receive-requires-clause-session c =
+    let held = c.held_of.ensures ∙ ap (λ (ds : Descriptions). held_of ds.rows c.args.sid.0 c.args.desc.0) c.descriptions.ensures ∙ holds_is c.args.config.now c.args.past.now.history c.args.tables.now c.args.sid.0 c.args.desc.0 c.requires.core.agrees in
+    (call_here c.args.config.now c.args.past.now.history c.args.tables.now c.args.sid.0 c.args.desc.0 c.in-Some.held c.requires.core.agrees (receive_accepted c.args.config.now c.args.past.now.history c.args.sid c.args.desc c.args.length c.requires.accepted) (sym held ∙ c.in-Some.is)).within
 
 pub returns-clause-ok : goal.returns-clause-ok
 returns-clause-ok c =
     let held = c.held_of.ensures ∙ ap (λ (ds : Descriptions). held_of ds.rows c.args.sid.0 c.args.desc.0) c.descriptions.ensures ∙ holds_is c.args.config.now c.args.past.now.history c.args.tables.now c.args.sid.0 c.args.desc.0 c.requires.core.agrees in
-    rw c.in_ok-receive.ensures.ok (agrees_received c.args.config.now c.args.past.now.history c.args.tables.now c.args.sid c.args.desc c.args.length c.in-Some.held c.requires.core.agrees (sym held ∙ c.in-Some.is))
+    let is = sym held ∙ c.in-Some.is in
+    let here = call_here c.args.config.now c.args.past.now.history c.args.tables.now c.args.sid.0 c.args.desc.0 c.in-Some.held c.requires.core.agrees (receive_accepted c.args.config.now c.args.past.now.history c.args.sid c.args.desc c.args.length c.requires.accepted) is in
+    rw c.in_ok-receive.ensures.ok (agrees_received c.args.config.now c.args.past.now.history c.args.tables.now c.args.sid c.args.desc c.args.length c.in-Some.held here.object' c.requires.core is here.made here.lives)

@@ -1,5 +1,9 @@
 use Rattle.ipc_policy.proofs.Refused.{same_values}
+use Rattle.ipc_policy.proofs.Queueing.{refused_answered}
 use Rattle.ipc_policy.proofs.laws.quiet.Goals as goal
 
-pub returns : goal.returns
-returns g = same_values
+pub returns-clause-values : goal.returns-clause-values
+returns-clause-values g = same_values
+
+pub returns-clause-answers : goal.returns-clause-answers
+returns-clause-answers g = refused_answered

@@ -1,37 +1,36 @@
-use Rattle.std.proofs.Common.{◌≡◌, ℕ, ◌<◌, ◌≤◌, true, not, ◌==◌, List, length, Option, Some, None, is_some, refl, ap, ◌∙◌, arith}
-use Rattle.std.specs.Option.{option_map}
-use Rattle.std.proofs.lemmas.List.Filters.{length-filter_both}
-use Rattle.ipc_queue.specs.declared.queue.Ticket.{Ticket}
-use Rattle.ipc_queue.specs.Tickets.{next_ticket, next_place, without_place}
-use Rattle.ipc_queue.proofs.Greatest.{first_is_some}
+use Rattle.std.proofs.Common.{length, ap, arith}
+use Rattle.ipc_queue.specs.Tickets.{Tickets}
+use Rattle.ipc_queue.proofs.Leaving.{next_is_there, no_next, taken, let_in}
 use Rattle.ipc_queue.proofs.queue.Queue.receive.Goals as goal
 
-map_is_some : {A B : Type 0} (f : A → B) (o : Option A) → is_some o ≡ true → is_some (option_map f o) ≡ true
-map_is_some f None h = h
-map_is_some f (Some x) h = h
-
--- a queue with tickets has a next one
-some_next : (tickets : List Ticket) → 0 < length tickets → is_some (next_place tickets) ≡ true
-some_next tickets h = map_is_some (λ (t : Ticket). t.place) (next_ticket tickets) (first_is_some (λ (t : Ticket). t.priority) tickets h)
-
-not_none : (tickets : List Ticket) → 0 < length tickets → None ≡ next_place tickets → ⊥
-not_none tickets h none =
-    let some : is_some (next_place tickets) ≡ true = some_next tickets h in
-    let without : is_some {T = ℕ} None ≡ true = ap (λ (o : Option ℕ). is_some o) none ∙ some in
-    cc
-
--- the tickets but those of a place are no more than there were
-fewer : (place : ℕ) (tickets : List Ticket) (most : ℕ) → length tickets ≤ most → length (without_place place tickets) ≤ most
-fewer place tickets most h =
-    let both = length-filter_both (λ (t : Ticket). not (t.place == place)) (λ (t : Ticket). not (not (t.place == place))) (λ t. refl) tickets in
-    omega arith
-
-pub unreachable-requires : goal.unreachable-requires
-unreachable-requires c = not_none c.args.self.now.tickets c.requires c.in_default.ensures
-
-pub invariant_of-self : goal.invariant_of-self
-invariant_of-self c = record {
+pub invariant_of-self-in_default : goal.invariant_of-self-in_default
+invariant_of-self-in_default c = record {
   some_messages = c.self.invariant.some_messages;
   some_bytes = c.self.invariant.some_bytes;
-  within = rw c.remove_place.ensures (fewer _ _ _ c.self.invariant.within);
+  within = c.self.invariant.within;
+  receivers_at_empty = λ parked. no_next c.self.inside.tickets.items c.deref.result.now c.deref.ensures.value c.in_default.ensures;
+  senders_at_full = c.self.invariant.senders_at_full;
 }
+
+pub remove_ticket-requires : goal.remove_ticket-requires
+remove_ticket-requires c = next_is_there c.self.inside.tickets.items c.deref.result.now c.in-Some.next c.deref.ensures.value c.in-Some.ensures
+
+pub invariant_of-self-in-Some-pop_front : goal.invariant_of-self-in-Some-pop_front
+invariant_of-self-in-Some-pop_front c =
+    let inside = c.self.inside in
+    let queue : Tickets = record { maxmsg = inside.maxmsg; msgsize = inside.msgsize; tickets = inside.tickets.items; senders = inside.senders.items; receivers = inside.receivers.items } in
+    let there = next_is_there inside.tickets.items c.deref.result.now c.in-Some.next c.deref.ensures.value c.in-Some.ensures in
+    let_in queue c.remove_ticket.new.tickets.items c.push_within.new.items.items c.pop_front.new.self.items c.in-Some.next c.in-Some-pop_front.sender c.self.invariant there c.remove_ticket.ensures.items c.in-Some-pop_front.ensures.items c.push_within.ensures
+
+pub invariant_of-self-in-None : goal.invariant_of-self-in-None
+invariant_of-self-in-None c =
+    let inside = c.self.inside in
+    let queue : Tickets = record { maxmsg = inside.maxmsg; msgsize = inside.msgsize; tickets = inside.tickets.items; senders = inside.senders.items; receivers = inside.receivers.items } in
+    let there = next_is_there inside.tickets.items c.deref.result.now c.in-Some.next c.deref.ensures.value c.in-Some.ensures in
+    taken queue c.remove_ticket.new.tickets.items c.pop_front.new.self.items c.in-Some.next c.self.invariant there c.remove_ticket.ensures.items c.in-None.ensures.items c.in-None.ensures.rest
+
+pub returns-in_err-push_back-clause-without_memory : goal.returns-in_err-push_back-clause-without_memory
+returns-in_err-push_back-clause-without_memory c =
+    let none = no_next c.self.inside.tickets.items c.deref.result.now c.deref.ensures.value c.in_default.ensures in
+    let same = ap (λ (q : Tickets). length q.tickets) c.self.view_is in
+    λ some. absurd (omega arith)

@@ -1,0 +1,221 @@
+-- What a step puts into outboxes, answer by answer, is what it adds to each; and each has the last of what was answered.
+use Rattle.std.proofs.Common.{◌≡◌, ℕ, zero, suc, ◌+◌, ◌<◌, ◌≤◌, Bool, true, false, eqb, cond, List, [], ◌∷◌, ◌++◌, length, slice_get, Option, Some, None, refl, sym, ap, subst, ◌∙◌, arith}
+use Rattle.std.specs.Prelude.{unwrap_or, map, filter, nat_lt}
+use Rattle.std.specs.Option.{option_or, option_map}
+use Rattle.std.proofs.lemmas.Bool.{eqb-true, eq-eqb, ne_eqb, ltb-true, ltb-false}
+use Rattle.std.proofs.lemmas.List.{length_push}
+use Rattle.ipc_terms.specs.declared.rule.Rule.{Rule}
+use Rattle.ipc_terms.specs.declared.ids.Sid.{Sid}
+use Rattle.ipc_terms.specs.declared.call.Answer.{Answer}
+use Rattle.ipc_terms.specs.declared.record.Event.{Event}
+use Rattle.ipc_terms.specs.declared.record.Event.TheVariants.{Hello, Do, Hangup}
+use Rattle.ipc_policy.specs.declared.config.Config.{Config}
+use Rattle.ipc_policy.specs.History.{History, listed}
+use Rattle.ipc_policy.specs.Sessions.{hellos, live}
+use Rattle.ipc_policy.specs.Verdict.{verdict, answers, answers_at, for_session, outbox, after_event, after_events}
+use Rattle.ipc_policy.proofs.Living.{append_none}
+use Rattle.ipc_policy.proofs.Grown.{grows}
+use Rattle.ipc_policy.proofs.Refused.{same_values}
+use Rattle.ipc_policy.proofs.Outboxes.{outbox_after}
+use Rattle.ipc_core.specs.Kept.{Kept, live_at}
+use Rattle.ipc_core.specs.Agrees.{IsCore}
+use Rattle.ipc_core.specs.Steps.{changed}
+use Rattle.ipc_core.specs.Outboxes.{box_at, with_answer, taken, with_more, starts, with_new, added, untaken_after, after_step, after_steps, posted, IsSuffix, BoxesAgree, IsKept}
+use Rattle.ipc_core.specs.State.{State}
+use Rattle.ipc_core.proofs.Lists.{slice_get_push, slice_past, changed_if, at_changed, count_changed}
+
+pub posted_append : (lives : ℕ → Bool) (ps qs : List (Sid × Answer)) (boxes : List (List Answer)) → posted lives (ps ++ qs) boxes ≡ posted lives qs (posted lives ps boxes)
+posted_append lives [] qs boxes = refl
+posted_append lives (p ∷ ps) qs boxes = posted_append lives ps qs (cond (lives p.0.0) (changed (with_answer p.1) boxes p.0.0) boxes)
+
+-- one answer, and then what else is added
+pub more_same : (k : ℕ) (f g : ℕ → List Answer) (boxes : List (List Answer)) → ((s : ℕ) → k ≤ s → f s ≡ g s) → with_more k f boxes ≡ with_more k g boxes
+more_same k f g [] same = refl
+more_same k f g (b ∷ bs) same = ap (λ l. (b ++ l) ∷ with_more (k + 1) f bs) (same k (omega arith)) ∙ ap (λ l. (b ++ g k) ∷ l) (more_same (k + 1) f g bs (λ s le. same s (omega arith)))
+
+joined : (xs ys : List Answer) (a : Answer) → (xs ++ a ∷ []) ++ ys ≡ xs ++ a ∷ ys
+joined [] ys a = refl
+joined (x ∷ xs) ys a = ap (λ l. x ∷ l) (joined xs ys a)
+
+one_more : (k : ℕ) (f g : ℕ → List Answer) (a : Answer) (boxes : List (List Answer)) (i : ℕ) → ((s : ℕ) → s ≡ k + i → g s ≡ a ∷ f s) → ((s : ℕ) → (s ≡ k + i → ⊥) → g s ≡ f s) → with_more k f (changed (with_answer a) boxes i) ≡ with_more k g boxes
+one_more k f g a [] i here others = refl
+one_more k f g a (b ∷ bs) zero here others =
+    ap (λ l. l ∷ with_more (k + 1) f bs) (joined b (f k) a ∙ sym (ap (λ l. b ++ l) (here k (omega arith))))
+    ∙ ap (λ l. (b ++ g k) ∷ l) (more_same (k + 1) f g bs (λ s le. sym (others s (λ (q : s ≡ k + 0). omega arith))))
+one_more k f g a (b ∷ bs) (suc i) here others =
+    ap (λ l. (b ++ l) ∷ with_more (k + 1) f (changed (with_answer a) bs i)) (sym (others k (λ (q : k ≡ k + suc i). omega arith)))
+    ∙ ap (λ l. (b ++ g k) ∷ l) (one_more (k + 1) f g a bs i (λ s e. here s (omega arith)) (λ s ne. others s (λ (q : s ≡ k + suc i). ne (omega arith))))
+
+none_more : (k : ℕ) (f : ℕ → List Answer) (boxes : List (List Answer)) → ((s : ℕ) → f s ≡ []) → with_more k f boxes ≡ boxes
+none_more k f [] none = refl
+none_more k f (b ∷ bs) none = ap (λ l. (b ++ l) ∷ with_more (k + 1) f bs) (none k) ∙ ap (λ l. l ∷ with_more (k + 1) f bs) (append_none b) ∙ ap (λ l. b ∷ l) (none_more (k + 1) f bs none)
+
+-- what is for a session, if it is live
+abbrev pub shared : (ℕ → Bool) → List (Sid × Answer) → ℕ → List Answer
+shared lives ps s = cond (lives s) (for_session s ps) []
+
+shared_none : (lives : ℕ → Bool) (s : ℕ) → shared lives [] s ≡ []
+shared_none lives s = at (lives s) where
+  at : (b : Bool) → ◌≡◌ {A = List Answer} (cond b [] []) []
+  at true = refl
+  at false = refl
+
+for_more : (s : ℕ) (p : Sid × Answer) (ps : List (Sid × Answer)) → for_session s (p ∷ ps) ≡ cond (eqb p.0.0 s) (p.1 ∷ for_session s ps) (for_session s ps)
+for_more s p ps = at (eqb p.0.0 s) where
+  rest : List (Sid × Answer)
+  rest = filter (λ q. eqb q.0.0 s) ps
+
+  at : (b : Bool) → map (λ (q : Sid × Answer). q.1) (cond b (p ∷ rest) rest) ≡ cond b (p.1 ∷ for_session s ps) (for_session s ps)
+  at true = refl
+  at false = refl
+
+shared_here : (lives : ℕ → Bool) (p : Sid × Answer) (ps : List (Sid × Answer)) (s : ℕ) → lives p.0.0 ≡ true → s ≡ p.0.0 → shared lives (p ∷ ps) s ≡ p.1 ∷ shared lives ps s
+shared_here lives p ps s e same =
+    let now : lives s ≡ true = ap lives same ∙ e in
+    let own : eqb p.0.0 s ≡ true = eq-eqb _ _ (sym same) in
+    ap (λ l. cond (lives s) l []) (for_more s p ps) ∙ rw (now, own) refl
+
+shared_other : (lives : ℕ → Bool) (p : Sid × Answer) (ps : List (Sid × Answer)) (s : ℕ) → (s ≡ p.0.0 → ⊥) → shared lives (p ∷ ps) s ≡ shared lives ps s
+shared_other lives p ps s ne =
+    let other : eqb p.0.0 s ≡ false = ne_eqb _ _ (λ q. ne (sym q)) in
+    ap (λ l. cond (lives s) l []) (for_more s p ps ∙ ap (λ b. cond b (p.1 ∷ for_session s ps) (for_session s ps)) other)
+
+shared_dead : (lives : ℕ → Bool) (p : Sid × Answer) (ps : List (Sid × Answer)) (s : ℕ) → lives p.0.0 ≡ false → shared lives (p ∷ ps) s ≡ shared lives ps s
+shared_dead lives p ps s e = at (eqb p.0.0 s) refl where
+  at : (b : Bool) → eqb p.0.0 s ≡ b → shared lives (p ∷ ps) s ≡ shared lives ps s
+  at true k = let now : lives s ≡ false = ap lives (sym (eqb-true _ _ k)) ∙ e in rw now refl
+  at false k = ap (λ l. cond (lives s) l []) (for_more s p ps ∙ ap (λ b. cond b (p.1 ∷ for_session s ps) (for_session s ps)) k)
+
+pub posted_is : (lives : ℕ → Bool) (ps : List (Sid × Answer)) (boxes : List (List Answer)) → posted lives ps boxes ≡ with_more 0 (shared lives ps) boxes
+posted_is lives [] boxes = sym (none_more 0 (shared lives []) boxes (shared_none lives))
+posted_is lives (p ∷ ps) boxes = at (lives p.0.0) refl (posted_is lives ps) where
+  at : (b : Bool) → lives p.0.0 ≡ b → ((now : List (List Answer)) → posted lives ps now ≡ with_more 0 (shared lives ps) now) → posted lives ps (cond b (changed (with_answer p.1) boxes p.0.0) boxes) ≡ with_more 0 (shared lives (p ∷ ps)) boxes
+  at true e rest = rest (changed (with_answer p.1) boxes p.0.0) ∙ one_more 0 (shared lives ps) (shared lives (p ∷ ps)) p.1 boxes p.0.0 (λ s q. shared_here lives p ps s e (omega arith)) (λ s ne. shared_other lives p ps s (λ q. ne (omega arith)))
+  at false e rest = rest boxes ∙ more_same 0 (shared lives ps) (shared lives (p ∷ ps)) boxes (λ s le. sym (shared_dead lives p ps s e))
+
+-- the outbox of a session that starts
+pub opened_is : (rule : Option Rule) (e : Event) (o : Option (List Answer)) (boxes : List (List Answer)) → o ≡ cond (starts rule e) (Some []) None → boxes ++ listed o ≡ with_new rule e boxes
+opened_is rule e o boxes k = ap (λ w. boxes ++ listed w) k ∙ at (starts rule e) where
+  at : (b : Bool) → boxes ++ listed (cond b (Some []) None) ≡ cond b (boxes ++ [] ∷ []) boxes
+  at true = refl
+  at false = append_none boxes
+
+-- so a step leaves the outboxes as it should
+pub after_is : (c : Config) (h : History) (e : Event) (lives : ℕ → Bool) (ps : List (Sid × Answer)) (boxes now : List (List Answer)) → ((s : ℕ) → lives s ≡ live (after_event c h e) s) → ps ≡ answers c h e → now ≡ with_new (verdict c h e) e boxes → posted lives ps now ≡ untaken_after c h e boxes
+unfolding untaken_after
+after_is c h e lives ps boxes now same all new =
+    posted_is lives ps now
+    ∙ ap (with_more 0 (shared lives ps)) new
+    ∙ more_same 0 (shared lives ps) (added c h e) (with_new (verdict c h e) e boxes) (λ s le. ap (λ b. cond b (for_session s ps) []) (same s) ∙ ap (λ l. cond (live (after_event c h e) s) (for_session s l) []) all)
+
+-- the same, by the verdict and the tables that a step has
+pub untaken_is : (c : Config) (h : History) (e : Event) (rule : Option Rule) (t : Kept) (told : List (Sid × Answer)) (boxes : List (List Answer)) (outbox : Option (List Answer)) → rule ≡ verdict c h e → IsCore c (record { event = e; rule = rule } ∷ h) t → told ≡ answers_at rule c h e → outbox ≡ cond (starts rule e) (Some []) None → posted (live_at t.sessions) told (boxes ++ listed outbox) ≡ untaken_after c h e boxes
+unfolding answers
+untaken_is c h e rule t told boxes outbox is k all new =
+    after_is c h e (live_at t.sessions) told boxes (boxes ++ listed outbox)
+    (λ s. k.agrees.sessions.lives s ∙ ap (λ r. live (record { event = e; rule = r } ∷ h) s) is)
+    (all ∙ ap (λ r. answers_at r c h e) is)
+    (opened_is rule e outbox boxes new ∙ ap (λ r. with_new r e boxes) is)
+
+-- each has the last of what its session was answered
+count_more : (k : ℕ) (f : ℕ → List Answer) (boxes : List (List Answer)) → length (with_more k f boxes) ≡ length boxes
+count_more k f [] = refl
+count_more k f (b ∷ bs) = ap suc (count_more (k + 1) f bs)
+
+at_more : (k : ℕ) (f : ℕ → List Answer) (boxes : List (List Answer)) (s : ℕ) → s < length boxes → box_at (with_more k f boxes) s ≡ box_at boxes s ++ f (k + s)
+at_more k f [] s lt = absurd (omega arith)
+at_more k f (b ∷ bs) zero lt = ap (λ n. b ++ f n) (omega arith)
+at_more k f (b ∷ bs) (suc s) lt = at_more (k + 1) f bs s (omega arith) ∙ ap (λ n. box_at bs s ++ f n) (omega arith)
+
+assoc : {A : Type 0} (xs ys zs : List A) → (xs ++ ys) ++ zs ≡ xs ++ (ys ++ zs)
+assoc [] ys zs = refl
+assoc (x ∷ xs) ys zs = ap (λ l. x ∷ l) (assoc xs ys zs)
+
+suffix_more : {A : Type 0} (xs ys zs : List A) → IsSuffix xs ys → IsSuffix (xs ++ zs) (ys ++ zs)
+suffix_more xs ys zs k = record { front = k.front; whole = ap (λ l. l ++ zs) k.whole ∙ assoc k.front xs zs }
+
+suffix_none : {A : Type 0} (ys : List A) → IsSuffix [] ys
+suffix_none ys = record { front = ys; whole = sym (append_none ys) }
+
+new_box : (rule : Option Rule) (e : Event) (boxes : List (List Answer)) (s : ℕ) → box_at (with_new rule e boxes) s ≡ box_at boxes s
+new_box rule e boxes s = at (starts rule e) where
+  pushed : (b : Bool) (w : Option (List Answer)) → (b ≡ true → w ≡ None) → unwrap_or (option_or (cond b (Some []) None) w) [] ≡ unwrap_or w []
+  pushed true w none = sym (ap (λ o. unwrap_or o []) (none refl))
+  pushed false w none = refl
+
+  at : (b : Bool) → box_at (cond b (boxes ++ [] ∷ []) boxes) s ≡ box_at boxes s
+  at true = ap (λ o. unwrap_or o []) (slice_get_push boxes [] s) ∙ pushed (eqb (length boxes) s) (slice_get boxes s) (λ e. let q : length boxes ≡ s = eqb-true _ _ e in slice_past boxes s (omega arith))
+  at false = refl
+
+count_new : (rule : Option Rule) (e : Event) (boxes : List (List Answer)) → length (with_new rule e boxes) ≡ cond (starts rule e) (length boxes + 1) (length boxes)
+count_new rule e boxes = at (starts rule e) where
+  at : (b : Bool) → length (cond b (boxes ++ [] ∷ []) boxes) ≡ cond b (length boxes + 1) (length boxes)
+  at true = length_push boxes []
+  at false = refl
+
+hellos_at : (c : Config) (h : History) (e : Event) (rule : Option Rule) → hellos (record { event = e; rule = rule } ∷ h) ≡ cond (starts rule e) (hellos h + 1) (hellos h)
+hellos_at c h e (Some rule) = (same_values c h e rule).hellos
+hellos_at c h (Hello found) None = (grows c h (Hello found)).hello_count
+hellos_at c h (Do sid call) None = (grows c h (Do sid call)).hello_count
+hellos_at c h (Hangup sid) None = (grows c h (Hangup sid)).hello_count
+
+pub boxes_after : (c : Config) (h : History) (e : Event) (boxes : List (List Answer)) → BoxesAgree c h boxes → BoxesAgree c (after_event c h e) (untaken_after c h e boxes)
+unfolding untaken_after
+boxes_after c h e boxes a = record {
+  count = count_more 0 (added c h e) (with_new (verdict c h e) e boxes) ∙ count_new (verdict c h e) e boxes ∙ ap (λ n. cond (starts (verdict c h e) e) (n + 1) n) a.count ∙ sym (hellos_at c h e (verdict c h e));
+  suffix = suffix;
+} where
+  new : List (List Answer)
+  new = with_new (verdict c h e) e boxes
+
+  old : (s : ℕ) → IsSuffix (box_at (with_new (verdict c h e) e boxes) s) (outbox c h s)
+  old s = subst (λ b. IsSuffix b (outbox c h s)) (sym (new_box (verdict c h e) e boxes s)) (a.suffix s)
+
+  suffix : (s : ℕ) → IsSuffix (box_at (with_more 0 (added c h e) (with_new (verdict c h e) e boxes)) s) (outbox c (after_event c h e) s)
+  suffix s = at (nat_lt s (length (with_new (verdict c h e) e boxes))) refl where
+    at : (b : Bool) → nat_lt s (length (with_new (verdict c h e) e boxes)) ≡ b → IsSuffix (box_at (with_more 0 (added c h e) (with_new (verdict c h e) e boxes)) s) (outbox c (after_event c h e) s)
+    at true k =
+        subst (λ b. IsSuffix b (outbox c (after_event c h e) s)) (sym (at_more 0 (added c h e) (with_new (verdict c h e) e boxes) s (ltb-true _ _ k) ∙ ap (λ n. box_at (with_new (verdict c h e) e boxes) s ++ added c h e n) (omega arith)))
+        (subst (λ o. IsSuffix (box_at (with_new (verdict c h e) e boxes) s ++ added c h e s) o) (sym (outbox_after c h e s)) (suffix_more (box_at (with_new (verdict c h e) e boxes) s) (outbox c h s) (added c h e s) (old s)))
+    at false k =
+        let past : length (with_new (verdict c h e) e boxes) ≤ s = ltb-false _ _ k in
+        let size = count_more 0 (added c h e) (with_new (verdict c h e) e boxes) in
+        subst (λ b. IsSuffix b (outbox c (after_event c h e) s)) (sym (ap (λ o. unwrap_or o []) (slice_past (with_more 0 (added c h e) (with_new (verdict c h e) e boxes)) s (omega arith)))) (suffix_none (outbox c (after_event c h e) s))
+
+-- there are none at the start
+pub boxes_new : (c : Config) → BoxesAgree c [] []
+unfolding hellos outbox
+boxes_new c = record { count = refl; suffix = λ s. suffix_none [] }
+
+-- and so where one is taken
+taken_at : (b : Bool) (w : Option (List Answer)) (ys : List Answer) → IsSuffix (unwrap_or w []) ys → IsSuffix (unwrap_or (option_map (changed_if b taken) w) []) ys
+taken_at true None ys k = k
+taken_at true (Some box) ys k = suffix_none ys
+taken_at false None ys k = k
+taken_at false (Some box) ys k = k
+
+pub boxes_taken : (c : Config) (h : History) (boxes : List (List Answer)) (i : ℕ) → BoxesAgree c h boxes → BoxesAgree c h (changed taken boxes i)
+boxes_taken c h boxes i a = record {
+  count = count_changed taken boxes i ∙ a.count;
+  suffix = λ s. subst (λ w. IsSuffix (unwrap_or w []) (outbox c h s)) (sym (at_changed taken boxes i s)) (taken_at (eqb i s) (slice_get boxes s) (outbox c h s) (a.suffix s));
+}
+
+-- all that holds of a core after a step
+pub kept_after : (c : Config) (h : History) (e : Event) (rule : Option Rule) (t : Kept) (boxes now : List (List Answer)) → rule ≡ verdict c h e → IsCore c (record { event = e; rule = rule } ∷ h) t → BoxesAgree c h boxes → now ≡ untaken_after c h e boxes → IsKept c (record { event = e; rule = rule } ∷ h) t now
+kept_after c h e rule t boxes now is k a new = record {
+  core = k;
+  boxes = subst (λ r. BoxesAgree c (record { event = e; rule = r } ∷ h) now) (sym is) (subst (BoxesAgree c (after_event c h e)) (sym new) (boxes_after c h e boxes a));
+}
+
+-- one more event at the end of a list
+pub steps_more : (es : List Event) (e : Event) (a : State) → after_steps (es ++ e ∷ []) a ≡ after_step e (after_steps es a)
+steps_more [] e a = refl
+steps_more (d ∷ es) e a = steps_more es e (after_step d a)
+
+pub steps_answers : (es : List Event) (e : Event) (a : State) → answers (after_steps es a).config (after_steps es a).history e ≡ answers a.config (after_events a.config a.history es) e
+steps_answers [] e a = refl
+steps_answers (d ∷ es) e a = steps_answers es e (after_step d a)
+
+-- the core after a step, part by part
+pub step_is : (c d : Config) (h k : History) (e : Event) (rule : Option Rule) (boxes now : List (List Answer)) → d ≡ c → k ≡ record { event = e; rule = rule } ∷ h → rule ≡ verdict c h e → now ≡ untaken_after c h e boxes → record { config = d; history = k; untaken = now } ≡ after_step e (record { config = c; history = h; untaken = boxes })
+step_is c d h k e rule boxes now one two is three = rw (one, two, three) (ap (λ r. record { config = c; history = record { event = e; rule = r } ∷ h; untaken = untaken_after c h e boxes }) is)

@@ -1,0 +1,98 @@
+-- What a legal history rules out, and which events send to an object and receive from it.
+use Rattle.std.proofs.Common.{◌≡◌, ℕ, Bool, true, false, not, eqb, length, cond, Option, Some, None, is_some, refl, sym, ap}
+use Rattle.std.proofs.lemmas.Bool.{eqb-true}
+use Rattle.std.proofs.lemmas.Option.{MatchOption-at_none}
+use Rattle.ipc_terms.specs.Rules.{every_rule}
+use Rattle.ipc_terms.specs.declared.rule.Rule.{Rule}
+use Rattle.ipc_terms.specs.declared.rule.Rule.TheVariants.{BadDescr}
+use Rattle.ipc_terms.specs.declared.ids.Sid.{Sid}
+use Rattle.ipc_terms.specs.declared.ids.Desc.{Desc}
+use Rattle.ipc_terms.specs.declared.ids.Family.TheVariants.{Mq}
+use Rattle.ipc_terms.specs.declared.call.Call.{Call}
+use Rattle.ipc_terms.specs.declared.call.Call.TheVariants.{MqSend, MqReceive}
+use Rattle.ipc_terms.specs.declared.record.Event.{Event}
+use Rattle.ipc_terms.specs.declared.record.Event.TheVariants.{Hello, Do, Hangup}
+use Rattle.ipc_policy.specs.declared.config.Config.{Config}
+use Rattle.ipc_policy.specs.declared.config.Held.{Held}
+use Rattle.ipc_policy.specs.declared.config.Object.{Object}
+use Rattle.ipc_policy.specs.History.{History, there_is}
+use Rattle.ipc_policy.specs.Objects.{object}
+use Rattle.ipc_policy.specs.Descriptions.{holds}
+use Rattle.ipc_policy.specs.Life.{gives_object}
+use Rattle.ipc_policy.specs.Queues.{Send, Wait, Act, Sends, Receives, Rests, act}
+use Rattle.ipc_policy.specs.Rules.{forbids, bad_descr, not_held, is_of_family, queue_named}
+use Rattle.ipc_policy.specs.Verdict.{verdict}
+use Rattle.ipc_policy.proofs.FirstPassing.{first_is_least, numbered, has_place, place_of, NonePass, IsLeastPassing}
+use Rattle.ipc_policy.proofs.Sent.{not_sends}
+
+-- no rule forbids what is accepted
+pub accepted_passes : (c : Config) (h : History) (e : Event) → None ≡ verdict c h e → (rule : Rule) → forbids rule c h e ≡ false
+unfolding verdict
+accepted_passes c h e legal rule = MatchOption-at_none (NonePass (λ x. forbids x c h e) every_rule) (IsLeastPassing (λ x. forbids x c h e) every_rule) (sym legal) (first_is_least (λ x. forbids x c h e) 1 every_rule numbered) (place_of rule) rule (has_place rule)
+
+-- an event that receives from object o
+pub record ReceiveOf (o : ℕ) (e : Event) (h : History) (w : Wait) : Type 0 where
+  pub sid : Sid
+  pub desc : Desc
+  pub length' : ℕ
+  pub x : Held
+  pub event : e ≡ Do sid (MqReceive desc length')
+  pub held : holds h sid.0 desc.0 ≡ Some x
+  pub object : x.object ≡ o
+  pub wait : w ≡ record { place = length h; session = sid.0; desc = desc.0 }
+
+-- an event that sends to object o
+pub record SendOf (o : ℕ) (e : Event) (h : History) (m : Send) : Type 0 where
+  pub sid : Sid
+  pub desc : Desc
+  pub x : Held
+  pub event : e ≡ Do sid (MqSend desc m.priority m.bytes)
+  pub held : holds h sid.0 desc.0 ≡ Some x
+  pub object : x.object ≡ o
+  pub place : m.place ≡ length h
+  pub session : m.session ≡ sid.0
+  pub by : m.desc ≡ desc.0
+
+not_receives : (b : Bool) (a : Act) (w : Wait) → (a ≡ Receives w → ⊥) → cond b a Rests ≡ Receives w → ⊥
+not_receives true a w h e = h e
+not_receives false a w h e = cc
+
+pub act_receives : (o : ℕ) (e : Event) (h : History) (w : Wait) → act o e h ≡ Receives w → ReceiveOf o e h w
+act_receives o (Do sid (MqReceive desc length')) h w k = at (holds h sid.0 desc.0) refl k where
+  at : (y : Option Held) → holds h sid.0 desc.0 ≡ y → cond (gives_object o y) (Receives (record { place = length h; session = sid.0; desc = desc.0 })) Rests ≡ Receives w → ReceiveOf o (Do sid (MqReceive desc length')) h w
+  at None q j = absurd cc
+  at (Some x) q j = same (eqb x.object o) refl j where
+    same : (b : Bool) → eqb x.object o ≡ b → cond b (Receives (record { place = length h; session = sid.0; desc = desc.0 })) Rests ≡ Receives w → ReceiveOf o (Do sid (MqReceive desc length')) h w
+    same true p i = record { sid = sid; desc = desc; length' = length'; x = x; event = refl; held = q; object = eqb-true _ _ p; wait = cc }
+    same false p i = absurd cc
+act_receives o (Do sid (MqSend desc priority bytes)) h w k = absurd (not_receives (gives_object o (holds h sid.0 desc.0)) _ w (λ j. cc) k)
+act_receives o (Do sid call) h w k = absurd cc
+act_receives o (Hello found) h w k = absurd cc
+act_receives o (Hangup sid) h w k = absurd cc
+
+pub act_sends : (o : ℕ) (e : Event) (h : History) (m : Send) → act o e h ≡ Sends m → SendOf o e h m
+act_sends o (Do sid (MqSend desc priority bytes)) h m k = at (holds h sid.0 desc.0) refl k where
+  at : (y : Option Held) → holds h sid.0 desc.0 ≡ y → cond (gives_object o y) (Sends (record { place = length h; session = sid.0; desc = desc.0; priority = priority; bytes = bytes })) Rests ≡ Sends m → SendOf o (Do sid (MqSend desc priority bytes)) h m
+  at None q j = absurd cc
+  at (Some x) q j = same (eqb x.object o) refl j where
+    same : (b : Bool) → eqb x.object o ≡ b → cond b (Sends (record { place = length h; session = sid.0; desc = desc.0; priority = priority; bytes = bytes })) Rests ≡ Sends m → SendOf o (Do sid (MqSend desc priority bytes)) h m
+    same true p i =
+        let sent : record { place = length h; session = sid.0; desc = desc.0; priority = priority; bytes = bytes } ≡ m = cc in
+        record { sid = sid; desc = desc; x = x; event = ap (λ (n : Send). Do sid (MqSend desc n.priority n.bytes)) sent; held = q; object = eqb-true _ _ p; place = sym (ap (λ (n : Send). n.place) sent); session = sym (ap (λ (n : Send). n.session) sent); by = sym (ap (λ (n : Send). n.desc) sent) }
+    same false p i = absurd cc
+act_sends o (Do sid (MqReceive desc length')) h m k = absurd (not_sends (gives_object o (holds h sid.0 desc.0)) _ m (λ j. cc) k)
+act_sends o (Do sid call) h m k = absurd cc
+act_sends o (Hello found) h m k = absurd cc
+act_sends o (Hangup sid) h m k = absurd cc
+
+-- what an accepted call's description gives is an object
+given_object : (x : Option Object) → not (is_of_family Mq x) ≡ false → is_some x ≡ true
+given_object None e = absurd cc
+given_object (Some x) e = refl
+
+pub held_object : (c : Config) (h : History) (sid : Sid) (call : Call) (desc : Desc) (x : Held) → None ≡ verdict c h (Do sid call) → queue_named call ≡ Some desc → holds h sid.0 desc.0 ≡ Some x → is_some (object c h x.object) ≡ true
+unfolding forbids bad_descr
+held_object c h sid call desc x legal named held =
+    let passes : there_is (λ d. not_held c h sid.0 Mq d.0) (queue_named call) ≡ false = accepted_passes c h (Do sid call) legal BadDescr in
+    let passes' : not_held c h sid.0 Mq desc.0 ≡ false = rw named at passes in
+    given_object (object c h x.object) (rw held at passes')

@@ -1,0 +1,5 @@
+use Rattle.ipc_policy.proofs.QueueBounds.{each_bounded}
+use Rattle.ipc_policy.proofs.laws.bounded.Goals as goal
+
+pub returns : goal.returns
+returns g = each_bounded

@@ -1,0 +1,5 @@
+use Rattle.ipc_policy.proofs.ParkedSessions.{is_parked}
+use Rattle.ipc_policy.proofs.laws.parked_alive.Goals as goal
+
+pub returns : goal.returns
+returns g = is_parked

@@ -1,0 +1,101 @@
+-- Parked calls and contents, read place by place: which record parks a call and which ends it, at which record a
+-- message enters and at which it is taken. What the lists of a queue are is stated here without `queue_after`.
+use Rattle.std.specs.Prelude.{◌≡◌, Bool, false, ℕ, ◌+◌, ◌<◌, ◌≤◌, ◌&&◌, ◌==◌, not, find, List, [], ◌∷◌, ◌++◌, length, Option, Some, None, is_some, unwrap_or, if◌then◌else◌, MatchOption}
+use Rattle.ipc_terms.specs.Lists.{first}
+use Rattle.ipc_policy.specs.declared.config.Config.{Config}
+use Rattle.ipc_policy.specs.History.{History, newest, kept, unended}
+use Rattle.ipc_policy.specs.Queues.{Send, Wait, Act, Sends, Receives, Withdraws, Queue, has_all, has_none, next, act, queue, maxmsg, contents, senders, receivers}
+use Rattle.ipc_policy.specs.Parking.{stands_at}
+
+-- the send of place i to a full queue parks
+abbrev pub parks_send : ℕ → ℕ → Act → Queue → Option Send
+parks_send maxmsg i (Sends m) q = if has_all maxmsg q.contents && (m.place == i) then Some m else None
+parks_send maxmsg i _ q = None
+
+-- an interrupt or a hang-up of its session ends a parked send, and so does a receive, if it is the longest parked
+abbrev pub ends_send : Send → Act → Queue → Bool
+ends_send m (Withdraws s) q = m.session == s
+ends_send m (Receives w) q = stands_at (λ n. n.place) m.place (first q.senders)
+ends_send m _ q = false
+
+-- the receive of place i from an empty queue parks
+abbrev pub parks_receive : ℕ → Act → Queue → Option Wait
+parks_receive i (Receives w) q = if has_none q.contents && (w.place == i) then Some w else None
+parks_receive i _ q = None
+
+-- an interrupt or a hang-up of its session ends a parked receive, and so does a send, if it is the longest parked
+abbrev pub ends_receive : Wait → Act → Queue → Bool
+ends_receive w (Withdraws s) q = w.session == s
+ends_receive w (Sends m) q = stands_at (λ n. n.place) w.place (first q.receivers)
+ends_receive w _ q = false
+
+-- the send, if it was made at place i
+abbrev pub entering : ℕ → Option Send → Option Send
+entering i None = None
+entering i (Some m) = if m.place == i then Some m else None
+
+-- the send of place i enters at its own place if it does not park, else at the receive that serves it
+abbrev pub enters : ℕ → ℕ → Act → Queue → Option Send
+enters maxmsg i (Sends m) q = if not (has_all maxmsg q.contents) && (m.place == i) then Some m else None
+enters maxmsg i (Receives w) q = entering i (first q.senders)
+enters maxmsg i _ q = None
+
+-- a receive that does not park takes the next message; one that is parked takes the message of the send that serves it
+abbrev pub takes : Send → Act → Queue → Bool
+takes m (Sends n) q = not (has_none q.receivers) && (n.place == m.place)
+takes m (Receives w) q = stands_at (λ n. n.place) m.place (next q.contents)
+takes m _ q = false
+
+-- the send of place i, if it enters and is not taken at the same record
+abbrev pub stays : ℕ → ℕ → Act → Queue → Option Send
+stays maxmsg i a q = kept (λ m. takes m a q) (enters maxmsg i a q)
+
+-- what a list has of place i
+abbrev pub of_place : {A : Type 0} → (A → ℕ) → ℕ → List A → Option A
+of_place place i xs = find (λ x. place x == i) xs
+
+-- the places rise from one item to the next: none is below lo, and each is below hi
+abbrev pub Rising : {A : Type 0} → (A → ℕ) → ℕ → List A → ℕ → Type 0
+Rising place lo [] hi = lo ≤ hi
+Rising place lo (x ∷ xs) hi = (lo ≤ place x) × Rising place (place x + 1) xs hi
+
+-- a call is parked exactly if it parked and no later record ended it, and each list begins with the longest parked
+pub record ParkedByPlace (c : Config) (h : History) (o : ℕ) : Type 0 where
+  pub sends : (i : ℕ) → of_place (λ m. m.place) i (senders c h o) ≡ unended (λ e before. parks_send (maxmsg c before o) i (act o e before) (queue c before o)) (λ m e before. ends_send m (act o e before) (queue c before o)) h
+  pub receives : (i : ℕ) → of_place (λ w. w.place) i (receivers c h o) ≡ unended (λ e before. parks_receive i (act o e before) (queue c before o)) (λ w e before. ends_receive w (act o e before) (queue c before o)) h
+  pub sends_rise : Rising (λ m. m.place) 0 (senders c h o) (length h)
+  pub receives_rise : Rising (λ w. w.place) 0 (receivers c h o) (length h)
+
+-- so in every history, for every object
+abbrev pub EachParkedByPlace : Type 0
+EachParkedByPlace = (c : Config) (h : History) (o : ℕ) → ParkedByPlace c h o
+
+-- the contents are exactly the sends that entered and that no record took
+abbrev pub EachInsideByPlace : Type 0
+EachInsideByPlace = (c : Config) (h : History) (o i : ℕ) →
+    of_place (λ m. m.place) i (contents c h o) ≡ unended (λ e before. stays (maxmsg c before o) i (act o e before) (queue c before o)) (λ m e before. takes m (act o e before) (queue c before o)) h
+
+-- the place of the record at which the send of place i entered
+abbrev pub entered : Config → History → ℕ → ℕ → ℕ
+entered c h o i = unwrap_or (newest (λ e before. if is_some (enters (maxmsg c before o) i (act o e before) (queue c before o)) then Some (length before) else None) h) 0
+
+-- the contents stand in the order in which they entered, and no two entered at one record
+abbrev pub EachInsideInOrder : Type 0
+EachInsideInOrder = (c : Config) (h : History) (o : ℕ) → Rising (λ m. entered c h o m.place) 0 (contents c h o) (length h)
+
+-- it holds of each item
+abbrev pub Each : {A : Type 0} → (A → Type 0) → List A → Type 0
+Each P [] = Unit {0}
+Each P (x ∷ xs) = P x × Each P xs
+
+-- it is in the list; each that entered before it has a smaller priority, and each that entered after it no greater one
+pub record IsNext (xs : List Send) (n : Send) : Type 0 where
+  pub front : List Send
+  pub rest : List Send
+  pub whole : xs ≡ front ++ n ∷ rest
+  pub earlier : Each (λ m. m.priority < n.priority) front
+  pub later : Each (λ m. m.priority ≤ n.priority) rest
+
+-- what a receive takes is the earliest of those with the greatest priority; nothing, only where there is none
+abbrev pub EachNextIsGreatest : Type 0
+EachNextIsGreatest = (xs : List Send) → MatchOption (next xs) (xs ≡ []) (λ n. IsNext xs n)

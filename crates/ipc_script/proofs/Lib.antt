@@ -1,3 +1,0 @@
-pub mod WordsNumberLemmas
-pub mod WordsAnswerLemmas
-pub mod WordsPrintingLemmas

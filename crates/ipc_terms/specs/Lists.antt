@@ -1,0 +1,7 @@
+-- Lists.
+use Rattle.std.specs.Prelude.{List, [], ◌∷◌, Option, Some, None}
+
+-- the first of a list, where there is one
+abbrev pub first : {A : Type 0} → List A → Option A
+first [] = None
+first (x ∷ xs) = Some x

@@ -1,0 +1,3 @@
+pub mod NumberLemmas
+pub mod AnswerLemmas
+pub mod PrintingLemmas
