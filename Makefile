@@ -1,8 +1,19 @@
-.PHONY: demo test
+.PHONY: demo build install test
 
-# Proves and builds the program, and runs the first run: two sessions, six answers.
+PREFIX = /usr/local
+PROGRAM = crates/mqserve/out/mqserve
+
+# Runs the first run, two sessions with six answers, and proves nothing: about a minute.
 demo:
-	@cd crates/mqserve && rt run < stdin
+	@cd crates/mqserve && rt try < stdin
+
+# Proves the program and the crates below it, and builds it.
+build:
+	@cd crates/mqserve && rt run -- --version
+
+# Puts the proved program into $(PREFIX)/bin.
+install: build
+	install -D -m 755 $(PROGRAM) $(DESTDIR)$(PREFIX)/bin/mqserve
 
 # The whole gate, from nothing. Its last line is 'N passed, M failed'.
 test:

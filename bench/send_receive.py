@@ -54,7 +54,7 @@ def main():
     parser.add_argument("pairs", nargs="?", type=int, default=20_000, help="20,000 where none are given")
     pairs = parser.parse_args().pairs
     if not PROGRAM.exists():
-        sys.exit("no program was built yet: run `make demo` first")
+        sys.exit("no program was built yet: run `make build` first")
     steps = steps_of(pairs)
     script = USERS + "".join(f"{words}\n" for words, _ in steps)
     wanted = "".join(f"{answer}\n" for _, answer in steps)

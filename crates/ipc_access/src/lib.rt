@@ -6,8 +6,6 @@ mod fault;
 mod file;
 mod line;
 mod removal;
-#[cfg(test)]
-mod tests;
 mod users;
 
 pub use class::{Class, Cred, Groups, class_of, grants};

@@ -1,28 +1,30 @@
 -- What a step puts into outboxes, answer by answer, is what it adds to each; and each has the last of what was answered.
-use Rattle.std.proofs.Common.{◌≡◌, ℕ, zero, suc, ◌+◌, ◌<◌, ◌≤◌, Bool, true, false, eqb, cond, List, [], ◌∷◌, ◌++◌, length, slice_get, Option, Some, None, refl, sym, ap, subst, ◌∙◌, arith}
+use Rattle.std.proofs.Common.{◌≡◌, ℕ, zero, suc, ◌+◌, ◌<◌, ◌≤◌, Bool, true, false, not, ◌&&◌, ◌||◌, eqb, cond, List, [], ◌∷◌, ◌++◌, length, slice_get, Option, Some, None, refl, sym, ap, subst, ◌∙◌, arith}
 use Rattle.std.specs.Prelude.{unwrap_or, map, filter, nat_lt}
 use Rattle.std.specs.Option.{option_or, option_map}
 use Rattle.std.proofs.lemmas.Bool.{eqb-true, eq-eqb, ne_eqb, ltb-true, ltb-false}
 use Rattle.std.proofs.lemmas.List.{length_push}
+use Rattle.ipc_terms.specs.Lists.{changed}
 use Rattle.ipc_terms.specs.declared.rule.Rule.{Rule}
 use Rattle.ipc_terms.specs.declared.ids.Sid.{Sid}
 use Rattle.ipc_terms.specs.declared.call.Answer.{Answer}
 use Rattle.ipc_terms.specs.declared.record.Event.{Event}
 use Rattle.ipc_terms.specs.declared.record.Event.TheVariants.{Hello, Do, Hangup}
+use Rattle.ipc_outboxes.specs.Boxes.{Boxes, box_at, with_answer, taken}
 use Rattle.ipc_policy.specs.declared.config.Config.{Config}
-use Rattle.ipc_policy.specs.History.{History, listed}
+use Rattle.ipc_policy.specs.History.{History}
 use Rattle.ipc_policy.specs.Sessions.{hellos, live}
-use Rattle.ipc_policy.specs.Verdict.{verdict, answers, answers_at, for_session, outbox, after_event, after_events}
+use Rattle.ipc_policy.specs.Verdict.{verdict, answers, for_session, outbox, after_event, after_events}
+use Rattle.ipc_policy.specs.Grow.{live_after}
 use Rattle.ipc_policy.proofs.Living.{append_none}
 use Rattle.ipc_policy.proofs.Grown.{grows}
 use Rattle.ipc_policy.proofs.Refused.{same_values}
 use Rattle.ipc_policy.proofs.Outboxes.{outbox_after}
-use Rattle.ipc_core.specs.Kept.{Kept, live_at}
-use Rattle.ipc_core.specs.Agrees.{IsCore}
-use Rattle.ipc_core.specs.Steps.{changed}
-use Rattle.ipc_core.specs.Outboxes.{box_at, with_answer, taken, with_more, starts, with_new, added, untaken_after, after_step, after_steps, posted, IsSuffix, BoxesAgree, IsKept}
+use Rattle.ipc_core.specs.declared.answer.Told.{Told}
+use Rattle.ipc_state.specs.Past.{Past, with_event}
+use Rattle.ipc_core.specs.Outboxes.{with_more, starts, with_box, added, untaken_after, after_step, after_steps, posted, HasRooms, IsSuffix, BoxesAgree}
 use Rattle.ipc_core.specs.State.{State}
-use Rattle.ipc_core.proofs.Lists.{slice_get_push, slice_past, changed_if, at_changed, count_changed}
+use Rattle.ipc_terms.proofs.Lists.{slice_get_push, slice_past, changed_if, at_changed, count_changed}
 
 pub posted_append : (lives : ℕ → Bool) (ps qs : List (Sid × Answer)) (boxes : List (List Answer)) → posted lives (ps ++ qs) boxes ≡ posted lives qs (posted lives ps boxes)
 posted_append lives [] qs boxes = refl
@@ -93,29 +95,47 @@ posted_is lives (p ∷ ps) boxes = at (lives p.0.0) refl (posted_is lives ps) wh
   at true e rest = rest (changed (with_answer p.1) boxes p.0.0) ∙ one_more 0 (shared lives ps) (shared lives (p ∷ ps)) p.1 boxes p.0.0 (λ s q. shared_here lives p ps s e (omega arith)) (λ s ne. shared_other lives p ps s (λ q. ne (omega arith)))
   at false e rest = rest boxes ∙ more_same 0 (shared lives ps) (shared lives (p ∷ ps)) boxes (λ s le. sym (shared_dead lives p ps s e))
 
--- the outbox of a session that starts
-pub opened_is : (rule : Option Rule) (e : Event) (o : Option (List Answer)) (boxes : List (List Answer)) → o ≡ cond (starts rule e) (Some []) None → boxes ++ listed o ≡ with_new rule e boxes
-opened_is rule e o boxes k = ap (λ w. boxes ++ listed w) k ∙ at (starts rule e) where
-  at : (b : Bool) → boxes ++ listed (cond b (Some []) None) ≡ cond b (boxes ++ [] ∷ []) boxes
-  at true = refl
-  at false = append_none boxes
-
 -- so a step leaves the outboxes as it should
-pub after_is : (c : Config) (h : History) (e : Event) (lives : ℕ → Bool) (ps : List (Sid × Answer)) (boxes now : List (List Answer)) → ((s : ℕ) → lives s ≡ live (after_event c h e) s) → ps ≡ answers c h e → now ≡ with_new (verdict c h e) e boxes → posted lives ps now ≡ untaken_after c h e boxes
+after_is : (c : Config) (h : History) (e : Event) (lives : ℕ → Bool) (ps : List (Sid × Answer)) (boxes now : List (List Answer)) → ((s : ℕ) → lives s ≡ live (after_event c h e) s) → ps ≡ answers c h e → now ≡ with_box (starts (verdict c h e) e) boxes → posted lives ps now ≡ untaken_after c h e boxes
 unfolding untaken_after
 after_is c h e lives ps boxes now same all new =
     posted_is lives ps now
     ∙ ap (with_more 0 (shared lives ps)) new
-    ∙ more_same 0 (shared lives ps) (added c h e) (with_new (verdict c h e) e boxes) (λ s le. ap (λ b. cond b (for_session s ps) []) (same s) ∙ ap (λ l. cond (live (after_event c h e) s) (for_session s l) []) all)
+    ∙ more_same 0 (shared lives ps) (added c h e) (with_box (starts (verdict c h e) e) boxes) (λ s le. ap (λ b. cond b (for_session s ps) []) (same s) ∙ ap (λ l. cond (live (after_event c h e) s) (for_session s l) []) all)
 
--- the same, by the verdict and the tables that a step has
-pub untaken_is : (c : Config) (h : History) (e : Event) (rule : Option Rule) (t : Kept) (told : List (Sid × Answer)) (boxes : List (List Answer)) (outbox : Option (List Answer)) → rule ≡ verdict c h e → IsCore c (record { event = e; rule = rule } ∷ h) t → told ≡ answers_at rule c h e → outbox ≡ cond (starts rule e) (Some []) None → posted (live_at t.sessions) told (boxes ++ listed outbox) ≡ untaken_after c h e boxes
-unfolding answers
-untaken_is c h e rule t told boxes outbox is k all new =
-    after_is c h e (live_at t.sessions) told boxes (boxes ++ listed outbox)
-    (λ s. k.agrees.sessions.lives s ∙ ap (λ r. live (record { event = e; rule = r } ∷ h) s) is)
-    (all ∙ ap (λ r. answers_at r c h e) is)
-    (opened_is rule e outbox boxes new ∙ ap (λ r. with_new r e boxes) is)
+-- the same, by what a step does: the state has the event, there is room, and the answers are posted
+pub untaken_is : (a b : Past) (e : Event) (rule : Option Rule) (is_new : Bool) (told : List (Sid × Answer)) (boxes kept now : List (List Answer)) → b ≡ with_event e a → kept ≡ boxes → rule ≡ verdict a.config a.history e → is_new ≡ starts rule e → told ≡ answers a.config a.history e → now ≡ posted (live b.history) told (with_box is_new kept) → now ≡ untaken_after a.config a.history e boxes
+untaken_is a b e rule is_new told boxes kept now added same is new all put =
+    put
+    ∙ rw (added, same) (after_is a.config a.history e (live (with_event e a).history) told boxes (with_box is_new boxes)
+    (λ s. refl)
+    all
+    (ap (λ n. with_box n boxes) (new ∙ ap (λ r. starts r e) is)))
+
+-- a session that is live after an event was live before it, or it starts
+after_leave : (b w : Bool) → (not b && w) ≡ true → w ≡ true
+after_leave true w e = absurd cc
+after_leave false w e = e
+
+live_at : (h : History) (e : Event) (s : ℕ) → live_after s e (hellos h) (live h s) ≡ true → (starts None e || live h s) ≡ true
+live_at h (Hello found) s e = refl
+live_at h (Do sid call) s e = e
+live_at h (Hangup sid) s e = after_leave (eqb sid.0 s) (live h s) e
+
+was_live : (c : Config) (h : History) (e : Event) (rule : Option Rule) (s : ℕ) → live (record { event = e; rule = rule } ∷ h) s ≡ true → (starts rule e || live h s) ≡ true
+was_live c h e (Some rule) s k = sym ((same_values c h e rule).live s) ∙ k
+was_live c h e None s k = live_at h e s (sym ((grows c h e).live_or_not s) ∙ k)
+
+-- so there is room for what is put
+pub rooms_after : (a b : Past) (e : Event) (rule : Option Rule) (is_new : Bool) (told : Told) (boxes : Boxes) → b ≡ with_event e a → rule ≡ verdict a.config a.history e → is_new ≡ starts rule e → HasRooms (λ s. is_new || live a.history s) is_new told boxes → HasRooms (live b.history) is_new told boxes
+rooms_after a b e rule is_new told boxes added is new has = record {
+  first = λ p k lives. has.first p k (was p.0.0 lives);
+  second = λ p k lives. has.second p k (was p.0.0 lives);
+  places = has.places;
+  next = has.next;
+} where
+  was : (s : ℕ) → live b.history s ≡ true → (is_new || live a.history s) ≡ true
+  was s k = rw (new, is) (was_live a.config a.history e (verdict a.config a.history e) s (ap (λ (p : Past). live p.history s) (sym added) ∙ k))
 
 -- each has the last of what its session was answered
 count_more : (k : ℕ) (f : ℕ → List Answer) (boxes : List (List Answer)) → length (with_more k f boxes) ≡ length boxes
@@ -137,7 +157,7 @@ suffix_more xs ys zs k = record { front = k.front; whole = ap (λ l. l ++ zs) k.
 suffix_none : {A : Type 0} (ys : List A) → IsSuffix [] ys
 suffix_none ys = record { front = ys; whole = sym (append_none ys) }
 
-new_box : (rule : Option Rule) (e : Event) (boxes : List (List Answer)) (s : ℕ) → box_at (with_new rule e boxes) s ≡ box_at boxes s
+new_box : (rule : Option Rule) (e : Event) (boxes : List (List Answer)) (s : ℕ) → box_at (with_box (starts rule e) boxes) s ≡ box_at boxes s
 new_box rule e boxes s = at (starts rule e) where
   pushed : (b : Bool) (w : Option (List Answer)) → (b ≡ true → w ≡ None) → unwrap_or (option_or (cond b (Some []) None) w) [] ≡ unwrap_or w []
   pushed true w none = sym (ap (λ o. unwrap_or o []) (none refl))
@@ -147,7 +167,7 @@ new_box rule e boxes s = at (starts rule e) where
   at true = ap (λ o. unwrap_or o []) (slice_get_push boxes [] s) ∙ pushed (eqb (length boxes) s) (slice_get boxes s) (λ e. let q : length boxes ≡ s = eqb-true _ _ e in slice_past boxes s (omega arith))
   at false = refl
 
-count_new : (rule : Option Rule) (e : Event) (boxes : List (List Answer)) → length (with_new rule e boxes) ≡ cond (starts rule e) (length boxes + 1) (length boxes)
+count_new : (rule : Option Rule) (e : Event) (boxes : List (List Answer)) → length (with_box (starts rule e) boxes) ≡ cond (starts rule e) (length boxes + 1) (length boxes)
 count_new rule e boxes = at (starts rule e) where
   at : (b : Bool) → length (cond b (boxes ++ [] ∷ []) boxes) ≡ cond b (length boxes + 1) (length boxes)
   at true = length_push boxes []
@@ -162,25 +182,25 @@ hellos_at c h (Hangup sid) None = (grows c h (Hangup sid)).hello_count
 pub boxes_after : (c : Config) (h : History) (e : Event) (boxes : List (List Answer)) → BoxesAgree c h boxes → BoxesAgree c (after_event c h e) (untaken_after c h e boxes)
 unfolding untaken_after
 boxes_after c h e boxes a = record {
-  count = count_more 0 (added c h e) (with_new (verdict c h e) e boxes) ∙ count_new (verdict c h e) e boxes ∙ ap (λ n. cond (starts (verdict c h e) e) (n + 1) n) a.count ∙ sym (hellos_at c h e (verdict c h e));
+  count = count_more 0 (added c h e) (with_box (starts (verdict c h e) e) boxes) ∙ count_new (verdict c h e) e boxes ∙ ap (λ n. cond (starts (verdict c h e) e) (n + 1) n) a.count ∙ sym (hellos_at c h e (verdict c h e));
   suffix = suffix;
 } where
   new : List (List Answer)
-  new = with_new (verdict c h e) e boxes
+  new = with_box (starts (verdict c h e) e) boxes
 
-  old : (s : ℕ) → IsSuffix (box_at (with_new (verdict c h e) e boxes) s) (outbox c h s)
+  old : (s : ℕ) → IsSuffix (box_at (with_box (starts (verdict c h e) e) boxes) s) (outbox c h s)
   old s = subst (λ b. IsSuffix b (outbox c h s)) (sym (new_box (verdict c h e) e boxes s)) (a.suffix s)
 
-  suffix : (s : ℕ) → IsSuffix (box_at (with_more 0 (added c h e) (with_new (verdict c h e) e boxes)) s) (outbox c (after_event c h e) s)
-  suffix s = at (nat_lt s (length (with_new (verdict c h e) e boxes))) refl where
-    at : (b : Bool) → nat_lt s (length (with_new (verdict c h e) e boxes)) ≡ b → IsSuffix (box_at (with_more 0 (added c h e) (with_new (verdict c h e) e boxes)) s) (outbox c (after_event c h e) s)
+  suffix : (s : ℕ) → IsSuffix (box_at (with_more 0 (added c h e) (with_box (starts (verdict c h e) e) boxes)) s) (outbox c (after_event c h e) s)
+  suffix s = at (nat_lt s (length (with_box (starts (verdict c h e) e) boxes))) refl where
+    at : (b : Bool) → nat_lt s (length (with_box (starts (verdict c h e) e) boxes)) ≡ b → IsSuffix (box_at (with_more 0 (added c h e) (with_box (starts (verdict c h e) e) boxes)) s) (outbox c (after_event c h e) s)
     at true k =
-        subst (λ b. IsSuffix b (outbox c (after_event c h e) s)) (sym (at_more 0 (added c h e) (with_new (verdict c h e) e boxes) s (ltb-true _ _ k) ∙ ap (λ n. box_at (with_new (verdict c h e) e boxes) s ++ added c h e n) (omega arith)))
-        (subst (λ o. IsSuffix (box_at (with_new (verdict c h e) e boxes) s ++ added c h e s) o) (sym (outbox_after c h e s)) (suffix_more (box_at (with_new (verdict c h e) e boxes) s) (outbox c h s) (added c h e s) (old s)))
+        subst (λ b. IsSuffix b (outbox c (after_event c h e) s)) (sym (at_more 0 (added c h e) (with_box (starts (verdict c h e) e) boxes) s (ltb-true _ _ k) ∙ ap (λ n. box_at (with_box (starts (verdict c h e) e) boxes) s ++ added c h e n) (omega arith)))
+        (subst (λ o. IsSuffix (box_at (with_box (starts (verdict c h e) e) boxes) s ++ added c h e s) o) (sym (outbox_after c h e s)) (suffix_more (box_at (with_box (starts (verdict c h e) e) boxes) s) (outbox c h s) (added c h e s) (old s)))
     at false k =
-        let past : length (with_new (verdict c h e) e boxes) ≤ s = ltb-false _ _ k in
-        let size = count_more 0 (added c h e) (with_new (verdict c h e) e boxes) in
-        subst (λ b. IsSuffix b (outbox c (after_event c h e) s)) (sym (ap (λ o. unwrap_or o []) (slice_past (with_more 0 (added c h e) (with_new (verdict c h e) e boxes)) s (omega arith)))) (suffix_none (outbox c (after_event c h e) s))
+        let past : length (with_box (starts (verdict c h e) e) boxes) ≤ s = ltb-false _ _ k in
+        let size = count_more 0 (added c h e) (with_box (starts (verdict c h e) e) boxes) in
+        subst (λ b. IsSuffix b (outbox c (after_event c h e) s)) (sym (ap (λ o. unwrap_or o []) (slice_past (with_more 0 (added c h e) (with_box (starts (verdict c h e) e) boxes)) s (omega arith)))) (suffix_none (outbox c (after_event c h e) s))
 
 -- there are none at the start
 pub boxes_new : (c : Config) → BoxesAgree c [] []
@@ -200,13 +220,6 @@ boxes_taken c h boxes i a = record {
   suffix = λ s. subst (λ w. IsSuffix (unwrap_or w []) (outbox c h s)) (sym (at_changed taken boxes i s)) (taken_at (eqb i s) (slice_get boxes s) (outbox c h s) (a.suffix s));
 }
 
--- all that holds of a core after a step
-pub kept_after : (c : Config) (h : History) (e : Event) (rule : Option Rule) (t : Kept) (boxes now : List (List Answer)) → rule ≡ verdict c h e → IsCore c (record { event = e; rule = rule } ∷ h) t → BoxesAgree c h boxes → now ≡ untaken_after c h e boxes → IsKept c (record { event = e; rule = rule } ∷ h) t now
-kept_after c h e rule t boxes now is k a new = record {
-  core = k;
-  boxes = subst (λ r. BoxesAgree c (record { event = e; rule = r } ∷ h) now) (sym is) (subst (BoxesAgree c (after_event c h e)) (sym new) (boxes_after c h e boxes a));
-}
-
 -- one more event at the end of a list
 pub steps_more : (es : List Event) (e : Event) (a : State) → after_steps (es ++ e ∷ []) a ≡ after_step e (after_steps es a)
 steps_more [] e a = refl
@@ -215,7 +228,3 @@ steps_more (d ∷ es) e a = steps_more es e (after_step d a)
 pub steps_answers : (es : List Event) (e : Event) (a : State) → answers (after_steps es a).config (after_steps es a).history e ≡ answers a.config (after_events a.config a.history es) e
 steps_answers [] e a = refl
 steps_answers (d ∷ es) e a = steps_answers es e (after_step d a)
-
--- the core after a step, part by part
-pub step_is : (c d : Config) (h k : History) (e : Event) (rule : Option Rule) (boxes now : List (List Answer)) → d ≡ c → k ≡ record { event = e; rule = rule } ∷ h → rule ≡ verdict c h e → now ≡ untaken_after c h e boxes → record { config = d; history = k; untaken = now } ≡ after_step e (record { config = c; history = h; untaken = boxes })
-step_is c d h k e rule boxes now one two is three = rw (one, two, three) (ap (λ r. record { config = c; history = record { event = e; rule = r } ∷ h; untaken = untaken_after c h e boxes }) is)

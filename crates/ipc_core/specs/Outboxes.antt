@@ -1,46 +1,22 @@
 -- Outboxes: what each session was answered and has not taken yet.
-use Rattle.std.specs.Prelude.{◌≡◌, Bool, true, false, ℕ, ◌+◌, ◌≤◌, ◌<◌, List, [], ◌∷◌, ◌++◌, length, slice_get, vec_len, vec_capacity, ◌-◌, Option, Some, None, is_some, unwrap_or, if◌then◌else◌}
-use Rattle.std.specs.Global.{Vec}
+use Rattle.std.specs.Prelude.{◌≡◌, Bool, true, false, ℕ, ◌+◌, ◌≤◌, ◌<◌, List, [], ◌∷◌, ◌++◌, length, Option, Some, None, if◌then◌else◌}
+use Rattle.ipc_terms.specs.Lists.{changed}
 use Rattle.ipc_terms.specs.declared.rule.Rule.{Rule}
 use Rattle.ipc_terms.specs.declared.ids.Sid.{Sid}
 use Rattle.ipc_terms.specs.declared.call.Answer.{Answer}
 use Rattle.ipc_terms.specs.declared.record.Event.{Event}
 use Rattle.ipc_terms.specs.declared.record.Event.TheVariants.{Hello}
+use Rattle.ipc_outboxes.specs.Boxes.{Boxes, HasRoom, box_at, with_answer}
 use Rattle.ipc_policy.specs.declared.config.Config.{Config}
 use Rattle.ipc_policy.specs.History.{History, listed}
 use Rattle.ipc_policy.specs.Sessions.{hellos, live}
 use Rattle.ipc_policy.specs.Verdict.{verdict, answers, for_session, outbox, after_event}
 use Rattle.ipc_core.specs.declared.answer.Told.{Told}
 use Rattle.ipc_core.specs.State.{State}
-use Rattle.ipc_core.specs.Kept.{Kept}
-use Rattle.ipc_core.specs.Agrees.{IsCore}
-use Rattle.ipc_core.specs.Steps.{changed}
-
--- the outboxes by the sessions' numbers, the room in each for more answers, and the room for more outboxes
-pub record Boxes : Type 0 where
-  pub untaken : List (List Answer)
-  pub rooms : List ℕ
-  pub spare : ℕ
 
 -- the answers of a step, in order
 abbrev pub told_list : Told → List (Sid × Answer)
 told_list told = listed told.first ++ listed told.second
-
--- what session s has not taken yet; nothing, where there is no such session
-abbrev pub box_at : List (List Answer) → ℕ → List Answer
-box_at boxes s = unwrap_or (slice_get boxes s) []
-
--- where there is an outbox of session s, it has room for so many answers
-abbrev pub HasRoom : ℕ → List ℕ → ℕ → Type 0
-HasRoom n rooms s = (room : ℕ) → slice_get rooms s ≡ Some room → n ≤ room
-
--- one more answer at the end of an outbox
-abbrev pub with_answer : Answer → List Answer → List Answer
-with_answer answer box = box ++ answer ∷ []
-
--- an outbox from which all was taken
-abbrev pub taken : List Answer → List Answer
-taken box = []
 
 -- each outbox with more answers at its end, by the sessions' numbers from s on
 abbrev pub with_more : ℕ → (ℕ → List Answer) → List (List Answer) → List (List Answer)
@@ -53,8 +29,8 @@ starts None (Hello found) = true
 starts _ e = false
 
 -- one more outbox, where a session starts
-abbrev pub with_new : Option Rule → Event → List (List Answer) → List (List Answer)
-with_new rule e boxes = if starts rule e then boxes ++ [] ∷ [] else boxes
+abbrev pub with_box : Bool → List (List Answer) → List (List Answer)
+with_box is_new boxes = if is_new then boxes ++ [] ∷ [] else boxes
 
 -- what an event adds to the outbox of session s: the answers to it, where it is live after the record
 abbrev pub added : Config → History → Event → ℕ → List Answer
@@ -62,7 +38,7 @@ added c h e s = if live (after_event c h e) s then for_session s (answers c h e)
 
 -- the outboxes after one more event
 unfoldable pub untaken_after : Config → History → Event → List (List Answer) → List (List Answer)
-untaken_after c h e boxes = with_more 0 (added c h e) (with_new (verdict c h e) e boxes)
+untaken_after c h e boxes = with_more 0 (added c h e) (with_box (starts (verdict c h e) e) boxes)
 
 -- the core after one more event: it is recorded with its verdict, and each session that is live then is given its answers
 abbrev pub after_step : Event → State → State
@@ -83,20 +59,12 @@ pub record BoxesAgree (c : Config) (h : History) (boxes : List (List Answer)) : 
   pub count : length boxes ≡ hellos h
   pub suffix : (s : ℕ) → IsSuffix (box_at boxes s) (outbox c h s)
 
--- all that holds of a core
-pub record IsKept (c : Config) (h : History) (t : Kept) (untaken : List (List Answer)) : Type 0 where
-  pub core : IsCore c h t
-  pub boxes : BoxesAgree c h untaken
-
--- where there is a new outbox, it has room for two answers
-abbrev pub HasOwnRoom : Option (Vec Answer) → Type 0
-HasOwnRoom outbox = (v : Vec Answer) → outbox ≡ Some v → 2 ≤ vec_capacity v - vec_len v
-
--- what is to be put has room, and there is room for a new outbox, if there is one
-pub record HasRooms (outbox : Option (Vec Answer)) (told : Told) (boxes : Boxes) : Type 0 where
-  pub first : (p : Sid × Answer) → told.first ≡ Some p → HasRoom 2 boxes.rooms p.0.0
-  pub second : (p : Sid × Answer) → told.second ≡ Some p → HasRoom 2 boxes.rooms p.0.0
-  pub spare : is_some outbox ≡ true → 0 < boxes.spare
+-- there is room for what is to be put to sessions that are live, and for the outbox of a session that starts
+pub record HasRooms (lives : ℕ → Bool) (is_new : Bool) (told : Told) (boxes : Boxes) : Type 0 where
+  pub first : (p : Sid × Answer) → told.first ≡ Some p → lives p.0.0 ≡ true → HasRoom 2 boxes.rooms p.0.0
+  pub second : (p : Sid × Answer) → told.second ≡ Some p → lives p.0.0 ≡ true → HasRoom 2 boxes.rooms p.0.0
+  pub places : is_new ≡ true → 0 < boxes.places
+  pub next : is_new ≡ true → 2 ≤ boxes.next
 
 -- answers are put one by one, those to sessions that are live
 abbrev pub posted : (ℕ → Bool) → List (Sid × Answer) → List (List Answer) → List (List Answer)

@@ -1,20 +1,21 @@
 //! The core.
 
-ghost use Rattle.std.specs.Prelude.{◌≡◌, ◌≤◌, [], IfOk, IfErr, OnOk, OnErr, length, map, take, MatchOption};
-ghost use Rattle.ipc_policy.specs.Verdict.{verdict, answers, answers_at, Legal, all_answers};
-ghost use Rattle.ipc_core.specs.Steps.{changed};
-ghost use Rattle.ipc_core.specs.Outboxes.{BoxesAgree, told_list, box_at, taken, after_step, after_steps};
-ghost use Rattle.ipc_core.specs.Ranges.{first_bad};
+ghost use Rattle.std.specs.Prelude.{◌≡◌, ◌≤◌, ◌++◌, [], IfOk, IfErr, OnOk, OnErr, length, map, take, MatchOption};
+ghost use Rattle.ipc_terms.specs.Lists.{changed};
+ghost use Rattle.ipc_outboxes.specs.Boxes.{box_at, taken};
+ghost use Rattle.ipc_policy.specs.History.{listed};
+ghost use Rattle.ipc_policy.specs.Verdict.{verdict, answers, Legal, all_answers};
+ghost use Rattle.ipc_core.specs.Outboxes.{BoxesAgree, told_list, after_step, after_steps};
+ghost use Rattle.ipc_state.specs.Ranges.{first_bad};
 
-use crate::accept::accept;
-use crate::answer::{Told, accepted_answers, caller_of, one};
-use crate::decide::decide;
-use crate::fault::{CoreFault, first_bad};
-use crate::outboxes::Outboxes;
-use crate::posting::{make_room, new_outbox, post};
-use crate::tables::Tables;
+use crate::answer::{Posted, Told, answers_to, session_of};
+use crate::fault::CoreFault;
+use crate::posting::{make_room, put_all, starts};
+use ipc_outboxes::Outboxes;
 use ipc_policy::Config;
-use ipc_terms::{Answer, Event, NoMemory, Record, Rule, Sid};
+use ipc_rules::decide;
+use ipc_state::{State, first_bad};
+use ipc_terms::{Answer, Event, NoMemory, Rule, Sid};
 use ipc_trail::Trail;
 use std::alloc::Global;
 use std::marker::Model;
@@ -23,9 +24,7 @@ use std::marker::Model;
 /// of each session the answers that were not taken yet.
 #[derive(Drop)]
 pub struct Core {
-    config: Config,
-    tables: Tables,
-    trail: Trail,
+    state: State,
     outboxes: Outboxes,
 }
 
@@ -34,12 +33,11 @@ impl Model for Core {
 
     ghost Value = { State };
 
-    ghost use Rattle.ipc_core.specs.Agrees.{IsCore};
-    ghost use Rattle.ipc_core.specs.Outboxes.{IsKept};
+    ghost use Rattle.ipc_core.specs.Outboxes.{BoxesAgree};
 
-    ghost view = { λ a. record { config = a.config; history = a.trail.history; untaken = a.outboxes.untaken } };
+    ghost view = { λ a. record { config = a.state.config; history = a.state.history; untaken = a.outboxes.untaken } };
 
-    ghost invariant = { λ a. IsKept a.config a.trail.history a.tables a.outboxes.untaken };
+    ghost invariant = { λ a. BoxesAgree a.state.config a.state.history a.outboxes.untaken };
 }
 
 impl Core {
@@ -55,9 +53,7 @@ impl Core {
             return Err(CoreFault::BadConfig(field));
         }
         Ok(Core {
-            config,
-            tables: Tables::new(alloc),
-            trail: Trail::new(alloc),
+            state: State::new(alloc, config),
             outboxes: Outboxes::new(alloc),
         })
     }
@@ -66,14 +62,14 @@ impl Core {
     pub fn config(&self) -> &Config
         ensures { result.now ≡ self.now.config }
     {
-        &self.config
+        self.state.config()
     }
 
     /// Every event so far with its verdict.
     pub fn trail(&self) -> &Trail
         ensures { result.now.history ≡ self.now.history }
     {
-        &self.trail
+        self.state.trail()
     }
 
     /// The trail is legal: at every place the record's rule is the policy's verdict on its event
@@ -81,14 +77,14 @@ impl Core {
     pub fn is_legal(&self)
         ensures { Legal self.now.config self.now.history }
     {
-        let _config = &self.config;
+        self.state.is_legal();
     }
 
     /// The rule of the lowest number that forbids the event, if one does. Takes no memory.
     pub fn decide(&self, event: &Event) -> Option<Rule>
         ensures { result ≡ verdict self.now.config self.now.history event.now }
     {
-        decide(&self.config, &self.trail, &self.tables, event)
+        decide(&self.state, event)
     }
 
     /// The answers that the session has not taken yet, in order; nothing, where there is no such
@@ -120,7 +116,7 @@ impl Core {
     pub fn keeps_the_last(&self)
         ensures { BoxesAgree self.now.config self.now.history self.now.untaken }
     {
-        let _config = &self.config;
+        let _state = &self.state;
     }
 
     /// One event: the verdict on it is recorded with it, and it is answered. What is answered to a
@@ -131,18 +127,53 @@ impl Core {
         ensures ok { OnOk result (self.new ≡ after_step event self.old) }
         ensures err { OnErr result (self.new ≡ self.old) }
     {
-        let rule = self.decide(&event);
-        let told = self.answers_to(alloc, &event, rule)?;
-        let given = told.try_clone(alloc)?.into_vec(alloc)?;
-        let outbox = new_outbox(alloc, &event, rule)?;
-        make_room(&mut self.outboxes, &outbox, &told)?;
-        self.trail.reserve_one()?;
-        if rule.is_none() {
-            accept(alloc, &mut self.tables, &self.config, &self.trail, &event)?;
-        }
-        post(&mut self.outboxes, &self.tables, outbox, told);
-        self.trail.push_reserved(Record { event, rule });
+        let rule = decide(&self.state, &event);
+        let told = answers_to(&self.state, alloc, &event, rule)?;
+        let given = told.copies(alloc)?;
+        self.commit(alloc, event, rule, told)?;
         Ok(given)
+    }
+
+    /// The same, and what is answered to sessions that are live stands in their untaken answers alone:
+    /// the result says who was answered, and whether the event was refused. A refusal of an event that
+    /// no live session made stands nowhere. An `Err` changes nothing, records nothing, and drops the
+    /// event.
+    pub fn post(&mut self, alloc: Global, event: Event) -> Result<Posted, NoMemory>
+        ensures verdict { IfOk result (λ posted. posted.verdict ≡ verdict self.old.config self.old.history event) }
+        ensures sessions { IfOk result (λ posted. listed posted.caller ++ listed posted.other ≡ map (λ p. p.0) (answers self.old.config self.old.history event)) }
+        ensures ok { OnOk result (self.new ≡ after_step event self.old) }
+        ensures err { OnErr result (self.new ≡ self.old) }
+    {
+        let verdict = decide(&self.state, &event);
+        let told = answers_to(&self.state, alloc, &event, verdict)?;
+        let posted = Posted {
+            verdict,
+            caller: session_of(&told.first),
+            other: session_of(&told.second),
+        };
+        self.commit(alloc, event, verdict, told)?;
+        Ok(posted)
+    }
+
+    /// Records the event with its verdict, does what is accepted, and puts what is answered into
+    /// outboxes. An `Err` changes nothing, and drops the event.
+    fn commit(
+        &mut self,
+        alloc: Global,
+        event: Event,
+        rule: Option<Rule>,
+        told: Told,
+    ) -> Result<(), NoMemory>
+        requires verdict { rule ≡ verdict self.old.config self.old.history event }
+        requires answers { told_list told ≡ answers self.old.config self.old.history event }
+        ensures ok { OnOk result (self.new ≡ after_step event self.old) }
+        ensures err { OnErr result (self.new ≡ self.old) }
+    {
+        let is_new = starts(rule, &event);
+        make_room(&mut self.outboxes, &self.state, is_new, &told)?;
+        self.state.add(alloc, event, rule)?;
+        put_all(&mut self.outboxes, &self.state, is_new, told);
+        Ok(())
     }
 
     /// Steps each event in order. Where a growth is refused, the number says how many events stand;
@@ -171,19 +202,5 @@ impl Core {
             }
         }
         Ok(given)
-    }
-
-    /// To whom an event is answered, and what, where this is the verdict on it.
-    fn answers_to(&self, alloc: Global, event: &Event, rule: Option<Rule>) -> Result<Told, NoMemory>
-        requires { rule ≡ verdict self.now.config self.now.history event.now }
-        ensures { IfOk result (λ told. told_list told ≡ answers_at rule self.now.config self.now.history event.now) }
-    {
-        match rule {
-            Some(rule) => Ok(one(caller_of(event), Answer::Refused(rule))),
-            None => {
-                let told = accepted_answers(alloc, &self.tables, &self.config, &self.trail, event)?;
-                Ok(told)
-            }
-        }
     }
 }

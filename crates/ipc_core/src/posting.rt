@@ -1,33 +1,26 @@
 //! What a step answers is put into outboxes.
 
-ghost use Rattle.std.specs.Prelude.{◌≡◌, ℕ, ◌≤◌, ◌++◌, [], Some, None, IfOk, OnOk, if◌then◌else◌};
-ghost use Rattle.std.specs.Option.{option_map};
+ghost use Rattle.std.specs.Prelude.{◌≡◌, ℕ, ◌||◌, true, Some, OnOk};
 ghost use Rattle.ipc_policy.specs.History.{listed};
-ghost use Rattle.ipc_core.specs.Kept.{live_at};
-ghost use Rattle.ipc_core.specs.Outboxes.{HasRoom, HasOwnRoom, HasRooms, told_list, starts, posted};
+ghost use Rattle.ipc_policy.specs.Sessions.{live};
+ghost use Rattle.ipc_outboxes.specs.Boxes.{HasRoom};
+ghost use Rattle.ipc_core.specs.Outboxes.{HasRooms, told_list, starts, with_box, posted};
 
 use crate::answer::Told;
-use crate::conditions::is_live;
-use crate::outboxes::{MOST, Outboxes};
-use crate::tables::Tables;
+use ipc_outboxes::Outboxes;
+use ipc_state::State;
 use ipc_terms::{Answer, Event, NoMemory, Rule, Sid};
-use std::alloc::Global;
 
-/// The outbox of the session that starts, if one does where this is the verdict on the event.
-pub fn new_outbox(
-    alloc: Global,
-    event: &Event,
-    rule: Option<Rule>,
-) -> Result<Option<Vec<Answer>>, NoMemory>
-    ensures empty { IfOk result (λ outbox. option_map (λ v. v.items) outbox ≡ (if starts rule event.now then Some [] else None)) }
-    ensures room { IfOk result (λ outbox. HasOwnRoom outbox) }
+/// How many answers one step gives a session at most.
+const MOST: usize = 2;
+
+/// Whether a session starts where this is the verdict on the event.
+pub fn starts(rule: Option<Rule>, event: &Event) -> bool
+    ensures { result ≡ starts rule event.now }
 {
-    match (rule, event) {
-        (None, Event::Hello { found: _ }) => {
-            let outbox = Vec::with_capacity(alloc, MOST)?;
-            Ok(Some(outbox))
-        }
-        _ => Ok(None),
+    match rule {
+        Some(_) => false,
+        None => matches!(event, Event::Hello { .. }),
     }
 }
 
@@ -35,47 +28,65 @@ pub fn new_outbox(
 /// the answers as they were; the room may differ.
 pub fn make_room(
     outboxes: &mut Outboxes,
-    outbox: &Option<Vec<Answer>>,
+    state: &State,
+    is_new: bool,
     told: &Told,
 ) -> Result<(), NoMemory>
     ensures kept { outboxes.new.untaken ≡ outboxes.old.untaken }
-    ensures room { OnOk result (HasRooms outbox.now told.now outboxes.new) }
+    ensures room { OnOk result (HasRooms (λ s. is_new || live state.now.history s) is_new told.now outboxes.new) }
 {
-    if outbox.is_some() {
-        outboxes.reserve_box()?;
+    if is_new {
+        outboxes.reserve_box(MOST)?;
     }
-    if let Some((sid, _)) = &told.first {
-        outboxes.reserve(*sid)?;
-    }
-    if let Some((sid, _)) = &told.second {
-        outboxes.reserve(*sid)?;
+    reserve(outboxes, state, is_new, &told.first)?;
+    reserve(outboxes, state, is_new, &told.second)?;
+    Ok(())
+}
+
+/// Makes room for the answer, if its session is live or starts. An `Err` leaves the answers as they
+/// were; the room may differ.
+fn reserve(
+    outboxes: &mut Outboxes,
+    state: &State,
+    is_new: bool,
+    told: &Option<(Sid, Answer)>,
+) -> Result<(), NoMemory>
+    ensures kept { outboxes.new.untaken ≡ outboxes.old.untaken }
+    ensures room { OnOk result ((p : Sid × Answer) → told.now ≡ Some p → (is_new || live state.now.history p.0.0) ≡ true → HasRoom 2 outboxes.new.rooms p.0.0) }
+    ensures more { (n s : ℕ) → HasRoom n outboxes.old.rooms s → HasRoom n outboxes.new.rooms s }
+    ensures places { outboxes.new.places ≡ outboxes.old.places }
+    ensures next { outboxes.new.next ≡ outboxes.old.next }
+{
+    if let Some((sid, _)) = told {
+        if is_new || state.is_live(*sid) {
+            outboxes.reserve(*sid, MOST)?;
+        }
     }
     Ok(())
 }
 
 /// Adds the outbox of a session that starts, and puts each answer to a session that is live at the
 /// end of its outbox. Takes no memory.
-pub fn post(outboxes: &mut Outboxes, tables: &Tables, outbox: Option<Vec<Answer>>, told: Told)
-    requires room { HasOwnRoom outbox }
-    requires rooms { HasRooms outbox told outboxes.old }
-    ensures { outboxes.new.untaken ≡ posted (live_at tables.now.sessions) (told_list told) (outboxes.old.untaken ++ listed (option_map (λ v. v.items) outbox)) }
+pub fn put_all(outboxes: &mut Outboxes, state: &State, is_new: bool, told: Told)
+    requires { HasRooms (live state.now.history) is_new told outboxes.old }
+    ensures { outboxes.new.untaken ≡ posted (live state.now.history) (told_list told) (with_box is_new outboxes.old.untaken) }
 {
     let Told { first, second } = told;
-    if let Some(outbox) = outbox {
-        outboxes.open(outbox);
+    if is_new {
+        outboxes.open();
     }
-    put(outboxes, tables, first);
-    put(outboxes, tables, second);
+    put(outboxes, state, first);
+    put(outboxes, state, second);
 }
 
 /// Puts the answer at the end of its session's outbox, if that is live. Takes no memory.
-fn put(outboxes: &mut Outboxes, tables: &Tables, told: Option<(Sid, Answer)>)
-    requires { (p : Sid × Answer) → told ≡ Some p → HasRoom 1 outboxes.old.rooms p.0.0 }
-    ensures boxes { outboxes.new.untaken ≡ posted (live_at tables.now.sessions) (listed told) outboxes.old.untaken }
-    ensures room { (s : ℕ) → HasRoom 2 outboxes.old.rooms s → HasRoom 1 outboxes.new.rooms s }
+fn put(outboxes: &mut Outboxes, state: &State, told: Option<(Sid, Answer)>)
+    requires { (p : Sid × Answer) → told ≡ Some p → live state.now.history p.0.0 ≡ true → HasRoom 1 outboxes.old.rooms p.0.0 }
+    ensures boxes { outboxes.new.untaken ≡ posted (live state.now.history) (listed told) outboxes.old.untaken }
+    ensures rooms { (s : ℕ) → HasRoom 2 outboxes.old.rooms s → HasRoom 1 outboxes.new.rooms s }
 {
     if let Some((sid, answer)) = told {
-        if is_live(tables, sid) {
+        if state.is_live(sid) {
             outboxes.put(sid, answer);
         }
     }

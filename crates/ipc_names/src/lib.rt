@@ -4,8 +4,6 @@
 mod directory;
 mod form;
 mod listing;
-#[cfg(test)]
-mod tests;
 
 pub use directory::NameDir;
 pub use form::{check, has_form, is_long};

@@ -1,9 +1,8 @@
 -- What a legal history rules out, and which events send to an object and receive from it.
 use Rattle.std.proofs.Common.{◌≡◌, ℕ, Bool, true, false, not, eqb, length, cond, Option, Some, None, is_some, refl, sym, ap}
 use Rattle.std.proofs.lemmas.Bool.{eqb-true}
-use Rattle.std.proofs.lemmas.Option.{MatchOption-at_none}
-use Rattle.ipc_terms.specs.Rules.{every_rule}
-use Rattle.ipc_terms.specs.declared.rule.Rule.{Rule}
+use Rattle.ipc_terms.specs.Objects.{of_queue, as_queue, family_of}
+use Rattle.ipc_terms.specs.Names.{same_family}
 use Rattle.ipc_terms.specs.declared.rule.Rule.TheVariants.{BadDescr}
 use Rattle.ipc_terms.specs.declared.ids.Sid.{Sid}
 use Rattle.ipc_terms.specs.declared.ids.Desc.{Desc}
@@ -14,21 +13,18 @@ use Rattle.ipc_terms.specs.declared.record.Event.{Event}
 use Rattle.ipc_terms.specs.declared.record.Event.TheVariants.{Hello, Do, Hangup}
 use Rattle.ipc_policy.specs.declared.config.Config.{Config}
 use Rattle.ipc_policy.specs.declared.config.Held.{Held}
-use Rattle.ipc_policy.specs.declared.config.Object.{Object}
+use Rattle.ipc_terms.specs.declared.object.Object.{Object}
+use Rattle.ipc_terms.specs.declared.object.Kind.{Kind}
+use Rattle.ipc_terms.specs.declared.object.Kind.TheVariants.{Queue}
 use Rattle.ipc_policy.specs.History.{History, there_is}
 use Rattle.ipc_policy.specs.Objects.{object}
 use Rattle.ipc_policy.specs.Descriptions.{holds}
 use Rattle.ipc_policy.specs.Life.{gives_object}
-use Rattle.ipc_policy.specs.Queues.{Send, Wait, Act, Sends, Receives, Rests, act}
+use Rattle.ipc_policy.specs.Queues.{Send, Wait, Act, Sends, Receives, Rests, act, attributes}
 use Rattle.ipc_policy.specs.Rules.{forbids, bad_descr, not_held, is_of_family, queue_named}
 use Rattle.ipc_policy.specs.Verdict.{verdict}
-use Rattle.ipc_policy.proofs.FirstPassing.{first_is_least, numbered, has_place, place_of, NonePass, IsLeastPassing}
+use Rattle.ipc_policy.proofs.Unforbidden.{unforbidden}
 use Rattle.ipc_policy.proofs.Sent.{not_sends}
-
--- no rule forbids what is accepted
-pub accepted_passes : (c : Config) (h : History) (e : Event) → None ≡ verdict c h e → (rule : Rule) → forbids rule c h e ≡ false
-unfolding verdict
-accepted_passes c h e legal rule = MatchOption-at_none (NonePass (λ x. forbids x c h e) every_rule) (IsLeastPassing (λ x. forbids x c h e) every_rule) (sym legal) (first_is_least (λ x. forbids x c h e) 1 every_rule numbered) (place_of rule) rule (has_place rule)
 
 -- an event that receives from object o
 pub record ReceiveOf (o : ℕ) (e : Event) (h : History) (w : Wait) : Type 0 where
@@ -85,14 +81,23 @@ act_sends o (Do sid call) h m k = absurd cc
 act_sends o (Hello found) h m k = absurd cc
 act_sends o (Hangup sid) h m k = absurd cc
 
--- what an accepted call's description gives is an object
-given_object : (x : Option Object) → not (is_of_family Mq x) ≡ false → is_some x ≡ true
-given_object None e = absurd cc
-given_object (Some x) e = refl
+-- what the description of an accepted call on a queue gives is a queue
+pub queue_given : (x : Option Object) → not (is_of_family Mq x) ≡ false → is_some (as_queue x) ≡ true
+queue_given None e = absurd cc
+queue_given (Some x) e = at x.kind e where
+  at : (k : Kind) → not (same_family (family_of k) Mq) ≡ false → is_some (of_queue k) ≡ true
+  at (Queue given) e = refl
 
-pub held_object : (c : Config) (h : History) (sid : Sid) (call : Call) (desc : Desc) (x : Held) → None ≡ verdict c h (Do sid call) → queue_named call ≡ Some desc → holds h sid.0 desc.0 ≡ Some x → is_some (object c h x.object) ≡ true
+pub held_queue : (c : Config) (h : History) (sid : Sid) (call : Call) (desc : Desc) (x : Held) → None ≡ verdict c h (Do sid call) → queue_named call ≡ Some desc → holds h sid.0 desc.0 ≡ Some x → is_some (attributes c h x.object) ≡ true
 unfolding forbids bad_descr
-held_object c h sid call desc x legal named held =
-    let passes : there_is (λ d. not_held c h sid.0 Mq d.0) (queue_named call) ≡ false = accepted_passes c h (Do sid call) legal BadDescr in
+held_queue c h sid call desc x legal named held =
+    let passes : there_is (λ d. not_held c h sid.0 Mq d.0) (queue_named call) ≡ false = unforbidden c h (Do sid call) (sym legal) BadDescr in
     let passes' : not_held c h sid.0 Mq desc.0 ≡ false = rw named at passes in
-    given_object (object c h x.object) (rw held at passes')
+    queue_given (object c h x.object) (rw held at passes')
+
+-- and so an object
+pub queue_is_object : (c : Config) (h : History) (o : ℕ) → is_some (attributes c h o) ≡ true → is_some (object c h o) ≡ true
+queue_is_object c h o e = at (object c h o) e where
+  at : (x : Option Object) → is_some (as_queue x) ≡ true → is_some x ≡ true
+  at None e = e
+  at (Some x) e = refl

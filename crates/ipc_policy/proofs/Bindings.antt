@@ -1,13 +1,11 @@
 -- What a name is bound to in a legal history.
-use Rattle.std.proofs.Common.{◌≡◌, ℕ, ◌+◌, ◌<◌, Bool, true, false, ◌&&◌, eqb, cond, List, [], ◌∷◌, Option, Some, None, is_some, refl, ◌∙◌, arith}
+use Rattle.std.proofs.Common.{◌≡◌, ℕ, ◌+◌, ◌<◌, Bool, true, false, ◌&&◌, eqb, cond, List, [], ◌∷◌, Option, Some, None, is_some, refl, sym, ◌∙◌, arith}
 use Rattle.std.specs.Prelude.{IsTrue, option_and_then}
 use Rattle.std.specs.Option.{option_or, option_map}
 use Rattle.std.proofs.lemmas.Bool.{eqb-false}
 use Rattle.ipc_terms.specs.declared.rule.Rule.{Rule}
 use Rattle.ipc_terms.specs.declared.ids.Uid.{Uid}
-use Rattle.ipc_terms.specs.declared.ids.Sid.{Sid}
 use Rattle.ipc_terms.specs.declared.ids.Family.{Family}
-use Rattle.ipc_terms.specs.declared.call.QueueOpen.{QueueOpen}
 use Rattle.ipc_terms.specs.declared.call.Call.TheVariants.{MqOpen}
 use Rattle.ipc_terms.specs.declared.record.Event.{Event}
 use Rattle.ipc_terms.specs.declared.record.Event.TheVariants.{Hello, Do, Hangup}
@@ -16,15 +14,15 @@ use Rattle.ipc_policy.specs.declared.config.Config.{Config}
 use Rattle.ipc_terms.specs.declared.facts.Facts.{Facts}
 use Rattle.ipc_policy.specs.History.{History}
 use Rattle.ipc_policy.specs.Sessions.{user, live, cred, mask}
-use Rattle.ipc_policy.specs.Names.{is_bound, creations, bound}
+use Rattle.ipc_policy.specs.Names.{queue_opening, is_bound, creations, bound}
 use Rattle.ipc_policy.specs.Objects.{object, facts, first_facts}
 use Rattle.ipc_policy.specs.Grow.{is_new, creations_after, made_after}
 use Rattle.ipc_policy.specs.Verdict.{verdict, Legal}
-use Rattle.ipc_policy.proofs.Verdicts.{queue_opening, verdict_open}
 use Rattle.ipc_policy.proofs.Grown.{grows}
 use Rattle.ipc_policy.proofs.Refused.{same_values}
 use Rattle.ipc_policy.proofs.Creating.{bound_below}
-use Rattle.ipc_policy.proofs.Known.{known_user, live_user, object_with_facts, live_of_none}
+use Rattle.ipc_policy.proofs.Known.{known_user, live_user, object_with_facts}
+use Rattle.ipc_policy.proofs.Unforbidden.{caller_live}
 
 -- a live session of a legal history has credentials
 cred_at : (c : Config) (h : History) (s : ℕ) (w : Option Uid) → user h s ≡ w → is_some w ≡ true → ((uid : Uid) → user h s ≡ Some uid → is_some (cred_of c.users uid) ≡ true) → is_some (option_and_then (cred_of c.users) w) ≡ true
@@ -33,11 +31,7 @@ cred_at c h s (Some uid) e k known = known uid e
 
 cred_known : (c : Config) (h : History) → Legal c h → (s : ℕ) → live h s ≡ true → is_some (cred c h s) ≡ true
 unfolding cred
-cred_known c h legal s k = cred_at c h s (user h s) refl (live_user h s k) (known_user c h legal s)
-
--- an open that is accepted comes from a live session
-open_live : (c : Config) (h : History) (sid : Sid) (asked : QueueOpen) → None ≡ verdict c h (Do sid (MqOpen asked)) → live h sid.0 ≡ true
-open_live c h sid asked e = live_of_none (live h sid.0) _ (e ∙ verdict_open c h sid asked)
+cred_known c h legal s k = cred_at c h s (user h s) refl (live_user c h legal s k) (known_user c h legal s)
 
 -- every object of a legal history has an owner, a group and a mode
 facts_opened : (n o : ℕ) (b d : Bool) → eqb n o ≡ d → (w v : Option Facts) → (b ≡ true → is_some w ≡ true) → (o < n → is_some v ≡ true) → o < cond b (n + 1) n → is_some (cond (b && d) (option_or w v) v) ≡ true
@@ -52,7 +46,7 @@ mapped_some f (Some x) e = refl
 
 facts_more : (c : Config) (h : History) (o : ℕ) (e : Event) → Legal c h → (o < creations h → is_some (facts c h o) ≡ true) → None ≡ verdict c h e → o < creations_after e (is_bound h) (creations h) → is_some (made_after o e (is_bound h) (creations h) (λ asked. option_map (first_facts asked (mask h asked.session.0)) (cred c h asked.session.0)) (facts c h o)) ≡ true
 facts_more c h o (Hello found) legal known e lt = known lt
-facts_more c h o (Do sid (MqOpen asked)) legal known e lt = facts_opened (creations h) o (is_new (queue_opening sid asked) (is_bound h)) (eqb (creations h) o) refl _ (facts c h o) (λ new. mapped_some (first_facts (queue_opening sid asked) (mask h sid.0)) (cred c h sid.0) (cred_known c h legal sid.0 (open_live c h sid asked e))) known lt
+facts_more c h o (Do sid (MqOpen asked)) legal known e lt = facts_opened (creations h) o (is_new (queue_opening sid asked) (is_bound h)) (eqb (creations h) o) refl _ (facts c h o) (λ new. mapped_some (first_facts (queue_opening sid asked) (mask h sid.0)) (cred c h sid.0) (cred_known c h legal sid.0 (caller_live c h sid (MqOpen asked) (sym e)))) known lt
 facts_more c h o (Do sid call) legal known e lt = known lt
 facts_more c h o (Hangup sid) legal known e lt = known lt
 

@@ -14,12 +14,11 @@ use Rattle.ipc_terms.specs.declared.record.Event.{Event}
 use Rattle.ipc_terms.specs.declared.record.Event.TheVariants.{Hello, Do, Hangup}
 use Rattle.ipc_policy.specs.declared.config.Config.{Config}
 use Rattle.ipc_policy.specs.declared.config.Held.{Held}
-use Rattle.ipc_policy.specs.declared.config.Object.{Object}
+use Rattle.ipc_terms.specs.declared.call.Attributes.{Attributes}
 use Rattle.ipc_policy.specs.History.{History, kept, there_is}
-use Rattle.ipc_policy.specs.Objects.{object}
 use Rattle.ipc_policy.specs.Descriptions.{holds}
-use Rattle.ipc_policy.specs.Queues.{Send, Wait, Act, Sends, Receives, Withdraws, Rests, Queue, has_all, has_none, behind, queue_after, act, queue, maxmsg, room, contents, senders, receivers, is_full, is_empty}
-use Rattle.ipc_policy.specs.Parking.{Kind, Sending, Receiving, Parked, parks, parked_on, ends_call, ends_parked, parked, stands_at}
+use Rattle.ipc_policy.specs.Queues.{Send, Wait, Act, Sends, Receives, Withdraws, Rests, Queue, has_all, has_none, behind, queue_after, act, queue, maxmsg, room, attributes, contents, senders, receivers, is_full, is_empty}
+use Rattle.ipc_policy.specs.Parking.{ParkedKind, Sending, Receiving, Parked, parks, parked_on, ends_call, ends_parked, parked, stands_at}
 use Rattle.ipc_policy.specs.Readings.{Each, ends_send, ends_receive}
 use Rattle.ipc_policy.specs.Rules.{forbids, in_call, is_interrupt}
 use Rattle.ipc_policy.specs.Verdict.{verdict}
@@ -27,14 +26,15 @@ use Rattle.ipc_policy.specs.Laws.{IsListed, ParkedIsListed, place_listed}
 use Rattle.ipc_policy.proofs.EachItem.{each_map, each_parked_sender, each_parked_receiver}
 use Rattle.ipc_policy.proofs.Gathering.{find_kept}
 use Rattle.ipc_policy.proofs.Queueing.{refused_parked}
-use Rattle.ipc_policy.proofs.ActsOf.{accepted_passes, act_sends, act_receives, held_object}
+use Rattle.ipc_policy.proofs.Unforbidden.{unforbidden}
+use Rattle.ipc_policy.proofs.ActsOf.{act_sends, act_receives, held_queue}
 use Rattle.ipc_policy.proofs.ParkedPlaces.{parked_by_place}
 
 -- a call that a parked session makes is not accepted, but for an interrupt
 pub another_call : (c : Config) (h : History) (sid : Sid) (call : Call) (s : ℕ) → None ≡ verdict c h (Do sid call) → is_interrupt call ≡ false → is_some (parked c h s) ≡ true → eqb sid.0 s ≡ false
 unfolding forbids in_call
 another_call c h sid call s legal other k = ne_eqb _ _ (λ (e : sid.0 ≡ s).
-    let passes : (not (is_interrupt call) && is_some (parked c h sid.0)) ≡ false = accepted_passes c h (Do sid call) legal InCall in
+    let passes : (not (is_interrupt call) && is_some (parked c h sid.0)) ≡ false = unforbidden c h (Do sid call) (sym legal) InCall in
     let here : is_some (parked c h sid.0) ≡ true = rw e k in
     absurd (let wrong : true ≡ false = rw (here, other) at passes in cc))
 
@@ -61,20 +61,20 @@ pub gets_parked : (c : Config) (h : History) (e : Event) (s : ℕ) (p : Parked) 
 unfolding parked
 gets_parked c h e s p k = rw k refl
 
--- where there is an object, a full queue has all that it may, and an empty one has none
-full_is : (x : Option Object) (xs : List Send) → is_some x ≡ true → there_is (λ y. has_all y.attributes.maxmsg xs) x ≡ has_all (room x) xs
+-- where there is a queue, a full one has all that it may, and an empty one has none
+full_is : (x : Option Attributes) (xs : List Send) → is_some x ≡ true → there_is (λ y. has_all y.maxmsg xs) x ≡ has_all (room x) xs
 full_is None xs e = absurd cc
 full_is (Some x) xs e = refl
 
-empty_is : (x : Option Object) (xs : List Send) → is_some x ≡ true → there_is (λ y. has_none xs) x ≡ has_none xs
+empty_is : (x : Option Attributes) (xs : List Send) → is_some x ≡ true → there_is (λ y. has_none xs) x ≡ has_none xs
 empty_is None xs e = absurd cc
 empty_is (Some x) xs e = refl
 
-pub is_full-at : (c : Config) (h : History) (o : ℕ) → is_some (object c h o) ≡ true → is_full c h o ≡ has_all (maxmsg c h o) (contents c h o)
-is_full-at c h o e = full_is (object c h o) (contents c h o) e
+pub is_full-at : (c : Config) (h : History) (o : ℕ) → is_some (attributes c h o) ≡ true → is_full c h o ≡ has_all (maxmsg c h o) (contents c h o)
+is_full-at c h o e = full_is (attributes c h o) (contents c h o) e
 
-pub is_empty-at : (c : Config) (h : History) (o : ℕ) → is_some (object c h o) ≡ true → is_empty c h o ≡ has_none (contents c h o)
-is_empty-at c h o e = empty_is (object c h o) (contents c h o) e
+pub is_empty-at : (c : Config) (h : History) (o : ℕ) → is_some (attributes c h o) ≡ true → is_empty c h o ≡ has_none (contents c h o)
+is_empty-at c h o e = empty_is (attributes c h o) (contents c h o) e
 
 -- a send to a full queue parks its session, and a receive from an empty one
 parks_send_of : (c : Config) (h : History) (sid : Sid) (desc : Desc) (priority : ℕ) (bytes : List ℕ) (x : Held) → holds h sid.0 desc.0 ≡ Some x → is_full c h x.object ≡ true → parks c sid.0 (Do sid (MqSend desc priority bytes)) h ≡ Some (record { object = x.object; place = length h; kind = Sending })
@@ -87,7 +87,7 @@ send_parks : (c : Config) (h : History) (o : ℕ) (e : Event) → None ≡ verdi
 send_parks c h o e legal m k f =
     let a = act_sends o e h m k in
     let legal' : None ≡ verdict c h (Do a.sid (MqSend a.desc m.priority m.bytes)) = rw a.event at legal in
-    let there = held_object c h a.sid (MqSend a.desc m.priority m.bytes) a.desc a.x legal' refl a.held in
+    let there = held_queue c h a.sid (MqSend a.desc m.priority m.bytes) a.desc a.x legal' refl a.held in
     let full : is_full c h a.x.object ≡ true = is_full-at c h a.x.object there ∙ subst (λ (n : ℕ). has_all (maxmsg c h n) (contents c h n) ≡ true) (sym a.object) f in
     let parks_now : parks c a.sid.0 e h ≡ Some (record { object = o; place = length h; kind = Sending }) =
     ap (λ (d : Event). parks c a.sid.0 d h) a.event
@@ -100,7 +100,7 @@ receive_parks : (c : Config) (h : History) (o : ℕ) (e : Event) → None ≡ ve
 receive_parks c h o e legal w k f =
     let a = act_receives o e h w k in
     let legal' : None ≡ verdict c h (Do a.sid (MqReceive a.desc a.length')) = rw a.event at legal in
-    let there = held_object c h a.sid (MqReceive a.desc a.length') a.desc a.x legal' refl a.held in
+    let there = held_queue c h a.sid (MqReceive a.desc a.length') a.desc a.x legal' refl a.held in
     let empty : is_empty c h a.x.object ≡ true = is_empty-at c h a.x.object there ∙ subst (λ (n : ℕ). has_none (contents c h n) ≡ true) (sym a.object) f in
     let parks_now : parks c a.sid.0 e h ≡ Some (record { object = o; place = length h; kind = Receiving }) =
     ap (λ (d : Event). parks c a.sid.0 d h) a.event
@@ -148,7 +148,7 @@ place_filtered : {A : Type 0} (place session : A → ℕ) (s t i : ℕ) (xs : Li
 place_filtered place session s t i xs other e = ap (option_map place) (find_kept (λ x. eqb (session x) s) (λ x. not (eqb (session x) t)) xs (λ x here. let same : session x ≡ s = eqb-true _ _ here in rw (same, other) refl)) ∙ e
 
 -- what lists the call of a parked session lists it until it ends
-listed_stays : (n : ℕ) (a : Act) (q : Queue) (s : ℕ) (o i : ℕ) (kind : Kind) → place_listed kind s q ≡ Some i → ends_call s (record { object = o; place = i; kind = kind }) a q ≡ false → place_listed kind s (queue_after n a q) ≡ Some i
+listed_stays : (n : ℕ) (a : Act) (q : Queue) (s : ℕ) (o i : ℕ) (kind : ParkedKind) → place_listed kind s q ≡ Some i → ends_call s (record { object = o; place = i; kind = kind }) a q ≡ false → place_listed kind s (queue_after n a q) ≡ Some i
 listed_stays n (Sends m) q s o i Sending e k = place_added (λ (x : Send). x.place) (λ x. x.session) s i q.senders m (has_all n q.contents) e
 listed_stays n (Receives w) q s o i Sending e k = place_behind (λ (x : Send). x.place) (λ x. x.session) s i q.senders e k
 listed_stays n (Withdraws t) q s o i Sending e k = place_filtered (λ (x : Send). x.place) (λ x. x.session) s t i q.senders (left (eqb s t) k) e where
@@ -177,7 +177,7 @@ new_send c h sid desc priority bytes s x known legal none same held full =
     let m : Send = record { place = length h; session = sid.0; desc = desc.0; priority = priority; bytes = bytes } in
     let q : Queue = queue c h x.object in
     let acts : act x.object (Do sid (MqSend desc priority bytes)) h ≡ Sends (record { place = length h; session = sid.0; desc = desc.0; priority = priority; bytes = bytes }) = (let self : eqb x.object x.object ≡ true = eq-eqb _ _ refl in rw (held, self) refl) in
-    let there = held_object c h sid (MqSend desc priority bytes) desc x legal refl held in
+    let there = held_queue c h sid (MqSend desc priority bytes) desc x legal refl held in
     let all : has_all (maxmsg c h x.object) (contents c h x.object) ≡ true = sym (is_full-at c h x.object there) ∙ full in
     ap (λ a. place_listed Sending s (queue_after (maxmsg c h x.object) a q)) acts
     ∙ ap (λ b. place_of_session (λ (y : Send). y.place) (λ y. y.session) s (cond b (q.senders ++ m ∷ []) q.senders)) all
@@ -189,7 +189,7 @@ new_receive c h sid desc length' s x known legal none same held empty =
     let w : Wait = record { place = length h; session = sid.0; desc = desc.0 } in
     let q : Queue = queue c h x.object in
     let acts : act x.object (Do sid (MqReceive desc length')) h ≡ Receives (record { place = length h; session = sid.0; desc = desc.0 }) = (let self : eqb x.object x.object ≡ true = eq-eqb _ _ refl in rw (held, self) refl) in
-    let there = held_object c h sid (MqReceive desc length') desc x legal refl held in
+    let there = held_queue c h sid (MqReceive desc length') desc x legal refl held in
     let nothing : has_none (contents c h x.object) ≡ true = sym (is_empty-at c h x.object there) ∙ empty in
     ap (λ a. place_listed Receiving s (queue_after (maxmsg c h x.object) a q)) acts
     ∙ ap (λ b. place_of_session (λ (y : Wait). y.place) (λ y. y.session) s (cond b (q.receivers ++ w ∷ []) q.receivers)) nothing

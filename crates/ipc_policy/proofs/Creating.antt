@@ -1,28 +1,23 @@
--- In a legal history only objects that were created are bound or held, or have messages or parked calls.
-use Rattle.std.proofs.Common.{◌≡◌, ℕ, ◌+◌, ◌<◌, ◌≤◌, Bool, true, false, not, ◌&&◌, eqb, cond, List, [], ◌∷◌, length, Option, Some, None, is_some, unwrap_or, refl, sym, ap, ◌∙◌, arith}
+-- Only objects that were created are bound or held, or have messages or parked calls.
+use Rattle.std.proofs.Common.{◌≡◌, ℕ, ◌+◌, ◌<◌, ◌≤◌, Bool, true, false, not, ◌&&◌, eqb, cond, List, [], ◌∷◌, length, Option, Some, None, is_some, refl, sym, ap, subst, ◌∙◌, arith}
 use Rattle.std.specs.Prelude.{option_and_then}
+use Rattle.std.specs.Option.{option_or, option_map}
 use Rattle.std.proofs.lemmas.Bool.{ne_eqb}
 use Rattle.ipc_terms.specs.Flags.{has_create}
 use Rattle.ipc_terms.specs.declared.rule.Rule.{Rule}
-use Rattle.ipc_terms.specs.declared.rule.Rule.TheVariants.{NoSession, InCall, NameForm, NameLong, DirSearch, Absent}
-use Rattle.ipc_terms.specs.declared.ids.Sid.{Sid}
 use Rattle.ipc_terms.specs.declared.ids.Family.{Family}
 use Rattle.ipc_terms.specs.declared.ids.Family.TheVariants.{Mq}
-use Rattle.ipc_terms.specs.declared.call.QueueOpen.{QueueOpen}
 use Rattle.ipc_terms.specs.declared.call.Call.TheVariants.{MqOpen, MqSend, MqReceive, MqUnlink}
 use Rattle.ipc_terms.specs.declared.record.Event.{Event}
 use Rattle.ipc_terms.specs.declared.record.Event.TheVariants.{Hello, Do, Hangup}
 use Rattle.ipc_policy.specs.declared.config.Config.{Config}
 use Rattle.ipc_policy.specs.declared.config.Held.{Held}
 use Rattle.ipc_policy.specs.History.{History, kept}
-use Rattle.ipc_policy.specs.Names.{unlinks, asks_name, is_bound, creations, bound}
-use Rattle.ipc_policy.specs.Descriptions.{opens, if_of, held, holds, ends_held}
+use Rattle.ipc_policy.specs.Names.{Opening, queue_opening, unlinks, asks_name, is_bound, creations, bound}
+use Rattle.ipc_policy.specs.Descriptions.{opened, held_as, opens, if_of, held, holds, ends_held}
 use Rattle.ipc_policy.specs.Life.{gives_object}
-use Rattle.ipc_policy.specs.Objects.{object}
-use Rattle.ipc_policy.specs.Queues.{act_by, queue, empty_queue, queue_after, room}
+use Rattle.ipc_policy.specs.Queues.{act_by, queue, empty_queue, queue_after, maxmsg}
 use Rattle.ipc_policy.specs.Grow.{is_new, creations_after, bound_after, held_after}
-use Rattle.ipc_policy.specs.Verdict.{verdict, Legal}
-use Rattle.ipc_policy.proofs.Verdicts.{queue_opening, verdict_open}
 use Rattle.ipc_policy.proofs.Holding.{held_grows}
 use Rattle.ipc_policy.proofs.Growing.{creations_grow, bound_grows}
 use Rattle.ipc_policy.proofs.Queueing.{queue_grows, refused_queue}
@@ -78,32 +73,19 @@ unfolding bound
 bound_below [] f name o e = absurd cc
 bound_below (r ∷ h) f name o e = bound_more h f name o (bound_below h f name o) r.event r.rule e
 
--- what is held was created: an open that is accepted finds its name bound, or creates
-passed : {X : Type 0} (b : Bool) (x : X) (o : Option X) → None ≡ cond b (Some x) o → (b ≡ false) × (None ≡ o)
-passed true x o e = absurd cc
-passed false x o e = (refl, e)
+-- what is held was created: an open that gives something finds it, or creates it
+opened_below : (n o : ℕ) (create there : Bool) (w : Option ℕ) → there ≡ is_some w → ((i : ℕ) → w ≡ Some i → i < n) → option_or w (cond create (Some n) None) ≡ Some o → o < cond (create && not there) (n + 1) n
+opened_below n o true true None t known e = absurd cc
+opened_below n o true false None t known e = let same : n ≡ o = cc in omega arith
+opened_below n o false there None t known e = absurd cc
+opened_below n o true true (Some i) t known e = known o e
+opened_below n o true false (Some i) t known e = absurd cc
+opened_below n o false there (Some i) t known e = known o e
 
-open_there : (c : Config) (h : History) (sid : Sid) (asked : QueueOpen) → None ≡ verdict c h (Do sid (MqOpen asked)) → (not (has_create asked.flags) && not (is_bound h Mq asked.name)) ≡ false
-open_there c h sid asked e =
-    let past1 = passed _ NoSession _ (e ∙ verdict_open c h sid asked) in
-    let past' = passed _ InCall _ past1.1 in
-    let past2 = passed _ NameForm _ past'.1 in
-    let past3 = passed _ NameLong _ past2.1 in
-    let past4 = passed _ DirSearch _ past3.1 in
-    (passed _ Absent _ past4.1).0
-
-opened_below : (n o : ℕ) (create there : Bool) (w : Option ℕ) → there ≡ is_some w → (not create && not there) ≡ false → ((i : ℕ) → w ≡ Some i → i < n) → unwrap_or w n ≡ o → o < cond (create && not there) (n + 1) n
-opened_below n o true true None t k known e = absurd cc
-opened_below n o true false None t k known e = omega arith
-opened_below n o false true None t k known e = absurd cc
-opened_below n o false false None t k known e = absurd cc
-opened_below n o true true (Some i) t k known e = let lt = known i refl in let same : i ≡ o = e in omega arith
-opened_below n o true false (Some i) t k known e = absurd cc
-opened_below n o false there (Some i) t k known e = let lt = known i refl in let same : i ≡ o = e in omega arith
-
-held_open : (n m : ℕ) (b : Bool) (w : Option Held) (x y : Held) → ((z : Held) → w ≡ Some z → z.object < n) → n ≤ m → y.object < m → cond b (Some y) w ≡ Some x → x.object < m
-held_open n m true w x y known le lt e = let same : y ≡ x = cc in rw (← same) lt
-held_open n m false w x y known le lt e = let less = known x e in omega arith
+held_open : (n m : ℕ) (b : Bool) (o : Option ℕ) (w : Option Held) (asked : Opening) (x : Held) → ((z : Held) → w ≡ Some z → z.object < n) → n ≤ m → ((i : ℕ) → o ≡ Some i → i < m) → option_or (cond b (option_map (held_as asked) o) None) w ≡ Some x → x.object < m
+held_open n m true None w asked x known le lt e = let less = known x e in omega arith
+held_open n m true (Some i) w asked x known le lt e = let same : held_as asked i ≡ x = cc in subst (λ (y : Held). y.object < m) same (lt i refl)
+held_open n m false o w asked x known le lt e = let less = known x e in omega arith
 
 kept_is : (p : Held → Bool) (w : Option Held) (x : Held) → kept p w ≡ Some x → w ≡ Some x
 kept_is p None x e = absurd cc
@@ -116,31 +98,30 @@ count_le : (n : ℕ) (b : Bool) → n ≤ cond b (n + 1) n
 count_le n true = omega arith
 count_le n false = omega arith
 
-held_at : (c : Config) (h : History) (d : ℕ) (x : Held) → ((y : Held) → held h d ≡ Some y → y.object < creations h) → (e : Event) → None ≡ verdict c h e → held_after d e (opens h) (bound h) (creations h) (held h d) ≡ Some x → x.object < creations_after e (is_bound h) (creations h)
-held_at c h d x known (Hello found) legal e = known x (kept_is (λ y. ends_held d y (Hello found)) (held h d) x e)
-held_at c h d x known (Do sid (MqOpen asked)) legal e =
+held_at : (h : History) (d : ℕ) (x : Held) → ((y : Held) → held h d ≡ Some y → y.object < creations h) → (e : Event) → held_after d e (opens h) (bound h) (creations h) (held h d) ≡ Some x → x.object < creations_after e (is_bound h) (creations h)
+held_at h d x known (Hello found) e = known x (kept_is (λ y. ends_held d y (Hello found)) (held h d) x e)
+held_at h d x known (Do sid (MqOpen asked)) e =
     let new = is_new (queue_opening sid asked) (is_bound h) in
-    let y : Held = record { session = sid; object = unwrap_or (bound h Mq asked.name) (creations h); access = asked.access } in
-    held_open (creations h) (cond new (creations h + 1) (creations h)) (eqb (opens h) d) (held h d) x y known (count_le (creations h) new)
-    (opened_below (creations h) (unwrap_or (bound h Mq asked.name) (creations h)) (has_create asked.flags) (is_bound h Mq asked.name) (bound h Mq asked.name) (bound_iff h Mq asked.name) (open_there c h sid asked legal) (λ i is. bound_below h Mq asked.name i is) refl)
+    held_open (creations h) (cond new (creations h + 1) (creations h)) (eqb (opens h) d) (opened h (queue_opening sid asked)) (held h d) (queue_opening sid asked) x known (count_le (creations h) new)
+    (λ i is. opened_below (creations h) i (has_create asked.flags) (is_bound h Mq asked.name) (bound h Mq asked.name) (bound_iff h Mq asked.name) (λ k at. bound_below h Mq asked.name k at) is)
     e
-held_at c h d x known (Do sid call) legal e = known x (kept_is (λ y. ends_held d y (Do sid call)) (held h d) x e)
-held_at c h d x known (Hangup sid) legal e = known x (kept_is (λ y. ends_held d y (Hangup sid)) (held h d) x e)
+held_at h d x known (Do sid call) e = known x (kept_is (λ y. ends_held d y (Do sid call)) (held h d) x e)
+held_at h d x known (Hangup sid) e = known x (kept_is (λ y. ends_held d y (Hangup sid)) (held h d) x e)
 
-held_more : (c : Config) (h : History) (d : ℕ) (x : Held) → ((y : Held) → held h d ≡ Some y → y.object < creations h) → (e : Event) (r : Option Rule) → r ≡ verdict c h e → held (record { event = e; rule = r } ∷ h) d ≡ Some x → x.object < creations (record { event = e; rule = r } ∷ h)
+held_more : (h : History) (d : ℕ) (x : Held) → ((y : Held) → held h d ≡ Some y → y.object < creations h) → (e : Event) (r : Option Rule) → held (record { event = e; rule = r } ∷ h) d ≡ Some x → x.object < creations (record { event = e; rule = r } ∷ h)
 unfolding held creations
-held_more c h d x known e (Some rule) legal k = known x k
-held_more c h d x known e None legal k = rw count (held_at c h d x known e legal (sym now ∙ k)) where
+held_more h d x known e (Some rule) k = known x k
+held_more h d x known e None k = rw count (held_at h d x known e (sym now ∙ k)) where
   count : creations (record { event = e; rule = None } ∷ h) ≡ creations_after e (is_bound h) (creations h)
   count = creations_grow h e
 
   now : held (record { event = e; rule = None } ∷ h) d ≡ held_after d e (opens h) (bound h) (creations h) (held h d)
   now = held_grows h e d
 
-pub held_created : (c : Config) (h : History) → Legal c h → (d : ℕ) (x : Held) → held h d ≡ Some x → x.object < creations h
+pub held_created : (h : History) (d : ℕ) (x : Held) → held h d ≡ Some x → x.object < creations h
 unfolding held
-held_created c [] legal d x e = absurd cc
-held_created c (r ∷ h) legal d x e = held_more c h d x (held_created c h legal.1 d) r.event r.rule legal.0 e
+held_created [] d x e = absurd cc
+held_created (r ∷ h) d x e = held_more h d x (held_created h d) r.event r.rule e
 
 -- nothing stands in an object that was not created
 mine_is : (s : ℕ) (w : Option Held) (x : Held) → option_and_then (if_of s) w ≡ Some x → w ≡ Some x
@@ -158,24 +139,24 @@ given_at : (o n : ℕ) (w : Option Held) → n ≤ o → ((x : Held) → w ≡ S
 given_at o n None le known = refl
 given_at o n (Some x) le known = ne_eqb x.object o (λ (q : x.object ≡ o). absurd (let lt = known x refl in omega arith))
 
-not_given : (c : Config) (h : History) (s d o : ℕ) → Legal c h → creations h ≤ o → gives_object o (holds h s d) ≡ false
-not_given c h s d o legal le = given_at o (creations h) (holds h s d) le (λ x e. held_created c h legal d x (holds_is_held h s d x e))
+not_given : (h : History) (s d o : ℕ) → creations h ≤ o → gives_object o (holds h s d) ≡ false
+not_given h s d o le = given_at o (creations h) (holds h s d) le (λ x e. held_created h d x (holds_is_held h s d x e))
 
-pub empty_after : (c : Config) (h : History) (o n : ℕ) (e : Event) → Legal c h → creations h ≤ o → queue_after n (act_by (length h) (holds h) o e) empty_queue ≡ empty_queue
-empty_after c h o n (Hello found) legal le = refl
-empty_after c h o n (Do sid (MqSend desc priority bytes)) legal le = rw (not_given c h sid.0 desc.0 o legal le) refl
-empty_after c h o n (Do sid (MqReceive desc length')) legal le = rw (not_given c h sid.0 desc.0 o legal le) refl
-empty_after c h o n (Do sid call) legal le = refl
-empty_after c h o n (Hangup sid) legal le = refl
+pub empty_after : (h : History) (o n : ℕ) (e : Event) → creations h ≤ o → queue_after n (act_by (length h) (holds h) o e) empty_queue ≡ empty_queue
+empty_after h o n (Hello found) le = refl
+empty_after h o n (Do sid (MqSend desc priority bytes)) le = rw (not_given h sid.0 desc.0 o le) refl
+empty_after h o n (Do sid (MqReceive desc length')) le = rw (not_given h sid.0 desc.0 o le) refl
+empty_after h o n (Do sid call) le = refl
+empty_after h o n (Hangup sid) le = refl
 
-empty_more : (c : Config) (h : History) (o : ℕ) → Legal c h → queue c h o ≡ empty_queue → creations h ≤ o → (e : Event) (r : Option Rule) → queue c (record { event = e; rule = r } ∷ h) o ≡ empty_queue
-empty_more c h o legal none le e (Some rule) = refused_queue c h e rule o ∙ none
-empty_more c h o legal none le e None = queue_grows c h e o ∙ ap (queue_after (room (object c h o)) (act_by (length h) (holds h) o e)) none ∙ empty_after c h o (room (object c h o)) e legal le
+empty_more : (c : Config) (h : History) (o : ℕ) → queue c h o ≡ empty_queue → creations h ≤ o → (e : Event) (r : Option Rule) → queue c (record { event = e; rule = r } ∷ h) o ≡ empty_queue
+empty_more c h o none le e (Some rule) = refused_queue c h e rule o ∙ none
+empty_more c h o none le e None = queue_grows c h e o ∙ ap (queue_after (maxmsg c h o) (act_by (length h) (holds h) o e)) none ∙ empty_after h o (maxmsg c h o) e le
 
 -- no message stands in an object that was not created, and no call is parked on it
-pub not_created_empty : (c : Config) (h : History) → Legal c h → (o : ℕ) → creations h ≤ o → queue c h o ≡ empty_queue
+pub not_created_empty : (c : Config) (h : History) (o : ℕ) → creations h ≤ o → queue c h o ≡ empty_queue
 unfolding queue
-not_created_empty c [] legal o le = refl
-not_created_empty c (r ∷ h) legal o le =
+not_created_empty c [] o le = refl
+not_created_empty c (r ∷ h) o le =
     let before = created_before h r.event r.rule o le in
-    empty_more c h o legal.1 (not_created_empty c h legal.1 o before) before r.event r.rule
+    empty_more c h o (not_created_empty c h o before) before r.event r.rule

@@ -1,7 +1,7 @@
 -- What one accepted event does to sessions, names, objects and the counts of opens.
 use Rattle.std.proofs.Common.{◌≡◌, ℕ, ◌+◌, Bool, true, false, not, ◌&&◌, ◌||◌, eqb, cond, List, ◌∷◌, Option, Some, None, is_some, refl, ap}
 use Rattle.std.specs.Prelude.{unwrap_or, option_and_then, ◌%◌}
-use Rattle.std.specs.Option.{option_or}
+use Rattle.std.specs.Option.{option_or, option_flatten}
 use Rattle.ipc_terms.specs.declared.ids.Uid.{Uid}
 use Rattle.ipc_terms.specs.declared.ids.Family.{Family}
 use Rattle.ipc_terms.specs.Flags.{has_create, has_nonblock}
@@ -10,11 +10,10 @@ use Rattle.ipc_terms.specs.declared.record.Event.{Event}
 use Rattle.ipc_terms.specs.declared.record.Event.TheVariants.{Hello, Do, Hangup}
 use Rattle.ipc_policy.specs.History.{History, newest, kept, unended}
 use Rattle.ipc_policy.specs.Sessions.{hellos, begins, hangs_up, user, live, mask, sets_mask}
-use Rattle.ipc_policy.specs.Names.{Opening, asks_name, unlinks, leaves_bound, is_bound, creating, creations, binds, bound}
+use Rattle.ipc_policy.specs.Names.{queue_opening, Opening, asks_name, unlinks, leaves_bound, is_bound, creating, creations, binds, bound}
 use Rattle.ipc_policy.specs.Objects.{creation_of}
 use Rattle.ipc_policy.specs.Descriptions.{opens, is_nonblock, sets_nonblock}
 use Rattle.ipc_policy.specs.Grow.{hellos_after, user_after, live_after, mask_after, is_bound_after, creations_after, bound_after, made_after, is_new, opens_after, nonblock_after}
-use Rattle.ipc_policy.proofs.Verdicts.{queue_opening}
 use Rattle.ipc_policy.proofs.Holding.{kept_all}
 
 pub hello_grows : (h : History) (e : Event) → hellos (record { event = e; rule = None } ∷ h) ≡ hellos_after e (hellos h)
@@ -23,18 +22,21 @@ hello_grows h (Hello found) = refl
 hello_grows h (Do sid call) = refl
 hello_grows h (Hangup sid) = refl
 
+found_or : (b : Bool) (found : Option Uid) (w : Option (Option Uid)) → option_flatten (option_or (cond b (Some found) None) w) ≡ cond b found (option_flatten w)
+found_or true found w = refl
+found_or false found w = refl
+
 pub user_grows : (h : History) (e : Event) (s : ℕ) → user (record { event = e; rule = None } ∷ h) s ≡ user_after s e (hellos h) (user h s)
 unfolding user
-user_grows h (Hello found) s = refl
+user_grows h (Hello found) s = found_or (eqb (hellos h) s) found (newest (begins s) h)
 user_grows h (Do sid call) s = refl
 user_grows h (Hangup sid) s = refl
 
-begun : (b : Bool) (found : Option Uid) (w : Option Uid) → is_some (option_or (cond b found None) (kept (λ x. false) w)) ≡ ((b && is_some found) || is_some w)
-begun true None w = ap is_some (kept_all w)
-begun true (Some x) w = refl
+begun : (b : Bool) (found : Option Uid) (w : Option (Option Uid)) → is_some (option_or (cond b (Some found) None) (kept (λ x. false) w)) ≡ (b || is_some w)
+begun true found w = refl
 begun false found w = ap is_some (kept_all w)
 
-ended : (b : Bool) (w : Option Uid) → is_some (kept (λ x. b) w) ≡ (not b && is_some w)
+ended : (b : Bool) (w : Option (Option Uid)) → is_some (kept (λ x. b) w) ≡ (not b && is_some w)
 ended true None = refl
 ended true (Some x) = refl
 ended false w = ap is_some (kept_all w)

@@ -1,7 +1,7 @@
 -- What is held, how many, and what an open and a close make of it.
 use Rattle.std.proofs.Common.{◌≡◌, ℕ, zero, suc, ◌+◌, ◌-◌, ◌<◌, ◌≤◌, Bool, true, false, ◌&&◌, eqb, [], ◌∷◌, cond, Option, Some, None, inl, inr, ◌⊎◌, refl, sym, ap, ◌∙◌, arith, add-one}
 use Rattle.std.specs.Prelude.{is_some, option_and_then}
-use Rattle.std.specs.Option.{option_or}
+use Rattle.std.specs.Option.{option_or, option_map}
 use Rattle.std.proofs.lemmas.Bool.{cases_eq, eqb-true, eq-eqb, ne_eqb, and_parts, and_from, and_left, and_right}
 use Rattle.ipc_terms.specs.declared.rule.Rule.{Rule}
 use Rattle.ipc_terms.specs.declared.ids.Sid.{Sid}
@@ -12,9 +12,9 @@ use Rattle.ipc_terms.specs.declared.record.Event.{Event}
 use Rattle.ipc_terms.specs.declared.record.Record.{Record}
 use Rattle.ipc_terms.specs.declared.record.Event.TheVariants.{Hello, Do, Hangup}
 use Rattle.ipc_policy.specs.declared.config.Held.{Held}
-use Rattle.ipc_policy.specs.History.{History, kept, unended, how_many_below}
-use Rattle.ipc_policy.specs.Names.{Opening, opening, bound, creations}
-use Rattle.ipc_policy.specs.Descriptions.{opens, opened, gives, ends_held, held, if_of, holds, held_count}
+use Rattle.ipc_policy.specs.History.{History, kept, unended_from, how_many_below}
+use Rattle.ipc_policy.specs.Names.{Opening, queue_opening, opening, bound, creations}
+use Rattle.ipc_policy.specs.Descriptions.{opens, opened, held_as, gives, ends_held, held, if_of, holds, held_count}
 use Rattle.ipc_policy.specs.Grow.{held_after, held_count_after}
 
 pub kept_some : {A : Type 0} (p : A → Bool) (o : Option A) → is_some (kept p o) ≡ true → is_some o ≡ true
@@ -28,13 +28,13 @@ kept_all (Some x) = refl
 -- what an open with this number gives
 abbrev given : History → ℕ → Option Opening → Option Held
 given h d None = None
-given h d (Some asked) = cond (eqb (opens h) d) (Some (record { session = asked.session; object = opened h asked; access = asked.access })) None
+given h d (Some asked) = cond (eqb (opens h) d) (option_map (held_as asked) (opened h asked)) None
 
 -- a description is numbered below the opens
 held_below_at : (h : History) (d : ℕ) → (is_some (held h d) ≡ true → d < opens h) → (q : Held → Bool) (o : Option Opening) → is_some (option_or (given h d o) (kept q (held h d))) ≡ true → d < cond (is_some o) (opens h + 1) (opens h)
 held_below_at h d known q None k = known (kept_some q (held h d) k)
 held_below_at h d known q (Some asked) k = at (eqb (opens h) d) refl k where
-  at : (b : Bool) → eqb (opens h) d ≡ b → is_some (option_or (cond b (Some (record { session = asked.session; object = opened h asked; access = asked.access })) None) (kept q (held h d))) ≡ true → d < opens h + 1
+  at : (b : Bool) → eqb (opens h) d ≡ b → is_some (option_or (cond b (option_map (held_as asked) (opened h asked)) None) (kept q (held h d))) ≡ true → d < opens h + 1
   at true same j = let same' : opens h ≡ d = eqb-true _ _ same in omega arith
   at false _ j = let below = known (kept_some q (held h d) j) in omega arith
 
@@ -66,14 +66,10 @@ unheld h s d le = at (is_some (holds h s d)) refl where
   at false e = refl
 
 -- what description d gives after an accepted event
-or_cond : {A : Type 0} (b : Bool) (x : A) (w : Option A) → option_or (cond b (Some x) None) (kept (λ y. false) w) ≡ cond b (Some x) w
-or_cond true x w = refl
-or_cond false x w = kept_all w
-
 pub held_grows : (h : History) (e : Event) (d : ℕ) → held (record { event = e; rule = None } ∷ h) d ≡ held_after d e (opens h) (bound h) (creations h) (held h d)
 unfolding held
 held_grows h (Hello found) d = refl
-held_grows h (Do sid (MqOpen asked)) d = or_cond (eqb (opens h) d) _ (unended (gives d) (λ x e before. ends_held d x e) h)
+held_grows h (Do sid (MqOpen asked)) d = ap (option_or _) (kept_all (unended_from (gives d) (λ x e before. ends_held d x e) h))
 held_grows h (Do sid call) d = refl
 held_grows h (Hangup sid) d = refl
 
@@ -106,13 +102,24 @@ mine : (b : Bool) (x : Held) → is_some (cond b (Some x) None) ≡ b
 mine true x = refl
 mine false x = refl
 
-opened_at : (s : ℕ) (sid : Sid) (b : Bool) (x : Held) (w : Option Held) → x.session ≡ sid → is_some (option_and_then (if_of s) (cond b (Some x) w)) ≡ cond b (eqb sid.0 s) (is_some (option_and_then (if_of s) w))
-opened_at s sid true x w e = mine (eqb x.session.0 s) x ∙ ap (λ (y : Sid). eqb y.0 s) e
-opened_at s sid false x w e = refl
+and_off : (b : Bool) → false ≡ (b && false)
+and_off true = refl
+and_off false = refl
 
-holds_opened : (h : History) (sid : Sid) (asked : QueueOpen) (s d : ℕ) → is_some (holds (record { event = Do sid (MqOpen asked); rule = None } ∷ h) s d) ≡ cond (eqb (opens h) d) (eqb sid.0 s) (is_some (holds h s d))
+and_on : (b : Bool) → b ≡ (b && true)
+and_on true = refl
+and_on false = refl
+
+opened_at : (s : ℕ) (asked : Opening) (b : Bool) (o : Option ℕ) (w : Option Held) → (b ≡ true → is_some (option_and_then (if_of s) w) ≡ false) → is_some (option_and_then (if_of s) (option_or (cond b (option_map (held_as asked) o) None) w)) ≡ cond b (eqb asked.session.0 s && is_some o) (is_some (option_and_then (if_of s) w))
+opened_at s asked true None w none = none refl ∙ and_off (eqb asked.session.0 s)
+opened_at s asked true (Some o) w none = mine (eqb asked.session.0 s) (held_as asked o) ∙ and_on (eqb asked.session.0 s)
+opened_at s asked false o w none = refl
+
+holds_opened : (h : History) (sid : Sid) (asked : QueueOpen) (s d : ℕ) → is_some (holds (record { event = Do sid (MqOpen asked); rule = None } ∷ h) s d) ≡ cond (eqb (opens h) d) (eqb sid.0 s && is_some (opened h (queue_opening sid asked))) (is_some (holds h s d))
 unfolding holds
-holds_opened h sid asked s d = ap (λ o. is_some (option_and_then (if_of s) o)) (held_grows h (Do sid (MqOpen asked)) d) ∙ opened_at s sid (eqb (opens h) d) _ (held h d) refl
+holds_opened h sid asked s d = ap (λ o. is_some (option_and_then (if_of s) o)) (held_grows h (Do sid (MqOpen asked)) d) ∙ opened_at s (queue_opening sid asked) (eqb (opens h) d) (opened h (queue_opening sid asked)) (held h d) (λ e. none (eqb-true _ _ e)) where
+  none : opens h ≡ d → is_some (option_and_then (if_of s) (held h d)) ≡ false
+  none e = unheld h s d (omega arith)
 
 -- after a close
 closed_at : (s d : ℕ) (sid : Sid) (desc : Desc) (w : Option Held) (b : Bool) → (eqb sid.0 s && eqb desc.0 d) ≡ b → is_some (option_and_then (if_of s) (kept (λ x. ends_held d x (Do sid (MqClose desc))) w)) ≡ cond b false (is_some (option_and_then (if_of s) w))
@@ -154,8 +161,8 @@ opens_more : (h : History) (sid : Sid) (asked : QueueOpen) → opens (record { e
 unfolding opens
 opens_more h sid asked = refl
 
-count_opened : (h : History) (sid : Sid) (asked : QueueOpen) (s : ℕ) → held_count (record { event = Do sid (MqOpen asked); rule = None } ∷ h) s ≡ cond (eqb sid.0 s) (held_count h s + 1) (held_count h s)
-count_opened h sid asked s = count_at h s _ (eqb sid.0 s) (opens_more h sid asked)
+count_opened : (h : History) (sid : Sid) (asked : QueueOpen) (s : ℕ) → held_count (record { event = Do sid (MqOpen asked); rule = None } ∷ h) s ≡ cond (eqb sid.0 s && is_some (opened h (queue_opening sid asked))) (held_count h s + 1) (held_count h s)
+count_opened h sid asked s = count_at h s _ (eqb sid.0 s && is_some (opened h (queue_opening sid asked))) (opens_more h sid asked)
     (λ d lt. holds_opened h sid asked s d ∙ rw (ne_eqb (opens h) d (λ (q : opens h ≡ d). absurd (omega arith))) refl)
     (holds_opened h sid asked s (opens h) ∙ rw (eq-eqb (opens h) (opens h) refl) refl)
 
@@ -211,7 +218,7 @@ count_left h sid s = at (eqb sid.0 s) refl where
 count_quiet : (h : History) (e : Event) (s : ℕ) → opens (record { event = e; rule = None } ∷ h) ≡ opens h → ((d : ℕ) → held (record { event = e; rule = None } ∷ h) d ≡ kept (λ x. false) (held h d)) → held_count (record { event = e; rule = None } ∷ h) s ≡ held_count h s
 count_quiet h e s n same = count_kept h _ s n (λ d. same d ∙ kept_all (held h d))
 
-pub count_grows : (h : History) (e : Event) (s : ℕ) → held_count (record { event = e; rule = None } ∷ h) s ≡ held_count_after s e (holds h) (held_count h s)
+pub count_grows : (h : History) (e : Event) (s : ℕ) → held_count (record { event = e; rule = None } ∷ h) s ≡ held_count_after s e (bound h) (creations h) (holds h) (held_count h s)
 unfolding opens
 count_grows h (Hello found) s = count_quiet h (Hello found) s refl (held_grows h (Hello found))
 count_grows h (Do sid (Umask mode)) s = count_quiet h (Do sid (Umask mode)) s refl (held_grows h (Do sid (Umask mode)))

@@ -1,13 +1,12 @@
 -- What holds of every history, or of every legal one.
 use Rattle.std.proofs.Common.{◌≡◌, ℕ, ◌+◌, ◌<◌, ◌≤◌, ◌%◌, Bool, true, false, not, ◌&&◌, eqb, List, [], ◌∷◌, ◌++◌, length, cond, Option, Some, None, is_some, is_none, refl, sym, ap, ◌∙◌, arith}
 use Rattle.std.specs.Prelude.{unwrap_or, option_and_then}
-use Rattle.std.specs.Option.{option_or, option_map}
+use Rattle.std.specs.Option.{option_or, option_map, option_flatten}
 use Rattle.std.proofs.lemmas.Bool.{eqb-true, and_parts}
 use Rattle.std.proofs.lemmas.Slice.Eq.{bytes_eq-Decides}
 use Rattle.ipc_terms.specs.Flags.{has_create}
 use Rattle.ipc_terms.specs.Names.{same_family, same_name}
 use Rattle.ipc_terms.specs.declared.rule.Rule.{Rule}
-use Rattle.ipc_terms.specs.declared.rule.Rule.TheVariants.{NoSession, BadKey}
 use Rattle.ipc_terms.specs.declared.ids.Uid.{Uid}
 use Rattle.ipc_terms.specs.declared.ids.Family.{Family}
 use Rattle.ipc_terms.specs.declared.ids.Family.TheVariants.{Mq, Sem}
@@ -16,14 +15,15 @@ use Rattle.ipc_terms.specs.declared.record.Event.{Event}
 use Rattle.ipc_terms.specs.declared.record.Event.TheVariants.{Hello, Do, Hangup}
 use Rattle.ipc_access.specs.Users.{cred_of}
 use Rattle.ipc_policy.specs.declared.config.Config.{Config}
-use Rattle.ipc_policy.specs.declared.config.Object.{Object}
+use Rattle.ipc_terms.specs.declared.object.Object.{Object}
 use Rattle.ipc_policy.specs.History.{History, newest, kept, unended, how_many}
 use Rattle.ipc_policy.specs.Sessions.{hellos, is_hello, begins, hangs_up, user, live, cred, mask, sets_mask}
-use Rattle.ipc_policy.specs.Names.{Opening, opening, asks_name, unlinks, is_bound, leaves_bound, creation, creations, binds, bound, creating}
-use Rattle.ipc_policy.specs.Objects.{creation_of, makes, sets_facts, object, facts}
+use Rattle.ipc_policy.specs.Names.{queue_opening, Opening, opening, asks_name, unlinks, is_bound, leaves_bound, creation, creations, binds, bound, creating}
+use Rattle.ipc_policy.specs.Objects.{creation_of, makes, sets_first, object, facts}
 use Rattle.ipc_policy.specs.Descriptions.{opens}
 use Rattle.ipc_policy.specs.Verdict.{verdict, Legal, answers, after_event, after_events, all_answers}
-use Rattle.ipc_policy.proofs.Verdicts.{queue_opening, verdict_hello, verdict_umask}
+use Rattle.ipc_policy.proofs.Facts.{facts_first}
+use Rattle.ipc_policy.proofs.Unforbidden.{hello_known, caller_live}
 use Rattle.ipc_policy.proofs.Holding.{kept_all, kept_some}
 
 -- no more events of a kind were accepted than there are records
@@ -126,8 +126,8 @@ then_alike f g None same = refl
 then_alike f g (Some x) same = same x
 
 pub object_with_facts : (c : Config) (h : History) (o : ℕ) → is_some (object c h o) ≡ is_some (facts c h o)
-unfolding object facts
-object_with_facts c h o = newest_alike (makes c o) (sets_facts c o) h (λ e before. then_alike _ _ (creation_of o e before) (λ asked. mapped_alike _ _ (cred c before asked.session.0)))
+unfolding object
+object_with_facts c h o = newest_alike (makes c o) (sets_first c o) h (λ e before. then_alike _ _ (creation_of o e before) (λ asked. mapped_alike _ _ (cred c before asked.session.0))) ∙ ap is_some (sym (facts_first c h o))
 
 -- a mask has nine bits
 mask_more : (before : History) (s : ℕ) → mask before s < 512 → (e : Event) (o : Option Rule) → mask (record { event = e; rule = o } ∷ before) s < 512
@@ -147,17 +147,12 @@ mask_lt [] s = omega arith
 mask_lt (r ∷ before) s = mask_more before s (mask_lt before s) r.event r.rule
 
 -- the users of sessions are in the file
-some_of_not_none : {A : Type 0} (o : Option A) → None ≡ cond (is_none o) (Some BadKey) None → is_some o ≡ true
-some_of_not_none None h = absurd cc
-some_of_not_none (Some x) h = refl
-
 user_more : (c : Config) (before : History) (s : ℕ) (uid : Uid) → (user before s ≡ Some uid → is_some (cred_of c.users uid) ≡ true) → (e : Event) (o : Option Rule) → o ≡ verdict c before e → user (record { event = e; rule = o } ∷ before) s ≡ Some uid → is_some (cred_of c.users uid) ≡ true
 unfolding user
 user_more c before s uid known e (Some rule) legal h = known h
-user_more c before s uid known (Hello None) None legal h = absurd (let e = legal ∙ verdict_hello c before None in cc)
-user_more c before s uid known (Hello (Some who)) None legal h = begun_at (eqb (hellos before) s) h where
-  begun_at : (b : Bool) → option_or (cond b (Some who) None) (newest (begins s) before) ≡ Some uid → is_some (cred_of c.users uid) ≡ true
-  begun_at true k = let same : who ≡ uid = cc in rw (← same) (some_of_not_none (cred_of c.users who) (legal ∙ verdict_hello c before (Some who)))
+user_more c before s uid known (Hello found) None legal h = begun_at (eqb (hellos before) s) h where
+  begun_at : (b : Bool) → option_flatten (option_or (cond b (Some found) None) (newest (begins s) before)) ≡ Some uid → is_some (cred_of c.users uid) ≡ true
+  begun_at true k = ap (λ w. is_some (option_and_then (cred_of c.users) w)) (sym k) ∙ hello_known c before found (sym legal)
   begun_at false k = known k
 user_more c before s uid known (Do sid call) None legal h = known h
 user_more c before s uid known (Hangup sid) None legal h = known h
@@ -167,21 +162,20 @@ unfolding user
 known_user c [] legal s uid h = absurd cc
 known_user c (r ∷ before) legal s uid h = user_more c before s uid (known_user c before legal.1 s uid) r.event r.rule legal.0 h
 
--- a session whose hello has not come has no user, and its first mask
-user_below_more : (before : History) (s : ℕ) → (is_some (user before s) ≡ true → s < hellos before) → (e : Event) (o : Option Rule) → is_some (user (record { event = e; rule = o } ∷ before) s) ≡ true → s < hellos (record { event = e; rule = o } ∷ before)
-unfolding user hellos
-user_below_more before s known e (Some rule) h = known h
-user_below_more before s known (Hello found) None h = begun_at (eqb (hellos before) s) refl h where
-  begun_at : (b : Bool) → eqb (hellos before) s ≡ b → is_some (option_or (cond b found None) (newest (begins s) before)) ≡ true → s < how_many is_hello before + 1
+-- a session whose hello has not come has not begun
+begun_below_more : (before : History) (s : ℕ) → (is_some (newest (begins s) before) ≡ true → s < hellos before) → (e : Event) (o : Option Rule) → is_some (newest (begins s) (record { event = e; rule = o } ∷ before)) ≡ true → s < hellos (record { event = e; rule = o } ∷ before)
+unfolding hellos
+begun_below_more before s known e (Some rule) h = known h
+begun_below_more before s known (Hello found) None h = begun_at (eqb (hellos before) s) refl h where
+  begun_at : (b : Bool) → eqb (hellos before) s ≡ b → is_some (option_or (cond b (Some found) None) (newest (begins s) before)) ≡ true → s < how_many is_hello before + 1
   begun_at true e k = let same : hellos before ≡ s = eqb-true _ _ e in let same' : how_many is_hello before ≡ s = same in omega arith
   begun_at false e k = let below : s < how_many is_hello before = known k in omega arith
-user_below_more before s known (Do sid call) None h = known h
-user_below_more before s known (Hangup sid) None h = known h
+begun_below_more before s known (Do sid call) None h = known h
+begun_below_more before s known (Hangup sid) None h = known h
 
-pub user_below : (h : History) (s : ℕ) → is_some (user h s) ≡ true → s < hellos h
-unfolding user
-user_below [] s h = absurd cc
-user_below (r ∷ before) s h = user_below_more before s (user_below before s) r.event r.rule h
+begun_below : (h : History) (s : ℕ) → is_some (newest (begins s) h) ≡ true → s < hellos h
+begun_below [] s h = absurd cc
+begun_below (r ∷ before) s h = begun_below_more before s (begun_below before s) r.event r.rule h
 
 -- what was begun and not ended was begun
 begun_at : {A : Type 0} (b : Bool) (w u v : Option A) (p : A → Bool) → (is_some u ≡ true → is_some v ≡ true) → is_some (cond b (option_or w (kept p u)) u) ≡ true → is_some (option_or (cond b w None) v) ≡ true
@@ -193,15 +187,35 @@ unended_newest : {A : Type 0} (starts : Event → History → Option A) (ends : 
 unended_newest starts ends [] k = k
 unended_newest starts ends (r ∷ h) k = begun_at (is_none r.rule) (starts r.event h) (unended starts ends h) (newest starts h) (λ x. ends x r.event h) (unended_newest starts ends h) k
 
--- a session that is live has a user
-pub live_user : (h : History) (s : ℕ) → live h s ≡ true → is_some (user h s) ≡ true
-unfolding live user
-live_user h s k = unended_newest (begins s) (λ who e before. hangs_up s e) h k
+-- a session is live only once it has begun
+pub live_below : (h : History) (s : ℕ) → live h s ≡ true → s < hellos h
+unfolding live
+live_below h s k = begun_below h s (unended_newest (begins s) (λ who e before. hangs_up s e) h k)
 
-pub live_of_none : (b : Bool) (o : Option Rule) → None ≡ cond (not b) (Some NoSession) o → b ≡ true
-live_of_none true o h = refl
-live_of_none false o h = absurd cc
+-- in a legal history it has a user
+found_some : {A B : Type 0} (f : A → Option B) (w : Option A) → is_some (option_and_then f w) ≡ true → is_some w ≡ true
+found_some f None e = e
+found_some f (Some x) e = refl
 
+begun_user_more : (c : Config) (before : History) (s : ℕ) → (is_some (newest (begins s) before) ≡ true → is_some (user before s) ≡ true) → (e : Event) (o : Option Rule) → o ≡ verdict c before e → is_some (newest (begins s) (record { event = e; rule = o } ∷ before)) ≡ true → is_some (user (record { event = e; rule = o } ∷ before) s) ≡ true
+unfolding user
+begun_user_more c before s known e (Some rule) legal h = known h
+begun_user_more c before s known (Hello found) None legal h = begun_at (eqb (hellos before) s) h where
+  begun_at : (b : Bool) → is_some (option_or (cond b (Some found) None) (newest (begins s) before)) ≡ true → is_some (option_flatten (option_or (cond b (Some found) None) (newest (begins s) before))) ≡ true
+  begun_at true k = found_some (cred_of c.users) found (hello_known c before found (sym legal))
+  begun_at false k = known k
+begun_user_more c before s known (Do sid call) None legal h = known h
+begun_user_more c before s known (Hangup sid) None legal h = known h
+
+begun_user : (c : Config) (h : History) → Legal c h → (s : ℕ) → is_some (newest (begins s) h) ≡ true → is_some (user h s) ≡ true
+begun_user c [] legal s h = absurd cc
+begun_user c (r ∷ before) legal s h = begun_user_more c before s (begun_user c before legal.1 s) r.event r.rule legal.0 h
+
+pub live_user : (c : Config) (h : History) → Legal c h → (s : ℕ) → live h s ≡ true → is_some (user h s) ≡ true
+unfolding live
+live_user c h legal s k = begun_user c h legal s (unended_newest (begins s) (λ who e before. hangs_up s e) h k)
+
+-- a session whose hello has not come has its first mask
 first_mask_more : (c : Config) (before : History) (s : ℕ) → (hellos before ≤ s → mask before s ≡ 18) → (e : Event) (o : Option Rule) → o ≡ verdict c before e → hellos (record { event = e; rule = o } ∷ before) ≤ s → mask (record { event = e; rule = o } ∷ before) s ≡ 18
 unfolding mask hellos
 first_mask_more c before s known e (Some rule) legal h = known h
@@ -210,8 +224,7 @@ first_mask_more c before s known (Do sid (Umask m)) None legal h = set_at (eqb s
   set_at : (b : Bool) → eqb sid.0 s ≡ b → unwrap_or (option_or (cond b (Some (m.0 % 512)) None) (newest (sets_mask s) before)) 18 ≡ 18
   set_at true e =
       let same : sid.0 ≡ s = eqb-true _ _ e in
-      let lives : is_some (user before sid.0) ≡ true = live_user before sid.0 (live_of_none _ _ (legal ∙ verdict_umask c before sid m)) in
-      let below : sid.0 < hellos before = user_below before sid.0 lives in
+      let below : sid.0 < hellos before = live_below before sid.0 (caller_live c before sid (Umask m) (sym legal)) in
       let k : hellos before ≤ s = h in
       absurd (omega arith)
   set_at false e = known h

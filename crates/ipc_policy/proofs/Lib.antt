@@ -1,5 +1,6 @@
 pub mod FirstPassing
-pub mod Verdicts
+pub mod Unforbidden
+pub mod Facts
 pub mod Gathering
 pub mod Holding
 pub mod Growing

@@ -15,10 +15,9 @@ use Rattle.ipc_terms.specs.declared.call.Call.TheVariants.{Umask, MqOpen, MqClos
 use Rattle.ipc_terms.specs.declared.record.Event.{Event}
 use Rattle.ipc_terms.specs.declared.record.Event.TheVariants.{Hello, Do, Hangup}
 use Rattle.ipc_policy.specs.History.{History}
-use Rattle.ipc_policy.specs.Names.{is_bound, creations, bound}
+use Rattle.ipc_policy.specs.Names.{queue_opening, is_bound, creations, bound}
 use Rattle.ipc_policy.specs.Life.{named, bindings}
 use Rattle.ipc_policy.specs.Grow.{is_new, bound_after, bindings_after}
-use Rattle.ipc_policy.proofs.Verdicts.{queue_opening}
 use Rattle.ipc_policy.proofs.Gathering.{find_kept, find_dropped}
 use Rattle.ipc_policy.proofs.Growing.{bound_grows}
 use Rattle.ipc_policy.proofs.Living.{bindings_grow}

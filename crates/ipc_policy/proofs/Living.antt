@@ -14,12 +14,11 @@ use Rattle.ipc_terms.specs.declared.call.Call.TheVariants.{Umask, MqOpen, MqClos
 use Rattle.ipc_terms.specs.declared.record.Event.{Event}
 use Rattle.ipc_terms.specs.declared.record.Event.TheVariants.{Hello, Do, Hangup}
 use Rattle.ipc_policy.specs.History.{History, kept, unended, listed, gathered_below, any_below}
-use Rattle.ipc_policy.specs.Names.{Opening, unlinks, is_bound, creating, creations, bound}
+use Rattle.ipc_policy.specs.Names.{queue_opening, Opening, unlinks, is_bound, creating, creations, bound}
 use Rattle.ipc_policy.specs.Objects.{creation_of}
 use Rattle.ipc_policy.specs.Descriptions.{opens, held}
 use Rattle.ipc_policy.specs.Life.{named, binding_of, bindings, names, gives_object, alive}
 use Rattle.ipc_policy.specs.Grow.{is_new, creations_after, named_after, bindings_after, names_after, alive_after, held_after, opens_after}
-use Rattle.ipc_policy.proofs.Verdicts.{queue_opening}
 use Rattle.ipc_policy.proofs.Holding.{kept_all, kept_some, held_grows}
 use Rattle.ipc_policy.proofs.Gathering.{gathered_same, gathered_more, passing, gathered_filter, any_below_same}
 use Rattle.ipc_policy.proofs.Growing.{creations_grow, opens_grow}

@@ -1,12 +1,12 @@
 -- What each record adds to the answers of a session.
-use Rattle.std.proofs.Common.{◌≡◌, ℕ, ◌+◌, ◌≤◌, ◌<◌, Bool, true, false, ◌&&◌, [], ◌∷◌, ◌++◌, cond, refl, ap, ◌∙◌, arith}
+use Rattle.std.proofs.Common.{◌≡◌, ℕ, ◌+◌, ◌≤◌, Bool, true, false, ◌&&◌, [], ◌∷◌, ◌++◌, cond, refl, ap, ◌∙◌, arith}
 use Rattle.ipc_terms.specs.declared.record.Event.{Event}
 use Rattle.ipc_terms.specs.declared.record.Record.{Record}
 use Rattle.ipc_policy.specs.declared.config.Config.{Config}
 use Rattle.ipc_policy.specs.History.{History, is_accepted}
 use Rattle.ipc_policy.specs.Sessions.{hellos, is_hello, live}
 use Rattle.ipc_policy.specs.Verdict.{answers, for_session, outbox, after_event}
-use Rattle.ipc_policy.proofs.Known.{user_below, live_user}
+use Rattle.ipc_policy.proofs.Known.{live_below}
 
 -- one record more
 pub outbox_more : (c : Config) (h : History) (r : Record) (s : ℕ) → outbox c (r ∷ h) s ≡ outbox c h s ++ cond (live (r ∷ h) s) (for_session s (answers c h r.event)) []
@@ -17,10 +17,6 @@ outbox_more c h r s = refl
 pub outbox_after : (c : Config) (h : History) (e : Event) (s : ℕ) → outbox c (after_event c h e) s ≡ outbox c h s ++ cond (live (after_event c h e) s) (for_session s (answers c h e)) []
 unfolding outbox
 outbox_after c h e s = refl
-
--- a session is live only once it has begun
-pub live_below : (h : History) (s : ℕ) → live h s ≡ true → s < hellos h
-live_below h s e = user_below h s (live_user h s e)
 
 -- no fewer hellos were accepted later
 hellos_before : (r : Record) (h : History) (s : ℕ) → hellos (r ∷ h) ≤ s → hellos h ≤ s

@@ -5,37 +5,37 @@ use Rattle.std.specs.Prelude.{filter, option_and_then}
 use Rattle.std.specs.Option.{option_or, option_map}
 use Rattle.std.proofs.lemmas.Bool.{eqb-true, eqb-false, eq-eqb, ne_eqb}
 use Rattle.ipc_terms.specs.declared.rule.Rule.{Rule}
-use Rattle.ipc_terms.specs.declared.rule.Rule.TheVariants.{NoSession}
 use Rattle.ipc_terms.specs.declared.ids.Sid.{Sid}
+use Rattle.ipc_terms.specs.declared.ids.Desc.{Desc}
 use Rattle.ipc_terms.specs.declared.call.Call.{Call}
 use Rattle.ipc_terms.specs.declared.call.Call.TheVariants.{MqOpen, MqClose, MqSend, MqReceive}
 use Rattle.ipc_terms.specs.declared.record.Event.{Event}
 use Rattle.ipc_terms.specs.declared.record.Event.TheVariants.{Hello, Do, Hangup}
 use Rattle.ipc_policy.specs.declared.config.Config.{Config}
 use Rattle.ipc_policy.specs.declared.config.Held.{Held}
-use Rattle.ipc_policy.specs.declared.config.Object.{Object}
+use Rattle.ipc_terms.specs.declared.object.Object.{Object}
 use Rattle.ipc_policy.specs.History.{History, kept, there_is, any_below}
 use Rattle.ipc_policy.specs.Sessions.{hellos, live}
-use Rattle.ipc_policy.specs.Names.{is_bound, creations, bound}
+use Rattle.ipc_policy.specs.Names.{queue_opening, is_bound, creations, bound}
 use Rattle.ipc_policy.specs.Objects.{object, made_by}
 use Rattle.ipc_policy.specs.Sessions.{cred}
 use Rattle.ipc_policy.specs.Descriptions.{opens, if_of, held, holds, ends_held}
 use Rattle.ipc_policy.specs.Life.{named, alive, gives_object}
 use Rattle.ipc_policy.specs.Queues.{Send, Wait, Withdraws, Queue, queue_after, queue, senders, receivers, is_full, is_empty}
-use Rattle.ipc_policy.specs.Parking.{Kind, Sending, Receiving, Parked, parks, parked_on, serves, is_longest, ends_call, ends_parked, parked}
+use Rattle.ipc_policy.specs.Parking.{ParkedKind, Sending, Receiving, Parked, parks, parked_on, serves, is_longest, ends_call, ends_parked, parked}
 use Rattle.ipc_policy.specs.Readings.{Each, Rising}
-use Rattle.ipc_policy.specs.Rules.{forbids, no_session}
+use Rattle.ipc_policy.specs.Rules.{queue_named}
 use Rattle.ipc_policy.specs.Grow.{live_after, held_after, made_after, is_new}
 use Rattle.ipc_policy.specs.Verdict.{verdict, Legal}
 use Rattle.ipc_policy.specs.Laws.{IsParked}
-use Rattle.ipc_policy.proofs.Verdicts.{queue_opening}
 use Rattle.ipc_policy.proofs.Holding.{held_below, held_grows}
 use Rattle.ipc_policy.proofs.Gathering.{any_below_at}
 use Rattle.ipc_policy.proofs.Creating.{holds_is_held}
 use Rattle.ipc_policy.proofs.Growing.{live_grows}
 use Rattle.ipc_policy.proofs.Grown.{grows}
 use Rattle.ipc_policy.proofs.EachItem.{each_map}
-use Rattle.ipc_policy.proofs.ActsOf.{accepted_passes, held_object}
+use Rattle.ipc_policy.proofs.Unforbidden.{caller_live}
+use Rattle.ipc_policy.proofs.ActsOf.{held_queue, queue_is_object}
 use Rattle.ipc_policy.proofs.ParkedPlaces.{parked_by_place}
 use Rattle.ipc_policy.proofs.CallsListed.{another_call, parked_cases, calls_listed}
 
@@ -51,69 +51,47 @@ pub record ParksBy (c : Config) (h : History) (e : Event) (s : ℕ) (p : Parked)
   pub gives : x.object ≡ p.object
   pub made : None ≡ verdict c h e → is_some (object c h p.object) ≡ true
 
-on_object : (test : ℕ → Bool) (kind : Kind) (place : ℕ) (x : Held) (p : Parked) → parked_on test kind place x ≡ Some p → x.object ≡ p.object
+on_object : (test : ℕ → Bool) (kind : ParkedKind) (place : ℕ) (x : Held) (p : Parked) → parked_on test kind place x ≡ Some p → x.object ≡ p.object
 on_object test kind place x p e = at (test x.object) e where
   at : (b : Bool) → cond b (Some (record { object = x.object; place = place; kind = kind })) None ≡ Some p → x.object ≡ p.object
   at true k = let same : record { object = x.object; place = place; kind = kind } ≡ p = cc in ap (λ (y : Parked). y.object) same
   at false k = absurd cc
 
+-- a call by a description that gives a queue, where the test says so of the queue
+parks_there : (c : Config) (h : History) (sid : Sid) (call : Call) (desc : Desc) (test : ℕ → Bool) (kind : ParkedKind) (s : ℕ) (p : Parked) → queue_named call ≡ Some desc → cond (eqb sid.0 s) (option_and_then (parked_on test kind (length h)) (holds h sid.0 desc.0)) None ≡ Some p → ParksBy c h (Do sid call) s p
+parks_there c h sid call desc test kind s p named k = mine (eqb sid.0 s) refl k where
+  given : sid.0 ≡ s → (y : Option Held) → holds h sid.0 desc.0 ≡ y → option_and_then (parked_on test kind (length h)) y ≡ Some p → ParksBy c h (Do sid call) s p
+  given same None q j = absurd cc
+  given same (Some x) q j =
+      let on : x.object ≡ p.object = on_object test kind (length h) x p j in
+      record {
+        sid = sid;
+        call = call;
+        desc = desc.0;
+        x = x;
+        event = refl;
+        session = same;
+        held = subst (λ (n : ℕ). holds h n desc.0 ≡ Some x) same q;
+        gives = on;
+        made = λ legal. subst (λ (n : ℕ). is_some (object c h n) ≡ true) on (queue_is_object c h x.object (held_queue c h sid call desc x legal named q));
+      }
+
+  mine : (b : Bool) → eqb sid.0 s ≡ b → cond b (option_and_then (parked_on test kind (length h)) (holds h sid.0 desc.0)) None ≡ Some p → ParksBy c h (Do sid call) s p
+  mine true q j = given (eqb-true _ _ q) (holds h sid.0 desc.0) refl j
+  mine false q j = absurd cc
+
 pub parks_by_call : (c : Config) (h : History) (e : Event) (s : ℕ) (p : Parked) → parks c s e h ≡ Some p → ParksBy c h e s p
-parks_by_call c h (Do sid (MqSend desc priority bytes)) s p k = mine (eqb sid.0 s) refl k where
-  given : sid.0 ≡ s → (y : Option Held) → holds h sid.0 desc.0 ≡ y → option_and_then (parked_on (is_full c h) Sending (length h)) y ≡ Some p → ParksBy c h (Do sid (MqSend desc priority bytes)) s p
-  given same None q j = absurd cc
-  given same (Some x) q j =
-      let on : x.object ≡ p.object = on_object (is_full c h) Sending (length h) x p j in
-      record {
-        sid = sid;
-        call = MqSend desc priority bytes;
-        desc = desc.0;
-        x = x;
-        event = refl;
-        session = same;
-        held = subst (λ (n : ℕ). holds h n desc.0 ≡ Some x) same q;
-        gives = on;
-        made = λ legal. subst (λ (n : ℕ). is_some (object c h n) ≡ true) on (held_object c h sid (MqSend desc priority bytes) desc x legal refl q);
-      }
-
-  mine : (b : Bool) → eqb sid.0 s ≡ b → cond b (option_and_then (parked_on (is_full c h) Sending (length h)) (holds h sid.0 desc.0)) None ≡ Some p → ParksBy c h (Do sid (MqSend desc priority bytes)) s p
-  mine true q j = given (eqb-true _ _ q) (holds h sid.0 desc.0) refl j
-  mine false q j = absurd cc
-parks_by_call c h (Do sid (MqReceive desc length')) s p k = mine (eqb sid.0 s) refl k where
-  given : sid.0 ≡ s → (y : Option Held) → holds h sid.0 desc.0 ≡ y → option_and_then (parked_on (is_empty c h) Receiving (length h)) y ≡ Some p → ParksBy c h (Do sid (MqReceive desc length')) s p
-  given same None q j = absurd cc
-  given same (Some x) q j =
-      let on : x.object ≡ p.object = on_object (is_empty c h) Receiving (length h) x p j in
-      record {
-        sid = sid;
-        call = MqReceive desc length';
-        desc = desc.0;
-        x = x;
-        event = refl;
-        session = same;
-        held = subst (λ (n : ℕ). holds h n desc.0 ≡ Some x) same q;
-        gives = on;
-        made = λ legal. subst (λ (n : ℕ). is_some (object c h n) ≡ true) on (held_object c h sid (MqReceive desc length') desc x legal refl q);
-      }
-
-  mine : (b : Bool) → eqb sid.0 s ≡ b → cond b (option_and_then (parked_on (is_empty c h) Receiving (length h)) (holds h sid.0 desc.0)) None ≡ Some p → ParksBy c h (Do sid (MqReceive desc length')) s p
-  mine true q j = given (eqb-true _ _ q) (holds h sid.0 desc.0) refl j
-  mine false q j = absurd cc
+parks_by_call c h (Do sid (MqSend desc priority bytes)) s p k = parks_there c h sid (MqSend desc priority bytes) desc (is_full c h) Sending s p refl k
+parks_by_call c h (Do sid (MqReceive desc length')) s p k = parks_there c h sid (MqReceive desc length') desc (is_empty c h) Receiving s p refl k
 parks_by_call c h (Do sid call) s p k = absurd cc
 parks_by_call c h (Hello found) s p k = absurd cc
 parks_by_call c h (Hangup sid) s p k = absurd cc
 
--- who makes a call that is accepted is live
-calls_live : (c : Config) (h : History) (sid : Sid) (call : Call) → None ≡ verdict c h (Do sid call) → live h sid.0 ≡ true
-unfolding forbids no_session
-calls_live c h sid call legal = at (live h sid.0) (accepted_passes c h (Do sid call) legal NoSession) where
-  at : (b : Bool) → not b ≡ false → b ≡ true
-  at true e = refl
-  at false e = absurd cc
-
+-- whose call parks is live
 parks_live : (c : Config) (h : History) (e : Event) (s : ℕ) (p : Parked) → None ≡ verdict c h e → parks c s e h ≡ Some p → live_after s e (hellos h) (live h s) ≡ true
 parks_live c h e s p legal k =
     let by = parks_by_call c h e s p k in
-    let now : live h s ≡ true = subst (λ (n : ℕ). live h n ≡ true) by.session (calls_live c h by.sid by.call (subst (λ (d : Event). None ≡ verdict c h d) by.event legal)) in
+    let now : live h s ≡ true = subst (λ (n : ℕ). live h n ≡ true) by.session (caller_live c h by.sid by.call (sym (subst (λ (d : Event). None ≡ verdict c h d) by.event legal))) in
     subst (λ (d : Event). live_after s d (hellos h) (live h s) ≡ true) (sym by.event) now
 
 pub or_left : (a b : Bool) → (a || b) ≡ false → a ≡ false
@@ -129,7 +107,7 @@ another_hangup : (s : ℕ) (p : Parked) (sid : Sid) (q : Queue) → ends_call s 
 another_hangup s p sid q e = ne_eqb _ _ (λ (k : sid.0 ≡ s). eqb-false _ _ (or_left (eqb s sid.0) (serves p.kind (Withdraws sid.0) && is_longest p.kind p.place q) e) (sym k))
 
 stays_live : (c : Config) (h : History) (e : Event) (s : ℕ) (p : Parked) → ends_parked c s p e h ≡ false → live h s ≡ true → live_after s e (hellos h) (live h s) ≡ true
-stays_live c h (Hello found) s p keeps now = or_true (eqb (hellos h) s && is_some found) (live h s) now
+stays_live c h (Hello found) s p keeps now = or_true (eqb (hellos h) s) (live h s) now
 stays_live c h (Do sid call) s p keeps now = now
 stays_live c h (Hangup sid) s p keeps now = let other = another_hangup s p sid (queue c h p.object) keeps in rw (other, now) refl
 

@@ -15,7 +15,7 @@ use Rattle.ipc_policy.specs.History.{History, kept, there_is}
 use Rattle.ipc_policy.specs.Descriptions.{holds}
 use Rattle.ipc_policy.specs.Life.{gives_object}
 use Rattle.ipc_policy.specs.Queues.{Send, Wait, Act, Sends, Receives, Withdraws, Rests, Queue, queue_after, maxmsg, queue, senders, receivers, is_full, is_empty}
-use Rattle.ipc_policy.specs.Parking.{Kind, Sending, Receiving, Parked, stands_at, serves, is_longest, ends_call, parked, parked_on}
+use Rattle.ipc_policy.specs.Parking.{ParkedKind, Sending, Receiving, Parked, stands_at, serves, is_longest, ends_call, parked, parked_on}
 use Rattle.ipc_policy.specs.Readings.{Each, Rising}
 use Rattle.ipc_policy.specs.Verdict.{Legal}
 use Rattle.ipc_policy.specs.Laws.{IsListed, place_listed}
@@ -34,14 +34,14 @@ kept_if p (Some x) b h = ap (λ d. cond d None (Some x)) (h x refl)
 -- what rests ends nothing
 pub rests_end : (s : ℕ) (p : Parked) (q : Queue) → ends_call s p Rests q ≡ false
 rests_end s p q = at p.kind where
-  at : (kind : Kind) → ends_call s (record { object = p.object; place = p.place; kind = kind }) Rests q ≡ false
+  at : (kind : ParkedKind) → ends_call s (record { object = p.object; place = p.place; kind = kind }) Rests q ≡ false
   at Sending = refl
   at Receiving = refl
 
 -- a withdrawal ends the calls of its session
 pub withdrawal_ends : (s t : ℕ) (p : Parked) (q : Queue) → ends_call s p (Withdraws t) q ≡ eqb s t
 withdrawal_ends s t p q = at p.kind (eqb s t) where
-  at : (kind : Kind) (b : Bool) → (b || (serves kind (Withdraws t) && is_longest kind p.place q)) ≡ b
+  at : (kind : ParkedKind) (b : Bool) → (b || (serves kind (Withdraws t) && is_longest kind p.place q)) ≡ b
   at Sending true = refl
   at Sending false = refl
   at Receiving true = refl
@@ -79,12 +79,12 @@ send_ends c h o s m p legal k = at (eqb o p.object) refl where
   away : ((w : Wait) → record { object = o; place = w.place; kind = Receiving } ≡ p → ⊥) → there_is (λ w. eqb w.session s) (first (receivers c h o)) ≡ false
   away other = not_first (λ (w : Wait). w.session) (parked c h) (λ w. record { object = o; place = w.place; kind = Receiving }) s p k (receivers c h o) (known.each_receive o) other
 
-  same_object : (kind : Kind) → p.kind ≡ kind → o ≡ p.object → ends_call s (record { object = p.object; place = p.place; kind = kind }) (Sends m) (queue c h p.object) ≡ there_is (λ w. eqb w.session s) (first (receivers c h o))
+  same_object : (kind : ParkedKind) → p.kind ≡ kind → o ≡ p.object → ends_call s (record { object = p.object; place = p.place; kind = kind }) (Sends m) (queue c h p.object) ≡ there_is (λ w. eqb w.session s) (first (receivers c h o))
   same_object Sending e on = sym (away (λ w q. let wrong : Receiving ≡ Sending = ap (λ (y : Parked). y.kind) q ∙ e in cc))
   same_object Receiving e on =
       subst (λ (n : ℕ). stands_at (λ (w : Wait). w.place) p.place (first (receivers c h p.object)) ≡ there_is (λ (w : Wait). eqb w.session s) (first (receivers c h n))) (sym on)
       (longest_is (λ (w : Wait). w.place) (λ w. w.session) (parked c h) (λ w. record { object = p.object; place = w.place; kind = Receiving }) (λ w. refl) s p k (receivers c h p.object) (length h) (parked_by_place c h p.object).receives_rise (known.each_receive p.object)
-      (subst (λ (z : Kind). place_listed z s (queue c h p.object) ≡ Some p.place) e (known.each_parked s p k)))
+      (subst (λ (z : ParkedKind). place_listed z s (queue c h p.object) ≡ Some p.place) e (known.each_parked s p k)))
 
   at : (b : Bool) → eqb o p.object ≡ b → ends_call s p (cond b (Sends m) Rests) (queue c h p.object) ≡ there_is (λ w. eqb w.session s) (first (receivers c h o))
   at true e = same_object p.kind refl (eqb-true _ _ e)
@@ -99,12 +99,12 @@ receive_ends c h o s w p legal k = at (eqb o p.object) refl where
   away : ((m : Send) → record { object = o; place = m.place; kind = Sending } ≡ p → ⊥) → there_is (λ m. eqb m.session s) (first (senders c h o)) ≡ false
   away other = not_first (λ (m : Send). m.session) (parked c h) (λ m. record { object = o; place = m.place; kind = Sending }) s p k (senders c h o) (known.each_send o) other
 
-  same_object : (kind : Kind) → p.kind ≡ kind → o ≡ p.object → ends_call s (record { object = p.object; place = p.place; kind = kind }) (Receives w) (queue c h p.object) ≡ there_is (λ m. eqb m.session s) (first (senders c h o))
+  same_object : (kind : ParkedKind) → p.kind ≡ kind → o ≡ p.object → ends_call s (record { object = p.object; place = p.place; kind = kind }) (Receives w) (queue c h p.object) ≡ there_is (λ m. eqb m.session s) (first (senders c h o))
   same_object Receiving e on = sym (away (λ m q. let wrong : Sending ≡ Receiving = ap (λ (y : Parked). y.kind) q ∙ e in cc))
   same_object Sending e on =
       subst (λ (n : ℕ). stands_at (λ (m : Send). m.place) p.place (first (senders c h p.object)) ≡ there_is (λ (m : Send). eqb m.session s) (first (senders c h n))) (sym on)
       (longest_is (λ (m : Send). m.place) (λ m. m.session) (parked c h) (λ m. record { object = p.object; place = m.place; kind = Sending }) (λ m. refl) s p k (senders c h p.object) (length h) (parked_by_place c h p.object).sends_rise (known.each_send p.object)
-      (subst (λ (z : Kind). place_listed z s (queue c h p.object) ≡ Some p.place) e (known.each_parked s p k)))
+      (subst (λ (z : ParkedKind). place_listed z s (queue c h p.object) ≡ Some p.place) e (known.each_parked s p k)))
 
   at : (b : Bool) → eqb o p.object ≡ b → ends_call s p (cond b (Receives w) Rests) (queue c h p.object) ≡ there_is (λ m. eqb m.session s) (first (senders c h o))
   at true e = same_object p.kind refl (eqb-true _ _ e)

@@ -5,8 +5,8 @@ use Rattle.std.specs.Option.{option_or, option_map}
 use Rattle.std.proofs.lemmas.Bool.{eqb-true, eqb-false, leb-true, leb-false}
 use Rattle.std.proofs.lemmas.List.{length-append}
 use Rattle.ipc_terms.specs.Lists.{first}
+use Rattle.ipc_terms.specs.Objects.{as_queue}
 use Rattle.ipc_terms.specs.declared.rule.Rule.{Rule}
-use Rattle.ipc_terms.specs.declared.rule.Rule.TheVariants.{AttrRange}
 use Rattle.ipc_terms.specs.declared.ids.Sid.{Sid}
 use Rattle.ipc_terms.specs.declared.call.Attributes.{Attributes}
 use Rattle.ipc_terms.specs.declared.call.QueueOpen.{QueueOpen}
@@ -15,23 +15,23 @@ use Rattle.ipc_terms.specs.declared.record.Event.{Event}
 use Rattle.ipc_terms.specs.declared.record.Event.TheVariants.{Hello, Do, Hangup}
 use Rattle.ipc_access.specs.declared.class.Cred.{Cred}
 use Rattle.ipc_policy.specs.declared.config.Config.{Config}
-use Rattle.ipc_policy.specs.declared.config.Object.{Object}
+use Rattle.ipc_terms.specs.declared.object.Object.{Object}
 use Rattle.ipc_policy.specs.History.{History, listed}
 use Rattle.ipc_policy.specs.Sessions.{cred}
-use Rattle.ipc_policy.specs.Names.{Opening, is_bound, creating, creations}
+use Rattle.ipc_policy.specs.Names.{queue_opening, is_bound, creations}
 use Rattle.ipc_policy.specs.Objects.{object, made_by, attributes_of}
-use Rattle.ipc_policy.specs.Queues.{Send, Wait, Act, Sends, Receives, Withdraws, Rests, Queue, empty_queue, has_none, has_all, next, others, queue_after, act, queue, room, maxmsg}
-use Rattle.ipc_policy.specs.Rules.{forbids, attr_range, out_of_range}
+use Rattle.ipc_policy.specs.Queues.{Send, Wait, Act, Sends, Receives, Withdraws, Rests, Queue, empty_queue, has_none, has_all, next, others, queue_after, act, queue, room, attributes, maxmsg}
+use Rattle.ipc_policy.specs.Rules.{out_of_range}
 use Rattle.ipc_policy.specs.Grow.{made_after, is_new}
 use Rattle.ipc_policy.specs.Verdict.{verdict, Legal}
 use Rattle.ipc_policy.specs.Laws.{IsBounded, EachIsBounded}
-use Rattle.ipc_policy.proofs.Verdicts.{queue_opening}
 use Rattle.ipc_policy.proofs.Counting.{count_at}
 use Rattle.ipc_policy.proofs.Keeping.{sent_once}
 use Rattle.ipc_policy.proofs.Lengths.{none_is_empty, length_some, behind_some, filter_some, first_none, first_one, others_length, others_le}
 use Rattle.ipc_policy.proofs.Grown.{grows}
 use Rattle.ipc_policy.proofs.Creating.{not_created_empty, empty_after}
-use Rattle.ipc_policy.proofs.ActsOf.{accepted_passes, act_receives, held_object}
+use Rattle.ipc_policy.proofs.Unforbidden.{open_in_range}
+use Rattle.ipc_policy.proofs.ActsOf.{act_receives, held_queue}
 use Rattle.ipc_policy.proofs.ParkedSessions.{or_left}
 
 pub empty_bounded : (n : ℕ) → IsBounded n empty_queue
@@ -107,10 +107,10 @@ bounded_step n (Receives w) q positive one known = bounded_receive n w q (positi
 bounded_step n (Withdraws s) q positive one known = bounded_withdraw n s q known
 bounded_step n Rests q positive one known = record { within = known.within; receivers_wait = known.receivers_wait; senders_wait = known.senders_wait }
 
--- an object may have a message
-abbrev HasRoom : Option Object → Type 0
+-- a queue may have a message
+abbrev HasRoom : Option Attributes → Type 0
 HasRoom None = Unit {0}
-HasRoom (Some x) = 1 ≤ x.attributes.maxmsg
+HasRoom (Some x) = 1 ≤ x.maxmsg
 
 min_positive : (a b : ℕ) → 1 ≤ a → 1 ≤ b → 1 ≤ min a b
 min_positive a b le le' = omega arith
@@ -121,47 +121,44 @@ positive n e = let other = eqb-false n 0 e in at n other where
   at zero no' = absurd (no' refl)
   at (suc n) no' = omega arith
 
-made_room : (c : Config) (asked : Opening) (who : Cred) (given : Option Attributes) → 1 ≤ c.limits.msg_max → out_of_range c (Some who) given ≡ false → 1 ≤ (attributes_of c given).maxmsg
-made_room c asked who None most fits = min_positive 10 c.limits.msg_max (omega arith) most
-made_room c asked who (Some given) most fits = positive given.maxmsg (or_left _ _ (or_left _ _ (or_left _ _ fits)))
+made_room : (c : Config) (who : Cred) (given : Option Attributes) → 1 ≤ c.limits.msg_max → out_of_range c (Some who) given ≡ false → 1 ≤ (attributes_of c given).maxmsg
+made_room c who None most fits = min_positive 10 c.limits.msg_max (omega arith) most
+made_room c who (Some given) most fits = positive given.maxmsg (or_left _ _ (or_left _ _ (or_left _ _ fits)))
 
-new_room : (c : Config) (asked : Opening) (who : Option Cred) (was : Option Object) → 1 ≤ c.limits.msg_max → out_of_range c who asked.attributes ≡ false → HasRoom was → HasRoom (option_or (option_map (made_by c asked) who) was)
-new_room c asked None was most fits known = known
-new_room c asked (Some who) was most fits known = made_room c asked who asked.attributes most fits
+new_room : (c : Config) (sid : Sid) (asked : QueueOpen) (who : Option Cred) (was : Option Object) → 1 ≤ c.limits.msg_max → out_of_range c who asked.attributes ≡ false → HasRoom (as_queue was) → HasRoom (as_queue (option_or (option_map (made_by c (queue_opening sid asked)) who) was))
+new_room c sid asked None was most fits known = known
+new_room c sid asked (Some who) was most fits known = made_room c who asked.attributes most fits
 
 -- attributes out of range are refused
 opens_in_range : (c : Config) (h : History) (sid : Sid) (asked : QueueOpen) → None ≡ verdict c h (Do sid (MqOpen asked)) → is_new (queue_opening sid asked) (is_bound h) ≡ true → out_of_range c (cred c h sid.0) asked.attributes ≡ false
-unfolding forbids attr_range creating
-opens_in_range c h sid asked legal new =
-    let passes : (is_new (queue_opening sid asked) (is_bound h) && out_of_range c (cred c h sid.0) asked.attributes) ≡ false = accepted_passes c h (Do sid (MqOpen asked)) legal AttrRange in
-    rw new at passes
+opens_in_range c h sid asked legal new = ap (λ b. b && out_of_range c (cred c h sid.0) asked.attributes) (sym new) ∙ open_in_range c h sid asked (sym legal)
 
-room_more : (c : Config) (h : History) (o : ℕ) → 1 ≤ c.limits.msg_max → HasRoom (object c h o) → (e : Event) → None ≡ verdict c h e → HasRoom (made_after o e (is_bound h) (creations h) (λ asked. option_map (made_by c asked) (cred c h asked.session.0)) (object c h o))
+room_more : (c : Config) (h : History) (o : ℕ) → 1 ≤ c.limits.msg_max → HasRoom (attributes c h o) → (e : Event) → None ≡ verdict c h e → HasRoom (as_queue (made_after o e (is_bound h) (creations h) (λ asked. option_map (made_by c asked) (cred c h asked.session.0)) (object c h o)))
 room_more c h o most known (Do sid (MqOpen asked)) legal = at (is_new (queue_opening sid asked) (is_bound h)) refl (eqb (creations h) o) where
-  at : (b : Bool) → is_new (queue_opening sid asked) (is_bound h) ≡ b → (d : Bool) → HasRoom (cond (b && d) (option_or (option_map (made_by c (queue_opening sid asked)) (cred c h sid.0)) (object c h o)) (object c h o))
-  at true e true = new_room c (queue_opening sid asked) (cred c h sid.0) (object c h o) most (opens_in_range c h sid asked legal e) known
+  at : (b : Bool) → is_new (queue_opening sid asked) (is_bound h) ≡ b → (d : Bool) → HasRoom (as_queue (cond (b && d) (option_or (option_map (made_by c (queue_opening sid asked)) (cred c h sid.0)) (object c h o)) (object c h o)))
+  at true e true = new_room c sid asked (cred c h sid.0) (object c h o) most (opens_in_range c h sid asked legal e) known
   at true e false = known
   at false e d = known
 room_more c h o most known (Do sid call) legal = known
 room_more c h o most known (Hello found) legal = known
 room_more c h o most known (Hangup sid) legal = known
 
-room_next : (c : Config) (h : History) (o : ℕ) → 1 ≤ c.limits.msg_max → HasRoom (object c h o) → (e : Event) (r : Option Rule) → r ≡ verdict c h e → HasRoom (object c (record { event = e; rule = r } ∷ h) o)
+room_next : (c : Config) (h : History) (o : ℕ) → 1 ≤ c.limits.msg_max → HasRoom (attributes c h o) → (e : Event) (r : Option Rule) → r ≡ verdict c h e → HasRoom (attributes c (record { event = e; rule = r } ∷ h) o)
 unfolding object
 room_next c h o most known e (Some rule) legal = known
-room_next c h o most known e None legal = subst HasRoom (sym now) (room_more c h o most known e legal) where
+room_next c h o most known e None legal = subst (λ (x : Option Object). HasRoom (as_queue x)) (sym now) (room_more c h o most known e legal) where
   now : object c (record { event = e; rule = None } ∷ h) o ≡ made_after o e (is_bound h) (creations h) (λ asked. option_map (made_by c asked) (cred c h asked.session.0)) (object c h o)
   now = (grows c h e).object_of o
 
-has_room : (c : Config) (h : History) → 1 ≤ c.limits.msg_max → Legal c h → (o : ℕ) → HasRoom (object c h o)
+has_room : (c : Config) (h : History) → 1 ≤ c.limits.msg_max → Legal c h → (o : ℕ) → HasRoom (attributes c h o)
 unfolding object
 has_room c [] most legal o = tt
 has_room c (r ∷ h) most legal o = room_next c h o most (has_room c h most legal.1 o) r.event r.rule legal.0
 
 -- in a legal history each queue may have a message at least
-pub room_positive : (c : Config) (h : History) → 1 ≤ c.limits.msg_max → Legal c h → (o : ℕ) → is_some (object c h o) ≡ true → 1 ≤ maxmsg c h o
-room_positive c h most legal o there = at (object c h o) there (has_room c h most legal o) where
-  at : (x : Option Object) → is_some x ≡ true → HasRoom x → 1 ≤ room x
+pub room_positive : (c : Config) (h : History) → 1 ≤ c.limits.msg_max → Legal c h → (o : ℕ) → is_some (attributes c h o) ≡ true → 1 ≤ maxmsg c h o
+room_positive c h most legal o there = at (attributes c h o) there (has_room c h most legal o) where
+  at : (x : Option Attributes) → is_some x ≡ true → HasRoom x → 1 ≤ room x
   at None e known = absurd cc
   at (Some x) e known = known
 
@@ -170,14 +167,14 @@ receives_room : (c : Config) (h : History) (o : ℕ) (e : Event) → 1 ≤ c.lim
 receives_room c h o e most before legal w k =
     let a = act_receives o e h w k in
     let legal' : None ≡ verdict c h (Do a.sid (MqReceive a.desc a.length')) = rw a.event at legal in
-    let there = held_object c h a.sid (MqReceive a.desc a.length') a.desc a.x legal' refl a.held in
+    let there = held_queue c h a.sid (MqReceive a.desc a.length') a.desc a.x legal' refl a.held in
     subst (λ (n : ℕ). 1 ≤ maxmsg c h n) a.object (room_positive c h most before a.x.object there)
 
 -- a queue keeps how many messages it may have, unless it is created now
-same_or_new : (c : Config) (h : History) (o : ℕ) (e : Event) (q : Queue) → IsBounded (room (object c h o)) q → (creations h ≤ o → q ≡ empty_queue) → IsBounded (room (made_after o e (is_bound h) (creations h) (λ asked. option_map (made_by c asked) (cred c h asked.session.0)) (object c h o))) q
+same_or_new : (c : Config) (h : History) (o : ℕ) (e : Event) (q : Queue) → IsBounded (maxmsg c h o) q → (creations h ≤ o → q ≡ empty_queue) → IsBounded (room (as_queue (made_after o e (is_bound h) (creations h) (λ asked. option_map (made_by c asked) (cred c h asked.session.0)) (object c h o)))) q
 same_or_new c h o (Do sid (MqOpen asked)) q known new = at (is_new (queue_opening sid asked) (is_bound h)) (eqb (creations h) o) refl where
-  at : (b d : Bool) → eqb (creations h) o ≡ d → IsBounded (room (cond (b && d) (option_or (option_map (made_by c (queue_opening sid asked)) (cred c h sid.0)) (object c h o)) (object c h o))) q
-  at true true e = let same : creations h ≡ o = eqb-true _ _ e in subst (λ (z : Queue). IsBounded (room (option_or (option_map (made_by c (queue_opening sid asked)) (cred c h sid.0)) (object c h o))) z) (sym (new (omega arith))) (empty_bounded (room (option_or (option_map (made_by c (queue_opening sid asked)) (cred c h sid.0)) (object c h o))))
+  at : (b d : Bool) → eqb (creations h) o ≡ d → IsBounded (room (as_queue (cond (b && d) (option_or (option_map (made_by c (queue_opening sid asked)) (cred c h sid.0)) (object c h o)) (object c h o)))) q
+  at true true e = let same : creations h ≡ o = eqb-true _ _ e in subst (λ (z : Queue). IsBounded (room (as_queue (option_or (option_map (made_by c (queue_opening sid asked)) (cred c h sid.0)) (object c h o)))) z) (sym (new (omega arith))) (empty_bounded _)
   at true false e = known
   at false d e = known
 same_or_new c h o (Do sid call) q known new = known
@@ -187,7 +184,7 @@ same_or_new c h o (Hangup sid) q known new = known
 bounded_more : (c : Config) (h : History) (o : ℕ) → 1 ≤ c.limits.msg_max → Legal c h → IsBounded (maxmsg c h o) (queue c h o) → (e : Event) (r : Option Rule) → r ≡ verdict c h e → IsBounded (maxmsg c (record { event = e; rule = r } ∷ h) o) (queue c (record { event = e; rule = r } ∷ h) o)
 unfolding object queue
 bounded_more c h o most before known e (Some rule) legal = known
-bounded_more c h o most before known e None legal = subst (λ (x : Option Object). IsBounded (room x) (queue_after (maxmsg c h o) (act o e h) (queue c h o))) (sym now) (same_or_new c h o e (queue_after (maxmsg c h o) (act o e h) (queue c h o)) stepped (λ le. ap (queue_after (maxmsg c h o) (act o e h)) (not_created_empty c h before o le) ∙ empty_after c h o (maxmsg c h o) e before le)) where
+bounded_more c h o most before known e None legal = subst (λ (x : Option Object). IsBounded (room (as_queue x)) (queue_after (maxmsg c h o) (act o e h) (queue c h o))) (sym now) (same_or_new c h o e (queue_after (maxmsg c h o) (act o e h) (queue c h o)) stepped (λ le. ap (queue_after (maxmsg c h o) (act o e h)) (not_created_empty c h o le) ∙ empty_after h o (maxmsg c h o) e le)) where
   now : object c (record { event = e; rule = None } ∷ h) o ≡ made_after o e (is_bound h) (creations h) (λ asked. option_map (made_by c asked) (cred c h asked.session.0)) (object c h o)
   now = (grows c h e).object_of o
 
@@ -202,18 +199,6 @@ pub bounded : (c : Config) (h : History) → 1 ≤ c.limits.msg_max → Legal c 
 unfolding object queue
 bounded c [] most legal o = empty_bounded 0
 bounded c (r ∷ h) most legal o = bounded_more c h o most legal.1 (bounded c h most legal.1 o) r.event r.rule legal.0
-
--- so sends and receives are never parked on a queue together
-pub not_both_wait : (c : Config) (h : History) → 1 ≤ c.limits.msg_max → Legal c h → (o : ℕ) → is_some (object c h o) ≡ true → has_none (queue c h o).senders ≡ false → has_none (queue c h o).receivers ≡ true
-not_both_wait c h most legal o there some = at (has_none (queue c h o).receivers) refl where
-  at : (b : Bool) → has_none (queue c h o).receivers ≡ b → b ≡ true
-  at true e = refl
-  at false e = absurd (
-      let known = bounded c h most legal o in
-      let full : length (queue c h o).contents ≡ maxmsg c h o = known.senders_wait some in
-      let none : length (queue c h o).contents ≡ 0 = ap length (known.receivers_wait e) in
-      let positive = room_positive c h most legal o there in
-      omega arith)
 
 -- the same as a law
 pub each_bounded : EachIsBounded

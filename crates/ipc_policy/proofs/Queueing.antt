@@ -7,14 +7,13 @@ use Rattle.ipc_policy.specs.declared.config.Config.{Config}
 use Rattle.ipc_policy.specs.History.{History}
 use Rattle.ipc_policy.specs.Sessions.{hellos, live}
 use Rattle.ipc_policy.specs.Descriptions.{holds}
-use Rattle.ipc_policy.specs.Objects.{object}
-use Rattle.ipc_policy.specs.Queues.{act_by, queue, queue_after, room, is_full, is_empty}
+use Rattle.ipc_policy.specs.Queues.{act_by, queue, queue_after, room, attributes, is_full, is_empty}
 use Rattle.ipc_policy.specs.Parking.{parked}
 use Rattle.ipc_policy.specs.Grow.{live_after, parked_after}
 use Rattle.ipc_policy.specs.Verdict.{verdict, caller, answers, answers_at, for_session, outbox}
 use Rattle.ipc_policy.proofs.Growing.{live_grows}
 
-pub queue_grows : (c : Config) (h : History) (e : Event) (o : ℕ) → queue c (record { event = e; rule = None } ∷ h) o ≡ queue_after (room (object c h o)) (act_by (length h) (holds h) o e) (queue c h o)
+pub queue_grows : (c : Config) (h : History) (e : Event) (o : ℕ) → queue c (record { event = e; rule = None } ∷ h) o ≡ queue_after (room (attributes c h o)) (act_by (length h) (holds h) o e) (queue c h o)
 unfolding queue
 queue_grows c h e o = refl
 

@@ -1,20 +1,42 @@
--- A refused event changes no value.
-use Rattle.std.proofs.Common.{refl, ◌∷◌, Some}
+-- A refused event changes no value, and no verdict to come.
+use Rattle.std.proofs.Common.{◌≡◌, refl}
 use Rattle.ipc_terms.specs.declared.rule.Rule.{Rule}
+use Rattle.ipc_terms.specs.declared.ids.Target.TheVariants.{Dir, Name}
+use Rattle.ipc_terms.specs.declared.call.Call.TheVariants.{Umask, MqOpen, MqClose, MqSend, MqReceive, MqGetattr, MqSetattr, MqUnlink, ListNames, StatName, Interrupt}
 use Rattle.ipc_terms.specs.declared.record.Event.{Event}
+use Rattle.ipc_terms.specs.declared.record.Event.TheVariants.{Hello, Do, Hangup}
 use Rattle.ipc_policy.specs.declared.config.Config.{Config}
-use Rattle.ipc_policy.specs.History.{History}
+use Rattle.ipc_policy.specs.History.{History, after_refused}
 use Rattle.ipc_policy.specs.Sessions.{hellos, user, live, cred, mask}
-use Rattle.ipc_policy.specs.Names.{is_bound, bound, creations}
-use Rattle.ipc_policy.specs.Objects.{object, facts, directory}
+use Rattle.ipc_policy.specs.Names.{is_bound, creating, bound, creations}
+use Rattle.ipc_policy.specs.Objects.{object, owner, group, mode, facts, directory_owner, directory_group, directory_mode, directory}
 use Rattle.ipc_policy.specs.Descriptions.{opens, held, holds, held_count, is_nonblock}
 use Rattle.ipc_policy.specs.Life.{named, bindings, names, alive}
 use Rattle.ipc_policy.specs.Queues.{queue}
 use Rattle.ipc_policy.specs.Parking.{parked}
+use Rattle.ipc_policy.specs.Rules.{forbids, no_session, in_call, not_in_call, name_form, name_long, bad_descr, not_for_write, not_for_read, dir_search, dir_read, absent, present, mode_denied, dir_write, sticky, attr_range, descr_limit, prio_range, message_long, buffer_short, would_block, bad_key}
+use Rattle.ipc_policy.specs.Verdict.{verdict}
 use Rattle.ipc_policy.specs.Laws.{SameValues}
 
-pub same_values : (c : Config) (h : History) (e : Event) (rule : Rule) → SameValues c (record { event = e; rule = Some rule } ∷ h) h
-unfolding hellos user live cred mask is_bound bound creations object facts directory opens held holds held_count is_nonblock named bindings names alive queue parked
+same_verdict : (c : Config) (h : History) (e' : Event) (rule : Rule) (e : Event) → verdict c (after_refused h e' rule) e ≡ verdict c h e
+unfolding user live cred is_bound creating creations bound object owner group mode facts directory_owner directory_group directory_mode directory opens held holds held_count is_nonblock queue parked verdict forbids no_session in_call not_in_call name_form name_long bad_descr not_for_write not_for_read dir_search dir_read absent present mode_denied dir_write sticky attr_range descr_limit prio_range message_long buffer_short would_block bad_key
+same_verdict c h e' rule (Hello found) = refl
+same_verdict c h e' rule (Do sid (Umask mode')) = refl
+same_verdict c h e' rule (Do sid (MqOpen asked)) = refl
+same_verdict c h e' rule (Do sid (MqClose desc)) = refl
+same_verdict c h e' rule (Do sid (MqSend desc priority bytes)) = refl
+same_verdict c h e' rule (Do sid (MqReceive desc length')) = refl
+same_verdict c h e' rule (Do sid (MqGetattr desc)) = refl
+same_verdict c h e' rule (Do sid (MqSetattr desc nonblock)) = refl
+same_verdict c h e' rule (Do sid (MqUnlink name)) = refl
+same_verdict c h e' rule (Do sid (ListNames family start count)) = refl
+same_verdict c h e' rule (Do sid (StatName (Dir family))) = refl
+same_verdict c h e' rule (Do sid (StatName (Name family name))) = refl
+same_verdict c h e' rule (Do sid Interrupt) = refl
+same_verdict c h e' rule (Hangup sid) = refl
+
+pub same_values : (c : Config) (h : History) (e : Event) (rule : Rule) → SameValues c (after_refused h e rule) h
+unfolding hellos user live cred mask is_bound bound creations object owner group mode facts directory_owner directory_group directory_mode directory opens held holds held_count is_nonblock named bindings names alive queue parked
 same_values c h e rule = record {
   hellos = refl;
   user = λ s. refl;
@@ -25,6 +47,9 @@ same_values c h e rule = record {
   bound = λ f name. refl;
   creations = refl;
   object = λ o. refl;
+  owner = λ o. refl;
+  group = λ o. refl;
+  mode = λ o. refl;
   facts = λ o. refl;
   directory = λ f. refl;
   opens = refl;
@@ -38,4 +63,5 @@ same_values c h e rule = record {
   alive = λ o. refl;
   queue = λ o. refl;
   parked = λ s. refl;
+  verdict = same_verdict c h e rule;
 }

@@ -1,5 +1,5 @@
 -- Small histories, worked out by the definitions alone.
-use Rattle.std.proofs.Common.{◌≡◌, ℕ, true, false, [], ◌∷◌, Some, refl}
+use Rattle.std.proofs.Common.{◌≡◌, ℕ, true, false, [], ◌∷◌, Some, None, refl}
 use Rattle.std.specs.Prelude.{codes}
 use Rattle.ipc_terms.specs.declared.rule.Rule.TheVariants.{NoSession, InCall, NotInCall, WouldBlock}
 use Rattle.ipc_terms.specs.declared.ids.Sid.{Sid}
@@ -14,9 +14,10 @@ use Rattle.ipc_terms.specs.declared.record.Event.{Event}
 use Rattle.ipc_terms.specs.declared.record.Event.TheVariants.{Hello, Do, Hangup}
 use Rattle.ipc_access.specs.declared.users.User.{User}
 use Rattle.ipc_policy.specs.declared.config.Config.{Config}
+use Rattle.ipc_policy.specs.History.{after_accepted}
 use Rattle.ipc_policy.specs.Sessions.{hellos, user, live, cred, mask}
 use Rattle.ipc_policy.specs.Names.{is_bound, creating, creations, bound}
-use Rattle.ipc_policy.specs.Objects.{object, facts, directory}
+use Rattle.ipc_policy.specs.Objects.{object, owner, group, mode, facts, directory_owner, directory_group, directory_mode, directory}
 use Rattle.ipc_policy.specs.Descriptions.{opens, held, holds, held_count, is_nonblock}
 use Rattle.ipc_policy.specs.Queues.{queue}
 use Rattle.ipc_policy.specs.Parking.{Receiving, parked}
@@ -51,37 +52,47 @@ attributes n = Attrs false (record { maxmsg = 1; msgsize = 8 }) n
 -- a full queue parks a send; an interrupt withdraws it, and its message does not come
 interrupted : all_answers world [] (hello 1000 ∷ by 0 (small 1 Both) ∷ by 0 (MqSend (d 0) 0 (codes "p")) ∷ by 0 (MqSend (d 0) 0 (codes "q")) ∷ by 0 (MqGetattr (d 0)) ∷ by 0 Interrupt ∷ by 0 (MqReceive (d 0) 8) ∷ by 0 (MqSetattr (d 0) true) ∷ by 0 (MqReceive (d 0) 8) ∷ by 0 Interrupt ∷ [])
     ≡ (to 0 (Started (record { 0 = 0 })) ∷ []) ∷ (to 0 (Opened (d 0)) ∷ []) ∷ (to 0 Sent ∷ []) ∷ [] ∷ (to 0 (Refused InCall) ∷ []) ∷ (to 0 Interrupted ∷ to 0 Done ∷ []) ∷ (to 0 (Received 0 (codes "p")) ∷ []) ∷ (to 0 (attributes 0) ∷ []) ∷ (to 0 (Refused WouldBlock) ∷ []) ∷ (to 0 (Refused NotInCall) ∷ []) ∷ []
-unfolding hellos user live cred mask is_bound creating creations bound object facts directory opens held holds held_count is_nonblock queue parked forbids no_session in_call not_in_call name_form name_long bad_descr not_for_write not_for_read dir_search dir_read absent present mode_denied dir_write sticky attr_range descr_limit prio_range message_long buffer_short would_block bad_key verdict answers outbox
+unfolding hellos user live cred mask is_bound creating creations bound object owner group mode facts directory_owner directory_group directory_mode directory opens held holds held_count is_nonblock queue parked forbids no_session in_call not_in_call name_form name_long bad_descr not_for_write not_for_read dir_search dir_read absent present mode_denied dir_write sticky attr_range descr_limit prio_range message_long buffer_short would_block bad_key verdict answers outbox
 interrupted = refl
 
 -- a receive lets the parked send enter behind what is left
 admitted : all_answers world [] (hello 1000 ∷ hello 1001 ∷ by 0 (small 1 Both) ∷ by 0 (MqSend (d 0) 0 (codes "p")) ∷ by 1 (small 0 Read) ∷ by 0 (MqSend (d 0) 9 (codes "q")) ∷ by 1 (MqReceive (d 1) 8) ∷ by 1 (MqGetattr (d 1)) ∷ by 1 (MqReceive (d 1) 8) ∷ by 0 (MqSend (d 0) 0 (codes "s")) ∷ [])
     ≡ (to 0 (Started (record { 0 = 0 })) ∷ []) ∷ (to 1 (Started (record { 0 = 1 })) ∷ []) ∷ (to 0 (Opened (d 0)) ∷ []) ∷ (to 0 Sent ∷ []) ∷ (to 1 (Opened (d 1)) ∷ []) ∷ [] ∷ (to 1 (Received 0 (codes "p")) ∷ to 0 Sent ∷ []) ∷ (to 1 (attributes 1) ∷ []) ∷ (to 1 (Received 9 (codes "q")) ∷ []) ∷ (to 0 Sent ∷ []) ∷ []
-unfolding hellos user live cred mask is_bound creating creations bound object facts directory opens held holds held_count is_nonblock queue parked forbids no_session in_call not_in_call name_form name_long bad_descr not_for_write not_for_read dir_search dir_read absent present mode_denied dir_write sticky attr_range descr_limit prio_range message_long buffer_short would_block bad_key verdict answers outbox
+unfolding hellos user live cred mask is_bound creating creations bound object owner group mode facts directory_owner directory_group directory_mode directory opens held holds held_count is_nonblock queue parked forbids no_session in_call not_in_call name_form name_long bad_descr not_for_write not_for_read dir_search dir_read absent present mode_denied dir_write sticky attr_range descr_limit prio_range message_long buffer_short would_block bad_key verdict answers outbox
 admitted = refl
 
 -- parked receives are served in their order, but for those that hung up
 served : all_answers world [] (hello 1000 ∷ hello 1001 ∷ hello 1002 ∷ by 0 (small 1 Both) ∷ by 1 (small 0 Read) ∷ by 2 (small 0 Read) ∷ hello 1000 ∷ by 3 (small 0 Both) ∷ by 3 (MqReceive (d 3) 8) ∷ by 1 (MqReceive (d 1) 8) ∷ by 2 (MqReceive (d 2) 8) ∷ Hangup (record { 0 = 3 }) ∷ by 0 (MqSend (d 0) 4 (codes "m")) ∷ by 0 (MqSend (d 0) 0 (codes "k")) ∷ by 0 (MqSend (d 0) 0 (codes "l")) ∷ by 3 (MqReceive (d 3) 8) ∷ by 1 (MqGetattr (d 1)) ∷ [])
     ≡ (to 0 (Started (record { 0 = 0 })) ∷ []) ∷ (to 1 (Started (record { 0 = 1 })) ∷ []) ∷ (to 2 (Started (record { 0 = 2 })) ∷ []) ∷ (to 0 (Opened (d 0)) ∷ []) ∷ (to 1 (Opened (d 1)) ∷ []) ∷ (to 2 (Opened (d 2)) ∷ []) ∷ (to 3 (Started (record { 0 = 3 })) ∷ []) ∷ (to 3 (Opened (d 3)) ∷ []) ∷ [] ∷ [] ∷ [] ∷ [] ∷ (to 0 Sent ∷ to 1 (Received 4 (codes "m")) ∷ []) ∷ (to 0 Sent ∷ to 2 (Received 0 (codes "k")) ∷ []) ∷ (to 0 Sent ∷ []) ∷ (to 3 (Refused NoSession) ∷ []) ∷ (to 1 (attributes 1) ∷ []) ∷ []
-unfolding hellos user live cred mask is_bound creating creations bound object facts directory opens held holds held_count is_nonblock queue parked forbids no_session in_call not_in_call name_form name_long bad_descr not_for_write not_for_read dir_search dir_read absent present mode_denied dir_write sticky attr_range descr_limit prio_range message_long buffer_short would_block bad_key verdict answers outbox
+unfolding hellos user live cred mask is_bound creating creations bound object owner group mode facts directory_owner directory_group directory_mode directory opens held holds held_count is_nonblock queue parked forbids no_session in_call not_in_call name_form name_long bad_descr not_for_write not_for_read dir_search dir_read absent present mode_denied dir_write sticky attr_range descr_limit prio_range message_long buffer_short would_block bad_key verdict answers outbox
 served = refl
 
 -- after the hang-up the second session is parked, and the third behind it
 listed_behind : (queue world (after_events world [] (hello 1000 ∷ hello 1001 ∷ hello 1002 ∷ by 0 (small 1 Both) ∷ by 1 (small 0 Read) ∷ by 2 (small 0 Read) ∷ hello 1000 ∷ by 3 (small 0 Both) ∷ by 3 (MqReceive (d 3) 8) ∷ by 1 (MqReceive (d 1) 8) ∷ by 2 (MqReceive (d 2) 8) ∷ Hangup (record { 0 = 3 }) ∷ [])) 0).receivers
     ≡ record { place = 9; session = 1; desc = 1 } ∷ record { place = 10; session = 2; desc = 2 } ∷ []
-unfolding hellos user live cred mask is_bound creating creations bound object facts directory opens held holds held_count is_nonblock queue parked forbids no_session in_call not_in_call name_form name_long bad_descr not_for_write not_for_read dir_search dir_read absent present mode_denied dir_write sticky attr_range descr_limit prio_range message_long buffer_short would_block bad_key verdict answers outbox
+unfolding hellos user live cred mask is_bound creating creations bound object owner group mode facts directory_owner directory_group directory_mode directory opens held holds held_count is_nonblock queue parked forbids no_session in_call not_in_call name_form name_long bad_descr not_for_write not_for_read dir_search dir_read absent present mode_denied dir_write sticky attr_range descr_limit prio_range message_long buffer_short would_block bad_key verdict answers outbox
 listed_behind = refl
 
 parked_there : parked world (after_events world [] (hello 1000 ∷ hello 1001 ∷ hello 1002 ∷ by 0 (small 1 Both) ∷ by 1 (small 0 Read) ∷ by 2 (small 0 Read) ∷ hello 1000 ∷ by 3 (small 0 Both) ∷ by 3 (MqReceive (d 3) 8) ∷ by 1 (MqReceive (d 1) 8) ∷ by 2 (MqReceive (d 2) 8) ∷ Hangup (record { 0 = 3 }) ∷ [])) 2 ≡ Some (record { object = 0; place = 10; kind = Receiving })
-unfolding hellos user live cred mask is_bound creating creations bound object facts directory opens held holds held_count is_nonblock queue parked forbids no_session in_call not_in_call name_form name_long bad_descr not_for_write not_for_read dir_search dir_read absent present mode_denied dir_write sticky attr_range descr_limit prio_range message_long buffer_short would_block bad_key verdict answers outbox
+unfolding hellos user live cred mask is_bound creating creations bound object owner group mode facts directory_owner directory_group directory_mode directory opens held holds held_count is_nonblock queue parked forbids no_session in_call not_in_call name_form name_long bad_descr not_for_write not_for_read dir_search dir_read absent present mode_denied dir_write sticky attr_range descr_limit prio_range message_long buffer_short would_block bad_key verdict answers outbox
 parked_there = refl
 
 -- the answers that were for the second session, and for the one that hung up
 told_second : outbox world (after_events world [] (hello 1000 ∷ hello 1001 ∷ hello 1002 ∷ by 0 (small 1 Both) ∷ by 1 (small 0 Read) ∷ by 2 (small 0 Read) ∷ hello 1000 ∷ by 3 (small 0 Both) ∷ by 3 (MqReceive (d 3) 8) ∷ by 1 (MqReceive (d 1) 8) ∷ by 2 (MqReceive (d 2) 8) ∷ Hangup (record { 0 = 3 }) ∷ by 0 (MqSend (d 0) 4 (codes "m")) ∷ by 0 (MqSend (d 0) 0 (codes "k")) ∷ by 0 (MqSend (d 0) 0 (codes "l")) ∷ by 3 (MqReceive (d 3) 8) ∷ by 1 (MqGetattr (d 1)) ∷ [])) 1
     ≡ Started (record { 0 = 1 }) ∷ Opened (d 1) ∷ Received 4 (codes "m") ∷ attributes 1 ∷ []
-unfolding hellos user live cred mask is_bound creating creations bound object facts directory opens held holds held_count is_nonblock queue parked forbids no_session in_call not_in_call name_form name_long bad_descr not_for_write not_for_read dir_search dir_read absent present mode_denied dir_write sticky attr_range descr_limit prio_range message_long buffer_short would_block bad_key verdict answers outbox
+unfolding hellos user live cred mask is_bound creating creations bound object owner group mode facts directory_owner directory_group directory_mode directory opens held holds held_count is_nonblock queue parked forbids no_session in_call not_in_call name_form name_long bad_descr not_for_write not_for_read dir_search dir_read absent present mode_denied dir_write sticky attr_range descr_limit prio_range message_long buffer_short would_block bad_key verdict answers outbox
 told_second = refl
 
 told_before : outbox world (after_events world [] (hello 1000 ∷ hello 1001 ∷ hello 1002 ∷ by 0 (small 1 Both) ∷ by 1 (small 0 Read) ∷ by 2 (small 0 Read) ∷ hello 1000 ∷ by 3 (small 0 Both) ∷ by 3 (MqReceive (d 3) 8) ∷ by 1 (MqReceive (d 1) 8) ∷ by 2 (MqReceive (d 2) 8) ∷ Hangup (record { 0 = 3 }) ∷ by 0 (MqSend (d 0) 4 (codes "m")) ∷ by 0 (MqSend (d 0) 0 (codes "k")) ∷ by 0 (MqSend (d 0) 0 (codes "l")) ∷ by 3 (MqReceive (d 3) 8) ∷ by 1 (MqGetattr (d 1)) ∷ [])) 3 ≡ Started (record { 0 = 3 }) ∷ Opened (d 3) ∷ []
-unfolding hellos user live cred mask is_bound creating creations bound object facts directory opens held holds held_count is_nonblock queue parked forbids no_session in_call not_in_call name_form name_long bad_descr not_for_write not_for_read dir_search dir_read absent present mode_denied dir_write sticky attr_range descr_limit prio_range message_long buffer_short would_block bad_key verdict answers outbox
+unfolding hellos user live cred mask is_bound creating creations bound object owner group mode facts directory_owner directory_group directory_mode directory opens held holds held_count is_nonblock queue parked forbids no_session in_call not_in_call name_form name_long bad_descr not_for_write not_for_read dir_search dir_read absent present mode_denied dir_write sticky attr_range descr_limit prio_range message_long buffer_short would_block bad_key verdict answers outbox
 told_before = refl
+
+-- where a record is accepted against the verdict: an open without CREAT of a name that is unbound counts and gives
+-- nothing, and a hello that found nobody begins a session without a user
+none_opened : (held (after_accepted (after_accepted [] (hello 1000)) (by 0 (small 0 Both))) 0 ≡ None) × (opens (after_accepted (after_accepted [] (hello 1000)) (by 0 (small 0 Both))) ≡ 1)
+unfolding held opens bound creations is_bound creating
+none_opened = (refl, refl)
+
+nobody_lives : (live (after_accepted [] (Hello None)) 0 ≡ true) × (user (after_accepted [] (Hello None)) 0 ≡ None)
+unfolding live user hellos
+nobody_lives = (refl, refl)

@@ -1,30 +1,38 @@
 -- Open descriptions.
-use Rattle.std.specs.Prelude.{Bool, false, ℕ, ◌&&◌, ◌==◌, Option, Some, None, is_some, if◌then◌else◌, unwrap_or, option_and_then}
-use Rattle.ipc_terms.specs.Flags.{has_nonblock}
+use Rattle.std.specs.Prelude.{Bool, false, ℕ, ◌&&◌, ◌==◌, List, Option, Some, None, is_some, if◌then◌else◌, unwrap_or, option_and_then}
+use Rattle.std.specs.Option.{option_or, option_map}
+use Rattle.ipc_terms.specs.Flags.{has_create, has_nonblock}
+use Rattle.ipc_terms.specs.declared.ids.Family.{Family}
 use Rattle.ipc_terms.specs.declared.call.Call.TheVariants.{MqClose, MqSetattr}
 use Rattle.ipc_terms.specs.declared.record.Event.{Event}
 use Rattle.ipc_terms.specs.declared.record.Event.TheVariants.{Do, Hangup}
 use Rattle.ipc_policy.specs.declared.config.Held.{Held}
-use Rattle.ipc_policy.specs.History.{History, newest, unended, how_many, how_many_below}
+use Rattle.ipc_policy.specs.History.{History, newest, unended_from, how_many, how_many_below}
 use Rattle.ipc_policy.specs.Names.{Opening, opening, bound, creations}
 
 -- how many opens were accepted
 unfoldable pub opens : History → ℕ
 opens h = how_many (λ e before. is_some (opening e)) h
 
--- the object that the open finds, or else the one that it creates
-abbrev pub opened : History → Opening → ℕ
-opened before asked = unwrap_or (bound before asked.family asked.name) (creations before)
+-- the object that the open finds, or else the one that it creates, by what the names are bound to and by how many
+-- objects were created; without CREAT it creates none
+abbrev pub opened_by : (Family → List ℕ → Option ℕ) → ℕ → Opening → Option ℕ
+opened_by bound creations asked = option_or (bound asked.family asked.name) (if has_create asked.flags then Some creations else None)
 
--- description d begins with the open that has d accepted opens before it
-abbrev pub gives : ℕ → Event → History → Option Held
-gives d e before = given_by (opening e) where
+-- the object that the open finds or creates
+abbrev pub opened : History → Opening → Option ℕ
+opened before asked = opened_by (bound before) (creations before) asked
+
+-- what a description gives, where its open found or created this object
+abbrev pub held_as : Opening → ℕ → Held
+held_as asked o = record { session = asked.session; object = o; access = asked.access }
+
+-- description d begins with the open that has d accepted opens before it; what was held just before has no part in it
+abbrev pub gives : ℕ → Event → History → Option Held → Option Held
+gives d e before was = given_by (opening e) where
   given_by : Option Opening → Option Held
   given_by None = None
-  given_by (Some asked) =
-      if opens before == d
-      then Some (record { session = asked.session; object = opened before asked; access = asked.access })
-      else None
+  given_by (Some asked) = if opens before == d then option_map (held_as asked) (opened before asked) else None
 
 -- it ends when its session closes it or hangs up
 abbrev pub ends_held : ℕ → Held → Event → Bool
@@ -34,7 +42,7 @@ ends_held d held _ = false
 
 -- what description d gives, and to which session
 unfoldable pub held : History → ℕ → Option Held
-held h d = unended (gives d) (λ x e before. ends_held d x e) h
+held h d = unended_from (gives d) (λ x e before. ends_held d x e) h
 
 -- it, if it is this session's
 abbrev pub if_of : ℕ → Held → Option Held

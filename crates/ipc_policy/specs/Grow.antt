@@ -1,24 +1,24 @@
 -- What one accepted event does to each value, by the values before it alone.
-use Rattle.std.specs.Prelude.{◌≡◌, Bool, false, ℕ, ◌+◌, ◌-◌, ◌%◌, ◌&&◌, ◌||◌, ◌==◌, not, List, [], ◌∷◌, ◌++◌, length, filter, Option, Some, None, is_some, if◌then◌else◌, unwrap_or}
+use Rattle.std.specs.Prelude.{◌≡◌, Bool, false, ℕ, ◌+◌, ◌-◌, ◌%◌, ◌&&◌, ◌||◌, ◌==◌, not, List, [], ◌∷◌, ◌++◌, length, filter, Option, Some, None, is_some, if◌then◌else◌}
 use Rattle.std.specs.Option.{option_or, option_map}
 use Rattle.ipc_terms.specs.Flags.{has_create, has_nonblock}
 use Rattle.ipc_terms.specs.Names.{same_family, same_name}
 use Rattle.ipc_terms.specs.declared.binding.Binding.{Binding}
 use Rattle.ipc_terms.specs.declared.ids.Uid.{Uid}
 use Rattle.ipc_terms.specs.declared.ids.Family.{Family}
-use Rattle.ipc_terms.specs.declared.call.Call.TheVariants.{Umask, MqOpen, MqClose, MqSetattr}
+use Rattle.ipc_terms.specs.declared.call.Call.TheVariants.{Umask, MqClose, MqSetattr}
 use Rattle.ipc_terms.specs.declared.record.Event.{Event}
 use Rattle.ipc_terms.specs.declared.record.Event.TheVariants.{Hello, Do, Hangup}
 use Rattle.ipc_policy.specs.declared.config.Config.{Config}
 use Rattle.ipc_policy.specs.declared.config.Held.{Held}
-use Rattle.ipc_policy.specs.History.{History, kept, any_below}
+use Rattle.ipc_policy.specs.History.{History, after_accepted, kept, any_below}
 use Rattle.ipc_policy.specs.Sessions.{hellos, user, live, cred, mask}
 use Rattle.ipc_policy.specs.Names.{Opening, Naming, opening, unlinking, unlinks, asks_name, is_bound, creations, bound}
-use Rattle.ipc_policy.specs.Objects.{object, facts, directory, made_by, first_facts}
-use Rattle.ipc_policy.specs.Descriptions.{opens, held, holds, held_count, is_nonblock, ends_held}
+use Rattle.ipc_policy.specs.Objects.{without_mask, object, owner, group, mode, facts, directory, made_by, first_facts}
+use Rattle.ipc_policy.specs.Descriptions.{opened_by, held_as, opens, held, holds, held_count, is_nonblock, ends_held}
 use Rattle.ipc_policy.specs.Life.{named, bindings, names, alive, gives_object}
 pub use Rattle.ipc_policy.specs.Queues.{act_by}
-use Rattle.ipc_policy.specs.Queues.{Queue, queue, queue_after, room, is_full, is_empty}
+use Rattle.ipc_policy.specs.Queues.{Queue, queue, queue_after, room, attributes, is_full, is_empty}
 use Rattle.ipc_policy.specs.Parking.{Parked, parks_by, ends_call, parked}
 use Rattle.ipc_policy.specs.Verdict.{answers, for_session, outbox}
 
@@ -27,11 +27,11 @@ hellos_after (Hello found) hellos = hellos + 1
 hellos_after _ hellos = hellos
 
 abbrev pub user_after : ℕ → Event → ℕ → Option Uid → Option Uid
-user_after s (Hello found) hellos was = option_or (if hellos == s then found else None) was
+user_after s (Hello found) hellos was = if hellos == s then found else was
 user_after s _ hellos was = was
 
 abbrev pub live_after : ℕ → Event → ℕ → Bool → Bool
-live_after s (Hello found) hellos was = ((hellos == s) && is_some found) || was
+live_after s (Hello found) hellos was = (hellos == s) || was
 live_after s (Hangup sid) hellos was = not (sid.0 == s) && was
 live_after s _ hellos was = was
 
@@ -78,16 +78,19 @@ abbrev pub held_after : ℕ → Event → ℕ → (Family → List ℕ → Optio
 held_after d e opens bound creations was = by_open (opening e) where
   by_open : Option Opening → Option Held
   by_open None = kept (λ x. ends_held d x e) was
-  by_open (Some asked) =
-      if opens == d
-      then Some (record { session = asked.session; object = unwrap_or (bound asked.family asked.name) creations; access = asked.access })
-      else was
+  by_open (Some asked) = option_or (if opens == d then option_map (held_as asked) (opened_by bound creations asked) else None) was
 
-abbrev pub held_count_after : ℕ → Event → (ℕ → ℕ → Option Held) → ℕ → ℕ
-held_count_after s (Do sid (MqOpen asked)) holds was = if sid.0 == s then was + 1 else was
-held_count_after s (Do sid (MqClose desc)) holds was = if (sid.0 == s) && is_some (holds s desc.0) then was - 1 else was
-held_count_after s (Hangup sid) holds was = if sid.0 == s then 0 else was
-held_count_after s _ holds was = was
+-- a close of what is held leaves one less, and a hang-up none
+abbrev pub held_count_left : ℕ → Event → (ℕ → ℕ → Option Held) → ℕ → ℕ
+held_count_left s (Do sid (MqClose desc)) holds was = if (sid.0 == s) && is_some (holds s desc.0) then was - 1 else was
+held_count_left s (Hangup sid) holds was = if sid.0 == s then 0 else was
+held_count_left s _ holds was = was
+
+abbrev pub held_count_after : ℕ → Event → (Family → List ℕ → Option ℕ) → ℕ → (ℕ → ℕ → Option Held) → ℕ → ℕ
+held_count_after s e bound creations holds was = by_open (opening e) where
+  by_open : Option Opening → ℕ
+  by_open None = held_count_left s e holds was
+  by_open (Some asked) = if (asked.session.0 == s) && is_some (opened_by bound creations asked) then was + 1 else was
 
 abbrev pub nonblock_after : ℕ → ℕ → Event → ℕ → Bool → Bool
 nonblock_after s d (Do sid (MqSetattr desc nonblock)) opens was = if (sid.0 == s) && (desc.0 == d) then nonblock else was
@@ -141,13 +144,16 @@ pub record Grows (c : Config) (h k : History) (e : Event) : Type 0 where
   pub creation_count : creations k ≡ creations_after e (is_bound h) (creations h)
   pub object_named : (f : Family) (name : List ℕ) → bound k f name ≡ bound_after f name e (is_bound h) (creations h) (bound h f name)
   pub object_of : (o : ℕ) → object c k o ≡ made_after o e (is_bound h) (creations h) (λ asked. option_map (made_by c asked) (cred c h asked.session.0)) (object c h o)
+  pub owner_of : (o : ℕ) → owner c k o ≡ made_after o e (is_bound h) (creations h) (λ asked. option_map (λ who. who.uid) (cred c h asked.session.0)) (owner c h o)
+  pub group_of : (o : ℕ) → group c k o ≡ made_after o e (is_bound h) (creations h) (λ asked. option_map (λ who. who.gid) (cred c h asked.session.0)) (group c h o)
+  pub mode_of : (o : ℕ) → mode c k o ≡ made_after o e (is_bound h) (creations h) (λ asked. option_map (λ who. without_mask asked.mode (mask h asked.session.0)) (cred c h asked.session.0)) (mode c h o)
   pub facts_of : (o : ℕ) → facts c k o ≡ made_after o e (is_bound h) (creations h) (λ asked. option_map (first_facts asked (mask h asked.session.0)) (cred c h asked.session.0)) (facts c h o)
   pub directory_of : (f : Family) → directory k f ≡ directory h f
   pub open_count : opens k ≡ opens_after e (opens h)
   pub held_by : (d : ℕ) → held k d ≡ held_after d e (opens h) (bound h) (creations h) (held h d)
-  pub count_of : (s : ℕ) → held_count k s ≡ held_count_after s e (holds h) (held_count h s)
+  pub count_of : (s : ℕ) → held_count k s ≡ held_count_after s e (bound h) (creations h) (holds h) (held_count h s)
   pub nonblock_of : (s d : ℕ) → is_nonblock k s d ≡ nonblock_after s d e (opens h) (is_nonblock h s d)
-  pub queue_of : (o : ℕ) → queue c k o ≡ queue_after (room (object c h o)) (act_by (length h) (holds h) o e) (queue c h o)
+  pub queue_of : (o : ℕ) → queue c k o ≡ queue_after (room (attributes c h o)) (act_by (length h) (holds h) o e) (queue c h o)
   pub parked_in : (s : ℕ) → parked c k s ≡ parked_after s e (length h) (holds h) (is_full c h) (is_empty c h) (queue c h) (parked c h s)
   pub named_by : (o : ℕ) → named k o ≡ named_after o e (is_bound h) (creations h) (named h o)
   pub bindings_of : (f : Family) → bindings k f ≡ bindings_after f e (is_bound h) (creations h) (bindings h f)
@@ -157,4 +163,4 @@ pub record Grows (c : Config) (h k : History) (e : Event) : Type 0 where
 
 -- an accepted event changes each value as stated, by the values before it
 abbrev pub AcceptedGrows : Type 0
-AcceptedGrows = (c : Config) (h : History) (e : Event) → Grows c h (record { event = e; rule = None } ∷ h) e
+AcceptedGrows = (c : Config) (h : History) (e : Event) → Grows c h (after_accepted h e) e

@@ -6,11 +6,20 @@
 use Rattle.std.specs.Prelude.{Bool, false, ℕ, zero, suc, ◌+◌, ◌&&◌, ◌||◌, List, [], ◌∷◌, ◌++◌, Option, Some, None, is_none, if◌then◌else◌}
 use Rattle.std.specs.Option.{option_or}
 pub use Rattle.ipc_terms.specs.History.{History, record_at}
+use Rattle.ipc_terms.specs.declared.rule.Rule.{Rule}
 use Rattle.ipc_terms.specs.declared.record.Event.{Event}
 use Rattle.ipc_terms.specs.declared.record.Record.{Record}
 
 abbrev pub is_accepted : Record → Bool
 is_accepted r = is_none r.rule
+
+-- the history with one more event, which is accepted
+abbrev pub after_accepted : History → Event → History
+after_accepted h e = record { event = e; rule = None } ∷ h
+
+-- the history with one more event, which the rule refuses
+abbrev pub after_refused : History → Event → Rule → History
+after_refused h e rule = record { event = e; rule = Some rule } ∷ h
 
 -- what the newest accepted event that says something says; an event is read with what came before it
 abbrev pub newest : {A : Type 0} → (Event → History → Option A) → History → Option A
@@ -35,13 +44,17 @@ kept ends None = None
 kept ends (Some x) = if ends x then None else Some x
 
 -- what the newest accepted event that begins something begins, unless a later accepted event ends it;
--- an event is read with what came before it
-abbrev pub unended : {A : Type 0} → (Event → History → Option A) → (A → Event → History → Bool) → History → Option A
-unended begins ends [] = None
-unended begins ends (r ∷ before) =
+-- an event is read with what came before it, and what it begins may be made of what there was just before
+abbrev pub unended_from : {A : Type 0} → (Event → History → Option A → Option A) → (A → Event → History → Bool) → History → Option A
+unended_from begins ends [] = None
+unended_from begins ends (r ∷ before) =
     if is_accepted r
-    then option_or (begins r.event before) (kept (λ x. ends x r.event before) (unended begins ends before))
-    else unended begins ends before
+    then option_or (begins r.event before (unended_from begins ends before)) (kept (λ x. ends x r.event before) (unended_from begins ends before))
+    else unended_from begins ends before
+
+-- the same, where what begins is not made of what there was
+abbrev pub unended : {A : Type 0} → (Event → History → Option A) → (A → Event → History → Bool) → History → Option A
+unended begins ends h = unended_from (λ e before was. begins e before) ends h
 
 -- how many numbers below a limit are of a kind
 abbrev pub how_many_below : (ℕ → Bool) → ℕ → ℕ

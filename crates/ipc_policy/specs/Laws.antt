@@ -9,14 +9,14 @@ use Rattle.ipc_terms.specs.declared.record.Event.{Event}
 use Rattle.ipc_terms.specs.declared.call.Answer.TheVariants.{Refused}
 use Rattle.ipc_policy.specs.declared.config.Config.{Config}
 use Rattle.ipc_policy.specs.declared.config.Held.{Held}
-use Rattle.ipc_policy.specs.History.{History}
+use Rattle.ipc_policy.specs.History.{History, after_refused}
 use Rattle.ipc_policy.specs.Sessions.{hellos, user, live, cred, mask}
 use Rattle.ipc_policy.specs.Names.{is_bound, creations, bound}
-use Rattle.ipc_policy.specs.Objects.{object, facts, directory}
+use Rattle.ipc_policy.specs.Objects.{object, owner, group, mode, facts, directory}
 use Rattle.ipc_policy.specs.Descriptions.{opens, held, holds, held_count, is_nonblock}
 use Rattle.ipc_policy.specs.Life.{named, bindings, names, alive}
 use Rattle.ipc_policy.specs.Queues.{Queue, has_none, queue, maxmsg, senders, receivers}
-use Rattle.ipc_policy.specs.Parking.{Kind, Sending, Receiving, Parked, parked}
+use Rattle.ipc_policy.specs.Parking.{ParkedKind, Sending, Receiving, Parked, parked}
 use Rattle.ipc_policy.specs.Readings.{Each}
 use Rattle.ipc_policy.specs.Rules.{forbids}
 use Rattle.ipc_policy.specs.Verdict.{verdict, caller, Legal, for_session, outbox}
@@ -32,7 +32,7 @@ VerdictIsLeast =
     (c : Config) (h : History) (e : Event) →
     MatchOption (verdict c h e) ((rule : Rule) → forbids rule c h e ≡ false) (IsLeastForbidding c h e)
 
--- both histories give every value alike
+-- both histories give every value and every verdict alike
 pub record SameValues (c : Config) (h k : History) : Type 0 where
   pub hellos : hellos h ≡ hellos k
   pub user : (s : ℕ) → user h s ≡ user k s
@@ -43,6 +43,9 @@ pub record SameValues (c : Config) (h k : History) : Type 0 where
   pub bound : (f : Family) (name : List ℕ) → bound h f name ≡ bound k f name
   pub creations : creations h ≡ creations k
   pub object : (o : ℕ) → object c h o ≡ object c k o
+  pub owner : (o : ℕ) → owner c h o ≡ owner c k o
+  pub group : (o : ℕ) → group c h o ≡ group c k o
+  pub mode : (o : ℕ) → mode c h o ≡ mode c k o
   pub facts : (o : ℕ) → facts c h o ≡ facts c k o
   pub directory : (f : Family) → directory h f ≡ directory k f
   pub opens : opens h ≡ opens k
@@ -56,18 +59,19 @@ pub record SameValues (c : Config) (h k : History) : Type 0 where
   pub alive : (o : ℕ) → alive h o ≡ alive k o
   pub queue : (o : ℕ) → queue c h o ≡ queue c k o
   pub parked : (s : ℕ) → parked c h s ≡ parked c k s
+  pub verdict : (e : Event) → verdict c h e ≡ verdict c k e
 
--- a refused event changes no value
+-- a refused event changes no value, and no verdict to come
 abbrev pub RefusedIsQuiet : Type 0
 RefusedIsQuiet =
     (c : Config) (h : History) (e : Event) (rule : Rule) →
-    SameValues c (record { event = e; rule = Some rule } ∷ h) h
+    SameValues c (after_refused h e rule) h
 
 -- a refused event adds its refusal to the answers of the session that it names, where that is live, and no other answer
 abbrev pub RefusedIsAnswered : Type 0
 RefusedIsAnswered =
     (c : Config) (h : History) (e : Event) (rule : Rule) (s : ℕ) → verdict c h e ≡ Some rule →
-    outbox c (record { event = e; rule = Some rule } ∷ h) s
+    outbox c (after_refused h e rule) s
     ≡ outbox c h s ++ (if live h s then for_session s ((caller e, Refused rule) ∷ []) else [])
 
 -- the names in the list are those that are bound, each to its object
@@ -83,7 +87,7 @@ BoundIsMade =
     IsTrue (is_some (object c h o)) × IsTrue (is_some (facts c h o))
 
 -- the place of the call of session s in the list of its kind
-abbrev pub place_listed : Kind → ℕ → Queue → Option ℕ
+abbrev pub place_listed : ParkedKind → ℕ → Queue → Option ℕ
 place_listed Sending s q = option_map (λ m. m.place) (find (λ m. m.session == s) q.senders)
 place_listed Receiving s q = option_map (λ w. w.place) (find (λ w. w.session == s) q.receivers)
 

@@ -7,15 +7,17 @@ use Rattle.ipc_terms.specs.declared.ids.Mode.{Mode}
 use Rattle.ipc_terms.specs.declared.ids.Family.{Family}
 use Rattle.ipc_terms.specs.declared.ids.Family.TheVariants.{Mq}
 use Rattle.ipc_terms.specs.declared.ids.Target.TheVariants.{Name}
-use Rattle.ipc_terms.specs.declared.call.Attributes.{Attributes}
 use Rattle.ipc_terms.specs.declared.flags.OpenFlags.{OpenFlags}
 use Rattle.ipc_terms.specs.declared.call.Access.{Access}
+use Rattle.ipc_terms.specs.declared.call.QueueOpen.{QueueOpen}
 use Rattle.ipc_terms.specs.declared.call.Call.TheVariants.{MqOpen, MqUnlink, StatName}
+use Rattle.ipc_terms.specs.declared.object.Asked.{Asked}
+use Rattle.ipc_terms.specs.declared.object.Asked.TheVariants.{Queue}
 use Rattle.ipc_terms.specs.declared.record.Event.{Event}
 use Rattle.ipc_terms.specs.declared.record.Event.TheVariants.{Do}
 use Rattle.ipc_policy.specs.History.{History, newest, unended, how_many}
 
--- what an open asks for
+-- what an open asks for, and what of the object that it may create
 pub record Opening : Type 0 where
   pub session : Sid
   pub family : Family
@@ -23,11 +25,15 @@ pub record Opening : Type 0 where
   pub flags : OpenFlags
   pub access : Access
   pub mode : Mode
-  pub attributes : Option Attributes
+  pub kind : Asked
+
+-- what a queue's open asks for
+abbrev pub queue_opening : Sid → QueueOpen → Opening
+queue_opening sid asked = record { session = sid; family = Mq; name = asked.name; flags = asked.flags; access = asked.access; mode = asked.mode; kind = Queue asked.attributes }
 
 -- the open that an event is, if it is one
 abbrev pub opening : Event → Option Opening
-opening (Do sid (MqOpen asked)) = Some (record { session = sid; family = Mq; name = asked.name; flags = asked.flags; access = asked.access; mode = asked.mode; attributes = asked.attributes })
+opening (Do sid (MqOpen asked)) = Some (queue_opening sid asked)
 opening _ = None
 
 -- whose call it is, and the name of which family it names

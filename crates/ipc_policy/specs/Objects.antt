@@ -1,13 +1,19 @@
 -- What an object keeps from its creation on, and what decides who may do what with it.
-use Rattle.std.specs.Prelude.{ℕ, ◌%◌, ◌-◌, ◌==◌, min, Option, Some, None, if◌then◌else◌, option_and_then, bit_and}
+use Rattle.std.specs.Prelude.{ℕ, ◌%◌, ◌-◌, ◌==◌, min, Option, Some, None, if◌then◌else◌, unwrap_or, option_and_then, bit_and}
 use Rattle.std.specs.Option.{option_map}
+use Rattle.ipc_terms.specs.declared.ids.Uid.{Uid}
+use Rattle.ipc_terms.specs.declared.ids.Gid.{Gid}
 use Rattle.ipc_terms.specs.declared.ids.Mode.{Mode}
 use Rattle.ipc_terms.specs.declared.ids.Family.{Family}
 use Rattle.ipc_terms.specs.declared.call.Attributes.{Attributes}
+use Rattle.ipc_terms.specs.declared.object.Object.{Object}
+use Rattle.ipc_terms.specs.declared.object.Kind.{Kind}
+use Rattle.ipc_terms.specs.declared.object.Kind.TheVariants.{Queue}
+use Rattle.ipc_terms.specs.declared.object.Asked.{Asked}
+use Rattle.ipc_terms.specs.declared.object.Asked.TheVariants.{Queue as AskedQueue}
 use Rattle.ipc_terms.specs.declared.record.Event.{Event}
 use Rattle.ipc_access.specs.declared.class.Cred.{Cred}
 use Rattle.ipc_policy.specs.declared.config.Config.{Config}
-use Rattle.ipc_policy.specs.declared.config.Object.{Object}
 use Rattle.ipc_terms.specs.declared.facts.Facts.{Facts}
 use Rattle.ipc_policy.specs.History.{History, newest}
 use Rattle.ipc_policy.specs.Sessions.{cred, mask}
@@ -22,17 +28,13 @@ abbrev pub attributes_of : Config → Option Attributes → Attributes
 attributes_of c None = record { maxmsg = min 10 c.limits.msg_max; msgsize = min 8192 c.limits.msgsize_max }
 attributes_of c (Some given) = given
 
--- the given mode's low nine bits, without the bits of the mask
-abbrev pub without_mask : Mode → ℕ → Mode
-without_mask mode mask' = record { 0 = bit_and (mode.0 % 512) (511 - mask') }
+-- what an open makes of what it asks
+abbrev pub kind_of : Config → Asked → Kind
+kind_of c (AskedQueue given) = Queue (attributes_of c given)
 
--- what an open fixes of the object that it creates: its family, its creator and its attributes
+-- what an open fixes of the object that it creates: its creator, and what it is
 abbrev pub made_by : Config → Opening → Cred → Object
-made_by c asked who = record { family = asked.family; creator = who.uid; attributes = attributes_of c asked.attributes }
-
--- a new object is the caller's and the caller's group's, with the mode without the mask
-abbrev pub first_facts : Opening → ℕ → Cred → Facts
-first_facts asked mask' who = record { owner = who.uid; group = who.gid; mode = without_mask asked.mode mask' }
+made_by c asked who = record { creator = who.uid; kind = kind_of c asked.kind }
 
 -- what the open that creates object o fixes
 abbrev pub makes : Config → ℕ → Event → History → Option Object
@@ -42,14 +44,71 @@ makes c o e before = option_and_then (λ asked. option_map (made_by c asked) (cr
 unfoldable pub object : Config → History → ℕ → Option Object
 object c h o = newest (makes c o) h
 
+-- the given mode's low nine bits, without the bits of the mask
+abbrev pub without_mask : Mode → ℕ → Mode
+without_mask mode mask' = record { 0 = bit_and (mode.0 % 512) (511 - mask') }
+
+-- a new object is the caller's and the caller's group's, with the mode without the mask
+abbrev pub first_facts : Opening → ℕ → Cred → Facts
+first_facts asked mask' who = record { owner = who.uid; group = who.gid; mode = without_mask asked.mode mask' }
+
 -- the open that creates object o gives it its first owner, group and mode
-abbrev pub sets_facts : Config → ℕ → Event → History → Option Facts
-sets_facts c o e before = option_and_then (λ asked. option_map (first_facts asked (mask before asked.session.0)) (cred c before asked.session.0)) (creation_of o e before)
+abbrev pub sets_first : Config → ℕ → Event → History → Option Facts
+sets_first c o e before = option_and_then (λ asked. option_map (first_facts asked (mask before asked.session.0)) (cred c before asked.session.0)) (creation_of o e before)
+
+-- what sets the owner of object o, its group, and its mode: its creation
+abbrev pub sets_owner : Config → ℕ → Event → History → Option Uid
+sets_owner c o e before = option_map (λ at. at.owner) (sets_first c o e before)
+
+abbrev pub sets_group : Config → ℕ → Event → History → Option Gid
+sets_group c o e before = option_map (λ at. at.group) (sets_first c o e before)
+
+abbrev pub sets_mode : Config → ℕ → Event → History → Option Mode
+sets_mode c o e before = option_map (λ at. at.mode) (sets_first c o e before)
+
+-- the owner of object o
+unfoldable pub owner : Config → History → ℕ → Option Uid
+owner c h o = newest (sets_owner c o) h
+
+-- the group of object o
+unfoldable pub group : Config → History → ℕ → Option Gid
+group c h o = newest (sets_group c o) h
+
+-- the mode of object o
+unfoldable pub mode : Config → History → ℕ → Option Mode
+mode c h o = newest (sets_mode c o) h
+
+-- the three together, where there are all
+abbrev pub together : Option Uid → Option Gid → Option Mode → Option Facts
+together (Some owner') (Some group') (Some mode') = Some (record { owner = owner'; group = group'; mode = mode' })
+together _ _ _ = None
 
 -- the owner, group and mode of object o
 unfoldable pub facts : Config → History → ℕ → Option Facts
-facts c h o = newest (sets_facts c o) h
+facts c h o = together (owner c h o) (group c h o) (mode c h o)
 
--- the owner, group and mode of a family's directory: user 0, group 0 and octal 1777, as at the start
+-- what sets the owner of a family's directory, its group, and its mode: no event yet
+abbrev pub sets_directory_owner : Family → Event → History → Option Uid
+sets_directory_owner family e before = None
+
+abbrev pub sets_directory_group : Family → Event → History → Option Gid
+sets_directory_group family e before = None
+
+abbrev pub sets_directory_mode : Family → Event → History → Option Mode
+sets_directory_mode family e before = None
+
+-- the owner of a family's directory; at the start user 0
+unfoldable pub directory_owner : History → Family → Uid
+directory_owner h family = unwrap_or (newest (sets_directory_owner family) h) (record { 0 = 0 })
+
+-- the group of a family's directory; at the start group 0
+unfoldable pub directory_group : History → Family → Gid
+directory_group h family = unwrap_or (newest (sets_directory_group family) h) (record { 0 = 0 })
+
+-- the mode of a family's directory; at the start octal 1777
+unfoldable pub directory_mode : History → Family → Mode
+directory_mode h family = unwrap_or (newest (sets_directory_mode family) h) (record { 0 = 1023 })
+
+-- the owner, group and mode of a family's directory
 unfoldable pub directory : History → Family → Facts
-directory h family = record { owner = record { 0 = 0 }; group = record { 0 = 0 }; mode = record { 0 = 1023 } }
+directory h family = record { owner = directory_owner h family; group = directory_group h family; mode = directory_mode h family }

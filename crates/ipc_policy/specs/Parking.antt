@@ -12,18 +12,18 @@ use Rattle.ipc_policy.specs.Descriptions.{holds}
 use Rattle.ipc_policy.specs.Queues.{Act, Sends, Receives, Withdraws, Queue, act, queue, is_full, is_empty}
 
 -- what a parked call waits for: a send for room in a full queue, a receive for a message in an empty one
-pub data Kind : Type 0 where
-  Sending : Kind
-  Receiving : Kind
+pub data ParkedKind : Type 0 where
+  Sending : ParkedKind
+  Receiving : ParkedKind
 
 -- the call that a session is parked in: on which object, at which place of the history, and of which kind
 pub record Parked : Type 0 where
   pub object : ℕ
   pub place : ℕ
-  pub kind : Kind
+  pub kind : ParkedKind
 
 -- the call that is parked on what a description gives, where the test says so of the object
-abbrev pub parked_on : (ℕ → Bool) → Kind → ℕ → Held → Option Parked
+abbrev pub parked_on : (ℕ → Bool) → ParkedKind → ℕ → Held → Option Parked
 parked_on test kind place x = if test x.object then Some (record { object = x.object; place = place; kind = kind }) else None
 
 -- a send to a full queue parks, and a receive from an empty one; by the event's place, what each session holds, and
@@ -44,12 +44,12 @@ abbrev pub stands_at : {A : Type 0} → (A → ℕ) → ℕ → Option A → Boo
 stands_at place i x = there_is (λ y. place y == i) x
 
 -- the call of this place is the longest parked of its kind on the queue
-abbrev pub is_longest : Kind → ℕ → Queue → Bool
+abbrev pub is_longest : ParkedKind → ℕ → Queue → Bool
 is_longest Sending i q = stands_at (λ m. m.place) i (first q.senders)
 is_longest Receiving i q = stands_at (λ w. w.place) i (first q.receivers)
 
 -- a receive serves sends, and a send serves receives
-abbrev pub serves : Kind → Act → Bool
+abbrev pub serves : ParkedKind → Act → Bool
 serves Sending (Receives w) = true
 serves Receiving (Sends m) = true
 serves _ _ = false

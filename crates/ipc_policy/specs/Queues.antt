@@ -1,13 +1,14 @@
 -- What sends, receives, interrupts and hang-ups make of a queue.
 use Rattle.std.specs.Prelude.{Bool, true, false, ℕ, ◌||◌, ◌==◌, not, nat_le, List, [], ◌∷◌, ◌++◌, length, filter, Option, Some, None, if◌then◌else◌}
 use Rattle.ipc_terms.specs.Lists.{first}
+use Rattle.ipc_terms.specs.Objects.{as_queue}
 use Rattle.ipc_terms.specs.Priorities.{first_of_greatest}
+use Rattle.ipc_terms.specs.declared.call.Attributes.{Attributes}
 use Rattle.ipc_terms.specs.declared.call.Call.TheVariants.{MqSend, MqReceive, Interrupt}
 use Rattle.ipc_terms.specs.declared.record.Event.{Event}
 use Rattle.ipc_terms.specs.declared.record.Event.TheVariants.{Do, Hangup}
 use Rattle.ipc_policy.specs.declared.config.Config.{Config}
 use Rattle.ipc_policy.specs.declared.config.Held.{Held}
-use Rattle.ipc_policy.specs.declared.config.Object.{Object}
 use Rattle.ipc_policy.specs.History.{History, is_accepted, listed, there_is}
 use Rattle.ipc_policy.specs.Objects.{object}
 use Rattle.ipc_policy.specs.Descriptions.{holds}
@@ -107,14 +108,18 @@ receivers_after Rests q = q.receivers
 abbrev pub queue_after : ℕ → Act → Queue → Queue
 queue_after maxmsg a q = record { contents = contents_after maxmsg a q; senders = senders_after maxmsg a q; receivers = receivers_after a q }
 
--- how many messages an object may have: 0 where there is no object
-abbrev pub room : Option Object → ℕ
+-- how many messages a queue may have: 0 where there is no queue
+abbrev pub room : Option Attributes → ℕ
 room None = 0
-room (Some x) = x.attributes.maxmsg
+room (Some x) = x.maxmsg
+
+-- the attributes of object o, where it is a queue
+abbrev pub attributes : Config → History → ℕ → Option Attributes
+attributes c h o = as_queue (object c h o)
 
 -- how many messages queue o may have
 abbrev pub maxmsg : Config → History → ℕ → ℕ
-maxmsg c h o = room (object c h o)
+maxmsg c h o = room (attributes c h o)
 
 -- queue o
 unfoldable pub queue : Config → History → ℕ → Queue
@@ -134,10 +139,10 @@ senders c h o = (queue c h o).senders
 abbrev pub receivers : Config → History → ℕ → List Wait
 receivers c h o = (queue c h o).receivers
 
--- there is such an object, and it has as many messages as it may
+-- there is such a queue, and it has as many messages as it may
 abbrev pub is_full : Config → History → ℕ → Bool
-is_full c h o = there_is (λ x. has_all x.attributes.maxmsg (contents c h o)) (object c h o)
+is_full c h o = there_is (λ x. has_all x.maxmsg (contents c h o)) (attributes c h o)
 
--- there is such an object, and it has no messages
+-- there is such a queue, and it has no messages
 abbrev pub is_empty : Config → History → ℕ → Bool
-is_empty c h o = there_is (λ x. has_none (contents c h o)) (object c h o)
+is_empty c h o = there_is (λ x. has_none (contents c h o)) (attributes c h o)

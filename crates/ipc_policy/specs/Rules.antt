@@ -2,6 +2,7 @@
 -- where there is one, but for the rules 8 and 31.
 use Rattle.std.specs.Prelude.{Bool, true, false, ℕ, ◌&&◌, ◌||◌, ◌==◌, not, nat_lt, nat_le, length, Option, Some, None, is_some, is_none, if◌then◌else◌, option_and_then}
 use Rattle.ipc_terms.specs.Flags.{has_create, has_exclusive}
+use Rattle.ipc_terms.specs.Objects.{family_of, as_queue, attributes_asked}
 use Rattle.ipc_terms.specs.Names.{same_family, has_name_form, is_long_name}
 use Rattle.ipc_terms.specs.declared.rule.Rule.{Rule}
 use Rattle.ipc_terms.specs.declared.rule.Rule.TheVariants.{NoSession, InCall, NotInCall, NameForm, NameLong, BadDescr, NotForWrite, NotForRead, DirSearch, DirRead, Absent, Present, ModeDenied, DirWrite, Sticky, AttrRange, DescrLimit, PrioRange, MessageLong, BufferShort, WouldBlock, BadKey}
@@ -21,7 +22,8 @@ use Rattle.ipc_access.specs.Sticky.{lets_remove}
 use Rattle.ipc_access.specs.Users.{cred_of}
 use Rattle.ipc_policy.specs.declared.config.Config.{Config}
 use Rattle.ipc_terms.specs.declared.facts.Facts.{Facts}
-use Rattle.ipc_policy.specs.declared.config.Object.{Object}
+use Rattle.ipc_terms.specs.declared.object.Object.{Object}
+use Rattle.ipc_policy.specs.declared.config.TheConstants.{DESCRIPTIONS_MAX, MQ_PRIO_MAX, HARD_MSG_MAX, HARD_MSGSIZE_MAX}
 use Rattle.ipc_policy.specs.History.{History}
 pub use Rattle.ipc_policy.specs.History.{there_is}
 use Rattle.ipc_policy.specs.Sessions.{live, cred}
@@ -51,8 +53,8 @@ bits_wanted Both = 6
 abbrev pub out_of_range : Config → Option Cred → Option Attributes → Bool
 out_of_range c (Some who) (Some given) =
     (given.maxmsg == 0) || (given.msgsize == 0)
-    || nat_lt (if who.uid.0 == 0 then 65536 else c.limits.msg_max) given.maxmsg
-    || nat_lt (if who.uid.0 == 0 then 16777216 else c.limits.msgsize_max) given.msgsize
+    || nat_lt (if who.uid.0 == 0 then HARD_MSG_MAX else c.limits.msg_max) given.maxmsg
+    || nat_lt (if who.uid.0 == 0 then HARD_MSGSIZE_MAX else c.limits.msgsize_max) given.msgsize
 out_of_range c _ _ = false
 
 -- there are a user and an object, and the directory does not let the user remove the object's name
@@ -63,11 +65,15 @@ removal_denied _ directory _ = false
 -- there is an object, and it is of the family
 abbrev pub is_of_family : Family → Option Object → Bool
 is_of_family family None = false
-is_of_family family (Some x) = same_family x.family family
+is_of_family family (Some x) = same_family (family_of x.kind) family
 
 -- what session s has by description d
 abbrev pub object_held : Config → History → ℕ → ℕ → Option Object
 object_held c h s d = option_and_then (λ x. object c h x.object) (holds h s d)
+
+-- the attributes of the queue that session s has by description d
+abbrev pub attributes_held : Config → History → ℕ → ℕ → Option Attributes
+attributes_held c h s d = as_queue (object_held c h s d)
 
 -- session s does not hold description d, or it gives no object of the family
 abbrev pub not_held : Config → History → ℕ → Family → ℕ → Bool
@@ -173,25 +179,25 @@ sticky c h e = there_is (λ what. removal_denied (cred c h what.session.0) (dire
 
 -- 20: a creating open with attributes that are 0 or above the caller's limits
 unfoldable pub attr_range : Config → History → Event → Bool
-attr_range c h e = there_is (λ asked. creating h asked && out_of_range c (cred c h asked.session.0) asked.attributes) (opening e)
+attr_range c h e = there_is (λ asked. creating h asked && out_of_range c (cred c h asked.session.0) (attributes_asked asked.kind)) (opening e)
 
 -- 24: an open while the session holds 1,024 descriptions
 unfoldable pub descr_limit : Config → History → Event → Bool
-descr_limit c h e = there_is (λ asked. nat_le 1024 (held_count h asked.session.0)) (opening e)
+descr_limit c h e = there_is (λ asked. nat_le DESCRIPTIONS_MAX (held_count h asked.session.0)) (opening e)
 
 -- 25: a send with a priority of 32,768 or more
 unfoldable pub prio_range : Config → History → Event → Bool
-prio_range c h (Do sid (MqSend desc priority bytes)) = nat_le 32768 priority
+prio_range c h (Do sid (MqSend desc priority bytes)) = nat_le MQ_PRIO_MAX priority
 prio_range c h _ = false
 
 -- 26: a send that is longer than the queue's message size
 unfoldable pub message_long : Config → History → Event → Bool
-message_long c h (Do sid (MqSend desc priority bytes)) = there_is (λ x. nat_lt x.attributes.msgsize (length bytes)) (object_held c h sid.0 desc.0)
+message_long c h (Do sid (MqSend desc priority bytes)) = there_is (λ x. nat_lt x.msgsize (length bytes)) (attributes_held c h sid.0 desc.0)
 message_long c h _ = false
 
 -- 27: a receive with a length below the queue's message size
 unfoldable pub buffer_short : Config → History → Event → Bool
-buffer_short c h (Do sid (MqReceive desc length')) = there_is (λ x. nat_lt length' x.attributes.msgsize) (object_held c h sid.0 desc.0)
+buffer_short c h (Do sid (MqReceive desc length')) = there_is (λ x. nat_lt length' x.msgsize) (attributes_held c h sid.0 desc.0)
 buffer_short c h _ = false
 
 -- 29: a send to a full queue, or a receive from an empty one, by a description with NONBLOCK

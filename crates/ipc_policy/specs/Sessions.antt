@@ -1,5 +1,6 @@
 -- Sessions, their users, and their masks.
 use Rattle.std.specs.Prelude.{Bool, true, false, ℕ, ◌%◌, ◌==◌, Option, Some, None, is_some, if◌then◌else◌, unwrap_or, option_and_then}
+use Rattle.std.specs.Option.{option_flatten}
 use Rattle.ipc_terms.specs.declared.ids.Uid.{Uid}
 use Rattle.ipc_terms.specs.declared.call.Call.TheVariants.{Umask}
 use Rattle.ipc_terms.specs.declared.record.Event.{Event}
@@ -17,14 +18,14 @@ is_hello _ before = false
 unfoldable pub hellos : History → ℕ
 hellos h = how_many is_hello h
 
--- session s begins with the hello that has s accepted hellos before it, for the user found
-abbrev pub begins : ℕ → Event → History → Option Uid
-begins s (Hello found) before = if hellos before == s then found else None
+-- session s begins with the hello that has s accepted hellos before it, for the user found, if one was
+abbrev pub begins : ℕ → Event → History → Option (Option Uid)
+begins s (Hello found) before = if hellos before == s then Some found else None
 begins s _ before = None
 
 -- the user of session s
 unfoldable pub user : History → ℕ → Option Uid
-user h s = newest (begins s) h
+user h s = option_flatten (newest (begins s) h)
 
 -- a hang-up ends its session
 abbrev pub hangs_up : ℕ → Event → Bool

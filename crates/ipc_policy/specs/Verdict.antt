@@ -1,5 +1,6 @@
 -- The verdict on an event, what is answered, and which histories are legal.
 use Rattle.std.specs.Prelude.{◌≡◌, ℕ, ◌==◌, find, filter, map, List, [], ◌∷◌, ◌++◌, length, Option, Some, None, option_and_then, if◌then◌else◌}
+pub use Rattle.ipc_terms.specs.Events.{caller}
 use Rattle.ipc_terms.specs.Lists.{first}
 use Rattle.ipc_terms.specs.Rules.{every_rule}
 use Rattle.ipc_terms.specs.declared.rule.Rule.{Rule}
@@ -18,22 +19,16 @@ use Rattle.ipc_policy.specs.History.{History}
 use Rattle.ipc_policy.specs.Sessions.{hellos, live, mask}
 use Rattle.ipc_policy.specs.Names.{bound}
 use Rattle.ipc_policy.specs.declared.config.Held.{Held}
-use Rattle.ipc_policy.specs.declared.config.Object.{Object}
-use Rattle.ipc_policy.specs.Objects.{object, facts, directory}
+use Rattle.ipc_terms.specs.declared.call.Attributes.{Attributes}
+use Rattle.ipc_policy.specs.Objects.{facts, directory}
 use Rattle.ipc_policy.specs.Descriptions.{opens, holds, is_nonblock}
-use Rattle.ipc_policy.specs.Queues.{Send, Wait, next, contents, senders, receivers, is_full}
+use Rattle.ipc_policy.specs.Queues.{Send, Wait, attributes, next, contents, senders, receivers, is_full}
 use Rattle.ipc_policy.specs.Life.{names}
 use Rattle.ipc_policy.specs.Rules.{forbids}
 
 -- the first rule that forbids, in the order of the rules' numbers, or that none does
 unfoldable pub verdict : Config → History → Event → Option Rule
 verdict c h e = find (λ rule. forbids rule c h e) every_rule
-
--- the session that an event names; a hello names nobody
-abbrev pub caller : Event → Sid
-caller (Hello found) = record { 0 = 18446744073709551615 }
-caller (Do sid call) = sid
-caller (Hangup sid) = sid
 
 -- the owner, group and mode of a directory, or of the object to which a name is bound
 abbrev pub facts_meant : Config → History → Target → Option Facts
@@ -77,13 +72,13 @@ receive_answers c h sid o = received sid (next (contents c h o)) (first (senders
 -- a session is told of the queue that it has by description d, where it has one
 abbrev pub attributes_told : Config → History → Sid → ℕ → List (Sid × Answer)
 attributes_told c h sid d = by_held (holds h sid.0 d) where
-  by_object : ℕ → Option Object → List (Sid × Answer)
-  by_object o None = []
-  by_object o (Some x) = (sid, Attrs (is_nonblock h sid.0 d) x.attributes (length (contents c h o))) ∷ []
+  by_queue : ℕ → Option Attributes → List (Sid × Answer)
+  by_queue o None = []
+  by_queue o (Some x) = (sid, Attrs (is_nonblock h sid.0 d) x (length (contents c h o))) ∷ []
 
   by_held : Option Held → List (Sid × Answer)
   by_held None = []
-  by_held (Some x) = by_object x.object (object c h x.object)
+  by_held (Some x) = by_queue x.object (attributes c h x.object)
 
 -- to whom an accepted event is answered, and what
 abbrev pub accepted_answers : Config → History → Event → List (Sid × Answer)

@@ -1,11 +1,26 @@
 //! What the policy speaks of, beside events and records.
 
 use ipc_access::Users;
-use ipc_terms::{Access, Attributes, Family, Sid, Uid};
+use ipc_terms::{Access, Sid};
 
-/// Limits that are given at the start (`mq_overview(7)`): `msg_max`, 1 to 65,536, bounds the
-/// messages of a queue; `msgsize_max`, 1 to 16,777,216, the bytes of a message; `queues_max`, 0 to
-/// 65,536, the queues that are alive. User 0 has limits of its own.
+/// The descriptions that a session may hold at a time.
+pub const DESCRIPTIONS_MAX: usize = 1024;
+
+/// How many priorities there are, from 0 on (POSIX.1-2017, `MQ_PRIO_MAX`).
+pub const MQ_PRIO_MAX: u32 = 32_768;
+
+/// The greatest `msg_max`, and the messages that a queue of user 0 may have (`HARD_MSGMAX`).
+pub const HARD_MSG_MAX: u32 = 65_536;
+
+/// The greatest `msgsize_max`, and the bytes that a message of a queue of user 0 may have (`HARD_MSGSIZEMAX`).
+pub const HARD_MSGSIZE_MAX: u32 = 16_777_216;
+
+/// The greatest `queues_max`.
+pub const HARD_QUEUES_MAX: u32 = 65_536;
+
+/// Limits that are given at the start (`mq_overview(7)`): `msg_max`, from 1 to `HARD_MSG_MAX`, bounds
+/// the messages of a queue; `msgsize_max`, from 1 to `HARD_MSGSIZE_MAX`, the bytes of a message;
+/// `queues_max`, from 0 to `HARD_QUEUES_MAX`, the queues that are alive. User 0 has limits of its own.
 #[derive(Clone, Copy, PartialEq, Eq, Debug)]
 pub struct Limits {
     pub msg_max: u32,
@@ -27,14 +42,6 @@ impl Limits {
 pub struct Config {
     pub users: Users,
     pub limits: Limits,
-}
-
-/// What an object keeps from its creation on.
-#[derive(Clone, Copy, PartialEq, Eq, Debug)]
-pub struct Object {
-    pub family: Family,
-    pub creator: Uid,
-    pub attributes: Attributes,
 }
 
 /// What a description gives, and to which session.

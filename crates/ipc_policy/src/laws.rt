@@ -10,7 +10,8 @@ pub fn least()
     ensures { VerdictIsLeast }
 {}
 
-/// A refused event changes no value, and adds its refusal alone to the answers of the session that it names.
+/// A refused event changes no value and no verdict to come, and adds its refusal alone to the answers of the
+/// session that it names.
 pub fn quiet()
     ensures values { RefusedIsQuiet }
     ensures answers { RefusedIsAnswered }
@@ -58,7 +59,8 @@ pub fn parked_alive()
 {}
 
 /// In a legal history a queue has at most as many messages as its attributes allow, a receive is parked on it only
-/// while it is empty, and a send only while it is full.
+/// while it is empty, and a send only while it is full. So it is where a queue may have a message at all: `msg_max` is
+/// 1 or more, as in each configuration that is in range.
 pub fn bounded()
     ensures { EachIsBounded }
 {}

@@ -5,7 +5,11 @@
 mod config;
 mod laws;
 
-pub use config::{Config, Held, Limits, Object};
+pub use config::{
+    Config, DESCRIPTIONS_MAX, HARD_MSG_MAX, HARD_MSGSIZE_MAX, HARD_QUEUES_MAX, Held, Limits,
+    MQ_PRIO_MAX,
+};
+pub use ipc_terms::{Kind, Object};
 pub use laws::{
     bound, bounded, grow, in_order, inside_by_place, least, listed, parked_alive, parked_by_place,
     parked_listed, quiet,

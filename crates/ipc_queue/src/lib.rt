@@ -3,7 +3,5 @@
 #![tactic(auto)]
 
 mod queue;
-#[cfg(test)]
-mod tests;
 
 pub use queue::{ParkedSend, Queue, ReceiveOutcome, SendOutcome, Ticket};

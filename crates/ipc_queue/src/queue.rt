@@ -1,6 +1,6 @@
 //! The queue.
 
-ghost use Rattle.std.specs.Prelude.{◌≡◌, ◌<◌, ◌≤◌, ◌^◌, [], true, length, vec_len, vec_capacity, OnOk, OnErr, IfOk, IsOk};
+ghost use Rattle.std.specs.Prelude.{◌≡◌, ◌<◌, ◌≤◌, ◌^◌, [], Bool, true, length, vec_len, vec_capacity, OnOk, OnErr, IfOk, IsOk};
 ghost use Rattle.std.specs.List.{list_any, position};
 ghost use Rattle.std.specs.Option.{option_map};
 ghost use Rattle.ipc_terms.specs.Lists.{first};
@@ -58,6 +58,7 @@ pub struct Queue {
     msgsize: u32,
     tickets: Vec<Ticket>,
     senders: VecDeque<ParkedSend>,
+    /// A receive brings nothing, so its session is all of it.
     receivers: VecDeque<Sid>,
 }
 
@@ -151,8 +152,10 @@ impl Queue {
         ensures found { result ≡ is_parked sid self.old }
         ensures rest { self.new ≡ withdrawn sid self.old }
     {
-        let sends = remove_sender(&mut self.senders, sid);
-        let receives = remove_receiver(&mut self.receivers, sid);
+        let sender = sender_index(&self.senders, sid);
+        let receiver = receiver_index(&self.receivers, sid);
+        let sends = remove_first(&mut self.senders, sender);
+        let receives = remove_first(&mut self.receivers, receiver);
         sends || receives
     }
 
@@ -236,30 +239,19 @@ fn ticket_index(tickets: &[Ticket], ticket: Ticket) -> Option<usize>
     tickets.iter().position(|found| *found == ticket)
 }
 
-/// Takes out the session's longest parked send, and says whether there was one.
-fn remove_sender(senders: &mut VecDeque<ParkedSend>, sid: Sid) -> bool
-    ensures found { result ≡ list_any (is_sender sid) senders.old.items }
-    ensures rest { senders.new.items ≡ without_first (is_sender sid) senders.old.items }
-{
-    match sender_index(senders, sid) {
-        Some(index) => senders.remove(index).is_some(),
-        None => false,
-    }
-}
-
 fn sender_index(senders: &VecDeque<ParkedSend>, sid: Sid) -> Option<usize>
     ensures { result ≡ position (is_sender sid) senders.now.items }
 {
     senders.iter().position(|sender| sender.session == sid)
 }
 
-/// Takes out the session's longest parked receive, and says whether there was one.
-fn remove_receiver(receivers: &mut VecDeque<Sid>, sid: Sid) -> bool
-    ensures found { result ≡ list_any (is_session sid) receivers.old.items }
-    ensures rest { receivers.new.items ≡ without_first (is_session sid) receivers.old.items }
+/// Takes out the item of this index, the first that passes some test, and says whether there was one.
+fn remove_first<T: Drop>(items: &mut VecDeque<T>, index: Option<usize>) -> bool
+    ensures found { (test : T → Bool) → index ≡ position test items.old.items → result ≡ list_any test items.old.items }
+    ensures rest { (test : T → Bool) → index ≡ position test items.old.items → items.new.items ≡ without_first test items.old.items }
 {
-    match receiver_index(receivers, sid) {
-        Some(index) => receivers.remove(index).is_some(),
+    match index {
+        Some(index) => items.remove(index).is_some(),
         None => false,
     }
 }

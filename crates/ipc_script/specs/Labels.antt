@@ -10,12 +10,9 @@ use Rattle.ipc_script.specs.declared.labels.Started.{Started}
 abbrev pub is_label_byte : ℕ → Bool
 is_label_byte b = (nat_le 97 b && nat_le b 122) || (nat_le 48 b && nat_le b 57)
 
-abbrev pub label_length : List ℕ → Bool
-label_length word = nat_le 1 (length word) && nat_le (length word) 16
-
 -- 1 to 16 lower-case ASCII letters or digits
 abbrev pub label_form : List ℕ → Bool
-label_form word = label_length word && list_all is_label_byte word
+label_form word = nat_le 1 (length word) && nat_le (length word) 16 && list_all is_label_byte word
 
 -- the session that a label started last
 abbrev pub newest_of : List Started → List ℕ → Option Sid

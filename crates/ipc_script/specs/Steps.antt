@@ -7,7 +7,7 @@ use Rattle.ipc_terms.specs.declared.ids.Sid.{Sid}
 use Rattle.ipc_terms.specs.declared.record.Event.{Event}
 use Rattle.ipc_terms.specs.declared.record.Event.TheVariants.{Hello, Do, Hangup}
 use Rattle.ipc_words.specs.Answers.{answer_line}
-use Rattle.ipc_words.specs.Grammar.{Means}
+use Rattle.ipc_words.specs.Calls.{Means}
 
 -- `hello KEY` is a hello of the user whose key it is; `hangup` alone is a hang-up of the session that acts
 -- for the label; any other call is that session's, and the one that the words mean

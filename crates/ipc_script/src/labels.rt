@@ -3,8 +3,7 @@
 ghost use Rattle.std.specs.Prelude.{◌≡◌, [], ◌∷◌, ◌++◌, OnOk, OnErr, IfOk};
 ghost use Rattle.std.specs.List.{list_all};
 ghost use Rattle.std.specs.Option.{option_map};
-ghost use Rattle.std.specs.Str.{bytes_eq};
-ghost use Rattle.ipc_script.specs.Labels.{is_label_byte, label_length, label_form, newest_of, starter_of};
+ghost use Rattle.ipc_script.specs.Labels.{is_label_byte, label_form, newest_of, starter_of};
 
 use ipc_terms::Sid;
 use std::alloc::{AllocError, Global};
@@ -14,13 +13,7 @@ use std::marker::Model;
 pub fn is_label(word: &str) -> bool
     ensures { result ≡ label_form word.now }
 {
-    has_label_length(word) && has_label_bytes(word.as_bytes())
-}
-
-fn has_label_length(word: &str) -> bool
-    ensures { result ≡ label_length word.now }
-{
-    1 <= word.len() && word.len() <= 16
+    1 <= word.len() && word.len() <= 16 && has_label_bytes(word.as_bytes())
 }
 
 fn has_label_bytes(bytes: &[u8]) -> bool
@@ -62,13 +55,6 @@ impl Label {
         ensures { result.now ≡ self.now }
     {
         self.text.as_str()
-    }
-
-    /// Whether this is its text.
-    pub fn is(&self, text: &str) -> bool
-        ensures { result ≡ bytes_eq self.now text.now }
-    {
-        self.as_str() == text
     }
 }
 
@@ -135,7 +121,7 @@ fn newest_in(started: &[Started], label: &str) -> Option<Sid>
     started
         .iter()
         .rev()
-        .find(|s| s.label.is(label))
+        .find(|s| s.label.as_str() == label)
         .map(|s| s.sid)
 }
 

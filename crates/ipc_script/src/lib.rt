@@ -5,8 +5,6 @@ mod fault;
 mod labels;
 mod lines;
 mod script;
-#[cfg(test)]
-mod tests;
 
 pub use fault::ScriptFault;
 pub use script::run_script;

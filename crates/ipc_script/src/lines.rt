@@ -1,18 +1,21 @@
 //! The lines of an input, over a bounded number of reads.
 
-ghost use Rattle.std.specs.Prelude.{◌≡◌, ◌+◌, ◌-◌, ◌^◌, OnOk, IsErr};
-ghost use Rattle.std.specs.Iterator.{at_most};
+ghost use Rattle.std.specs.Prelude.{◌≡◌, ◌+◌, ◌≤◌, OnOk, IfOk, IsErr, if◌then◌else◌, true, length};
+ghost use Rattle.ipc_script.specs.Lines.{reads_left};
 
 use std::alloc::Global;
-use std::io;
 use std::io::{BufRead, BufReader, ErrorKind, Read, Take};
+use std::{io, str};
 
 /// The longest line that is read, in bytes without its line feed.
-pub const LONGEST_LINE: u64 = 1_048_576;
+const LONGEST_LINE: u64 = 1_048_576;
+
+/// How many reads of its reader a run makes at most.
+const MOST_READS: u64 = 1_000_000_000;
 
 /// A reader of which at most `left` more reads are made; those that are interrupted count too.
 #[derive(Drop)]
-struct Counted<R> {
+pub struct Counted<R> {
     reader: R,
     left: u64,
 }
@@ -41,7 +44,7 @@ impl<R: Read> Read for Counted<R> {
 }
 
 /// Why there is no next line.
-#[derive(Clone, Copy, PartialEq, Eq, Debug, Drop)]
+#[derive(Drop)]
 pub enum LineFault {
     /// The reader failed, or was read too often.
     Read,
@@ -52,28 +55,29 @@ pub enum LineFault {
 }
 
 /// The lines of an input, without their line feeds. A last line may have none.
-///
-/// Each `Err` is the last item.
 #[derive(Drop)]
 pub struct Lines<R: Read + Drop> {
-    alloc: Global,
     input: Take<BufReader<Counted<R>>>,
+    /// The bytes of the line that was read last.
+    line: Vec<u8>,
     /// How many lines were read.
     count: u64,
     is_over: bool,
 }
 
 impl<R: Read + Drop> Lines<R> {
-    /// The lines of the reader, read by at most so many reads. Takes 8,192 bytes.
-    pub fn new(alloc: Global, reader: R, reads: u64) -> Result<Lines<R>, LineFault> {
+    /// The lines of the reader. Takes 8,192 bytes.
+    pub fn new(alloc: Global, reader: R) -> Result<Lines<R>, LineFault>
+        ensures { IfOk result (λ lines. reads_left lines ≡ 1000000000) }
+    {
         let counted = Counted {
             reader,
-            left: reads,
+            left: MOST_READS,
         };
         match BufReader::new(alloc, counted) {
             Ok(reader) => Ok(Lines {
-                alloc,
                 input: reader.take(0),
+                line: Vec::new(alloc),
                 count: 0,
                 is_over: false,
             }),
@@ -86,62 +90,61 @@ impl<R: Read + Drop> Lines<R> {
         self.count.saturating_add(1)
     }
 
-    /// The next line with its line feed, if it has one; empty at the input's end. Of a line that
-    /// is too long one byte more than the longest.
-    fn read_bytes(&mut self) -> Result<Vec<u8>, LineFault>
-        ensures { self.new.count ≡ self.old.count }
-    {
-        let mut bytes = Vec::new(self.alloc);
-        self.input.set_limit(LONGEST_LINE + 1);
-        match self.input.read_until(b'\n', &mut bytes) {
-            Ok(_) => Ok(bytes),
-            Err(e) if e.kind() == ErrorKind::OutOfMemory => Err(LineFault::Memory),
-            Err(_) => Err(LineFault::Read),
+    /// Whether the next line was read in whole together with an earlier one, so that nothing is
+    /// waited for.
+    pub fn is_at_hand(&self) -> bool {
+        self.input.get_ref().buffer().contains(&b'\n')
+    }
+
+    /// The next line, and `None` at the input's end. No further line is to be asked for after an
+    /// `Err`.
+    pub fn next_line(&mut self) -> Result<Option<&str>, LineFault> {
+        if !self.read_line()? {
+            return Ok(None);
+        }
+        match str::from_utf8(&self.line) {
+            Ok(line) => Ok(Some(line)),
+            Err(_) => Err(LineFault::Bad(self.count)),
         }
     }
 
-    fn read_line(&mut self) -> Result<Option<String>, LineFault>
-        ensures { self.new.count ≡ self.old.count }
+    /// Reads the next line's bytes. `false` at the input's end.
+    fn read_line(&mut self) -> Result<bool, LineFault>
+        ensures counted { IfOk result (λ is_there. self.new.count ≡ (if is_there then self.old.count + 1 else self.old.count)) }
+        ensures fits { IfOk result (λ is_there. is_there ≡ true → length self.new.line.items ≤ 1048576) }
     {
-        let mut bytes = self.read_bytes()?;
-        if bytes.is_empty() {
-            return Ok(None);
+        // The reads end long before so many lines were read.
+        if self.is_over || self.count == u64::MAX {
+            return Ok(false);
         }
-        if bytes.last() == Some(&b'\n') {
-            bytes.pop();
+        self.read_bytes()?;
+        if self.line.is_empty() {
+            self.is_over = true;
+            return Ok(false);
+        }
+        self.count += 1;
+        if self.line.last() == Some(&b'\n') {
+            self.line.pop();
         } else {
             self.is_over = true;
         }
-        let fault = LineFault::Bad(self.next_number());
-        if bytes.len() as u64 > LONGEST_LINE {
-            return Err(fault);
+        if self.line.len() as u64 > LONGEST_LINE {
+            return Err(LineFault::Bad(self.count));
         }
-        match String::from_utf8(bytes) {
-            Ok(line) => Ok(Some(line)),
-            Err(_) => Err(fault),
-        }
+        Ok(true)
     }
-}
 
-impl<R: Read + Drop> Iterator for Lines<R> {
-    type Item = Result<String, LineFault>;
-
-    ghost remaining = { λ s. at_most (2 ^ 64 - 1 - s.count) };
-
-    fn next(&mut self) -> Option<Result<String, LineFault>> {
-        // The reads end long before so many lines were read.
-        if self.is_over || self.count == u64::MAX {
-            return None;
+    /// Reads the next line's bytes with their line feed, if there is one; none at the input's end,
+    /// and of a line that is too long one byte more than the longest.
+    fn read_bytes(&mut self) -> Result<(), LineFault>
+        ensures { self.new.count ≡ self.old.count }
+    {
+        self.line.clear();
+        self.input.set_limit(LONGEST_LINE + 1);
+        match self.input.read_until(b'\n', &mut self.line) {
+            Ok(_) => Ok(()),
+            Err(e) if e.kind() == ErrorKind::OutOfMemory => Err(LineFault::Memory),
+            Err(_) => Err(LineFault::Read),
         }
-        let line = self.read_line().transpose();
-        match &line {
-            Some(Ok(_)) => self.count += 1,
-            Some(Err(_)) => {
-                self.count += 1;
-                self.is_over = true;
-            }
-            None => self.is_over = true,
-        }
-        line
     }
 }

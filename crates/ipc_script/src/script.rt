@@ -1,6 +1,6 @@
 //! Running a script.
 
-ghost use Rattle.std.specs.Prelude.{◌≡◌, IfOk, IfErr, false, map, unwrap_or};
+ghost use Rattle.std.specs.Prelude.{◌≡◌, ◌++◌, IfErr, IfOk, OnOk, codes, false, map, unwrap_or};
 ghost use Rattle.std.specs.String.{string_bytes};
 ghost use Rattle.ipc_script.specs.Faults.{is_users_memory};
 ghost use Rattle.ipc_script.specs.Labels.{label_for, newest_of};
@@ -14,10 +14,7 @@ use ipc_core::{Config, Core, Limits};
 use ipc_terms::{Answer, Event, NoMemory, Sid};
 use ipc_words::{WordFault, call_of_words, line_of_answer};
 use std::alloc::{AllocError, Global};
-use std::io::{ErrorKind, Read, Write};
-
-/// How many reads of its reader a run makes at most.
-const MOST_READS: u64 = 1_000_000_000;
+use std::io::{BufWriter, ErrorKind, Read, Write};
 
 /// Runs a script.
 ///
@@ -27,6 +24,9 @@ const MOST_READS: u64 = 1_000_000_000;
 /// lines that begin with `#` are skipped. Each answer of a step is written as a line, in their order
 /// and under the label that started the session which it is for. So a call that is parked writes none
 /// until a later step answers it, another session's or its own interrupt.
+///
+/// Lines are written in blocks. What was answered is written and flushed before more input is waited
+/// for, so whoever reads the answers has each before the next step is given.
 ///
 /// # Errors
 ///
@@ -43,19 +43,20 @@ pub fn run_script<R: Read + Drop, W: Write + Drop>(
 ) -> Result<(), ScriptFault>
     ensures { IfErr result (λ fault. is_users_memory fault ≡ false) }
 {
-    let mut lines = Lines::new(alloc, reader, MOST_READS)?;
+    let mut lines = Lines::new(alloc, reader)?;
     let users = read_users(alloc, &mut lines)?;
     let core = Core::new(alloc, Config { users, limits })?;
     let mut script = Script {
         alloc,
         core,
         labels: Labels::new(alloc),
-        writer,
+        writer: BufWriter::new(alloc, writer).map_err(fault_of_writer)?,
+        line: String::new(alloc),
     };
     let outcome = script.run(lines);
-    let flushed = script.flush();
-    outcome?;
-    flushed
+    // What wasn't written was answered before the run ended.
+    script.flush()?;
+    outcome
 }
 
 /// The users of the lines up to a line `.`.
@@ -63,12 +64,12 @@ fn read_users<R: Read + Drop>(alloc: Global, lines: &mut Lines<R>) -> Result<Use
     ensures { IfErr result (λ fault. is_users_memory fault ≡ false) }
 {
     let mut bytes = Vec::new(alloc);
-    for line in lines.by_ref() {
-        let line = line?;
-        if line.as_str() == "." {
-            return Ok(Users::read(alloc, &bytes)?);
+    for _ in 0..u64::MAX {
+        match lines.next_line()? {
+            Some(".") => return Ok(Users::read(alloc, &bytes)?),
+            Some(line) => bytes.extend_from_slice(line.as_bytes())?,
+            None => break,
         }
-        bytes.extend_from_slice(line.as_bytes())?;
         bytes.push(b'\n')?;
     }
     Err(ScriptFault::Line(lines.next_number()))
@@ -87,15 +88,36 @@ struct Script<W: Write + Drop> {
     alloc: Global,
     core: Core,
     labels: Labels,
-    writer: W,
+    writer: BufWriter<W>,
+    /// The line that is written next.
+    line: String,
+}
+
+/// Lays out a line: a label, a text, and a line end.
+fn lay_line(line: &mut String, label: &str, text: &str) -> Result<(), AllocError>
+    ensures { OnOk result (string_bytes line.new ≡ label.now ++ codes " " ++ text.now ++ codes "\n") }
+{
+    line.clear();
+    line.push_str(label)?;
+    line.push_str(" ")?;
+    line.push_str(text)?;
+    line.push_str("\n")?;
+    Ok(())
 }
 
 impl<W: Write + Drop> Script<W> {
-    fn run<R: Read + Drop>(&mut self, lines: Lines<R>) -> Result<(), ScriptFault>
+    /// Takes line after line. Before input is waited for all answers are written.
+    fn run<R: Read + Drop>(&mut self, mut lines: Lines<R>) -> Result<(), ScriptFault>
         ensures { IfErr result (λ fault. is_users_memory fault ≡ false) }
     {
-        for line in lines {
-            self.take_line(line?.as_str())?;
+        for _ in 0..u64::MAX {
+            if !lines.is_at_hand() {
+                self.flush()?;
+            }
+            match lines.next_line()? {
+                Some(line) => self.take_line(line)?,
+                None => break,
+            }
         }
         Ok(())
     }
@@ -154,14 +176,30 @@ impl<W: Write + Drop> Script<W> {
         self.labels.newest(label).unwrap_or(Sid::NOBODY)
     }
 
-    /// Steps the core, and writes its answers. What is written isn't kept for the session to take.
+    /// Makes the step, and writes its answers, the caller's first. What is written isn't kept for the
+    /// session to take.
     fn step(&mut self, label: &str, event: Event) -> Result<(), ScriptFault>
         ensures { IfErr result (λ fault. is_users_memory fault ≡ false) }
     {
-        let answers = self.core.step(self.alloc, event)?;
-        for (sid, answer) in &answers {
-            self.write_answer(label, *sid, answer)?;
-            self.core.take(*sid);
+        let posted = self.core.post(self.alloc, event)?;
+        if let (Some(rule), Some(sid)) = (posted.verdict, posted.caller) {
+            // A refusal to nobody, or to a session that isn't live, stands in no outbox.
+            self.core.take(sid);
+            return self.write_answer(label, sid, &Answer::Refused(rule));
+        }
+        self.write_untaken(label, posted.caller)?;
+        self.write_untaken(label, posted.other)
+    }
+
+    /// Writes what the session has not taken yet.
+    fn write_untaken(&mut self, label: &str, sid: Option<Sid>) -> Result<(), ScriptFault>
+        ensures { IfErr result (λ fault. is_users_memory fault ≡ false) }
+    {
+        let Some(sid) = sid else {
+            return Ok(());
+        };
+        for answer in &self.core.take(sid) {
+            self.write_answer(label, sid, answer)?;
         }
         Ok(())
     }
@@ -173,34 +211,35 @@ impl<W: Write + Drop> Script<W> {
         if let Answer::Started(started) = answer {
             self.labels.start(self.alloc, label, *started)?;
         }
-        let line = self.line_of(label, sid, answer)?;
-        self.write(line.as_str())
+        self.lay_answer(label, sid, answer)?;
+        self.put()
     }
 
-    /// The line of an answer, under the label that started the session which it is for, and that of
-    /// no session under the line's own.
-    fn line_of(&self, label: &str, sid: Sid, answer: &Answer) -> Result<String, NoMemory>
-        ensures { IfOk result (λ line. string_bytes line
-            ≡ labelled_line (label_for self.now.labels label.now sid) answer.now) }
+    /// Lays out the line of an answer, under the label that started the session which it is for,
+    /// and that of no session under the line's own.
+    fn lay_answer(&mut self, label: &str, sid: Sid, answer: &Answer) -> Result<(), NoMemory>
+        ensures { OnOk result (string_bytes self.new.line
+            ≡ labelled_line (label_for self.old.labels label.now sid) answer.now) }
     {
         let text = line_of_answer(self.alloc, answer)?;
         let label = self.labels.starter(sid).unwrap_or(label);
-        Ok(format!(in self.alloc; "{label} {text}\n")?)
+        lay_line(&mut self.line, label, text.as_str())?;
+        Ok(())
     }
 
     fn write_line(&mut self, label: &str, text: &str) -> Result<(), ScriptFault>
         ensures { IfErr result (λ fault. is_users_memory fault ≡ false) }
     {
-        let line = format!(in self.alloc; "{label} {text}\n")?;
-        self.write(line.as_str())
+        lay_line(&mut self.line, label, text)?;
+        self.put()
     }
 
-    /// Writes a line at once, so that whoever reads it needn't wait for the next.
-    fn write(&mut self, line: &str) -> Result<(), ScriptFault>
+    /// Writes the line that was laid out, into the block.
+    fn put(&mut self) -> Result<(), ScriptFault>
         ensures { IfErr result (λ fault. is_users_memory fault ≡ false) }
     {
         self.writer
-            .write_all(line.as_bytes())
+            .write_all(self.line.as_bytes())
             .map_err(fault_of_writer)
     }
 

@@ -1,11 +1,14 @@
 //! What is asked, and what is answered.
 
+ghost use Rattle.std.specs.Prelude.{◌≡◌, IfOk};
+
 use crate::bytes::Bytes;
 use crate::facts::Facts;
 use crate::flags::OpenFlags;
 use crate::ids::{Desc, Family, Mode, Sid, Target};
 use crate::name::{Name, Names};
 use crate::rule::Rule;
+use std::alloc::AllocError;
 
 /// What the caller of an open wants to do with the object (`mq_open`: `O_RDONLY`, `O_WRONLY`, `O_RDWR`).
 #[derive(Clone, Copy, PartialEq, Eq, Debug)]
@@ -111,4 +114,35 @@ pub enum Answer {
     Refused(Rule),
     /// To a call that was parked: an interrupt ended it (POSIX.1-2017, `EINTR`).
     Interrupted,
+}
+
+impl Answer {
+    pub fn try_clone(&self) -> Result<Answer, AllocError>
+        ensures { IfOk result (λ copy. copy ≡ self.now) }
+    {
+        Ok(match self {
+            Answer::Started(sid) => Answer::Started(*sid),
+            Answer::Done => Answer::Done,
+            Answer::Opened(desc) => Answer::Opened(*desc),
+            Answer::Mask(mask) => Answer::Mask(*mask),
+            Answer::Sent => Answer::Sent,
+            Answer::Received { priority, bytes } => Answer::Received {
+                priority: *priority,
+                bytes: bytes.try_clone()?,
+            },
+            Answer::Attrs {
+                nonblock,
+                attributes,
+                messages,
+            } => Answer::Attrs {
+                nonblock: *nonblock,
+                attributes: *attributes,
+                messages: *messages,
+            },
+            Answer::Names(names) => Answer::Names(names.try_clone()?),
+            Answer::Stat(facts) => Answer::Stat(*facts),
+            Answer::Refused(rule) => Answer::Refused(*rule),
+            Answer::Interrupted => Answer::Interrupted,
+        })
+    }
 }

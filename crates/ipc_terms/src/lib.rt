@@ -9,11 +9,10 @@ mod facts;
 mod flags;
 mod ids;
 mod name;
+mod object;
 mod push;
 mod record;
 mod rule;
-#[cfg(test)]
-mod tests;
 
 pub use binding::Binding;
 pub use bytes::Bytes;
@@ -23,6 +22,7 @@ pub use facts::Facts;
 pub use flags::OpenFlags;
 pub use ids::{Desc, Family, Gid, Mode, Sid, Target, Uid};
 pub use name::{Name, Names};
+pub use object::{Asked, Kind, Object};
 pub use push::push_within;
 pub use record::{Event, Record};
 pub use rule::Rule;

@@ -7,7 +7,7 @@ ghost use Rattle.std.proofs.Common.{rules};
 ghost use Rattle.ipc_terms.specs.Names.{same_name};
 
 use crate::bytes::Bytes;
-use std::alloc::AllocError;
+use std::alloc::{AllocError, Global};
 use std::marker::Model;
 
 /// The name of an object as a caller gave it, whether or not it has the form of one; seen as the
@@ -103,6 +103,24 @@ impl Names {
         let Names { names } = self;
         names
     }
+
+    pub fn try_clone(&self) -> Result<Names, AllocError>
+        ensures { IfOk result (λ copy. copy ≡ self.now) }
+    {
+        Ok(Names {
+            names: copies_of(*self.names.allocator(), &self.names)?,
+        })
+    }
+}
+
+fn copies_of(alloc: Global, names: &[Name]) -> Result<Vec<Name>, AllocError>
+    ensures { IfOk result (λ copies. copies.items ≡ names.now) }
+{
+    let mut copies = Vec::with_capacity(alloc, names.len())?;
+    for name in names {
+        copies.push(name.try_clone()?)?;
+    }
+    Ok(copies)
 }
 
 impl PartialEq for Names {

@@ -3,8 +3,6 @@
 #![tactic(auto)]
 
 mod message;
-#[cfg(test)]
-mod tests;
 mod trail;
 
 pub use trail::Trail;

@@ -71,10 +71,9 @@ impl Trail {
     pub fn reserve_one(&mut self) -> Result<(), NoMemory>
         ensures kept { self.new.history ≡ self.old.history }
         ensures room { OnOk result (0 < self.new.room) }
-        ensures bound { OnOk result (length self.new.history + 1 < 2 ^ 64) }
+        ensures fits { OnOk result (length self.new.history + 1 < 2 ^ 63) }
     {
         self.records.reserve(1)?;
-        let _capacity = self.records.capacity();
         Ok(())
     }
 

@@ -1,7 +1,10 @@
 pub mod Numbers
 pub mod Values
 pub mod Hyphens
-pub mod Calls
 pub mod Grammar
+pub mod Parses
+pub mod Readings
+pub mod Usage
+pub mod Calls
 pub mod Printing
 pub mod Answers

@@ -3,29 +3,31 @@
 
 ghost use Rattle.std.specs.Prelude.{◌≡◌, map};
 ghost use Rattle.std.specs.Bool.{OnFalse, OnTrue};
-ghost use Rattle.ipc_words.specs.Grammar.{Means};
+ghost use Rattle.ipc_words.specs.Calls.{Means};
 ghost use Rattle.ipc_words.specs.Hyphens.{any_breaks_hyphen_rule};
 
 mod answers;
+mod calls;
 mod commands;
-mod entries;
 mod faults;
 mod hyphens;
 mod numbers;
-mod parses;
+mod parsing;
 mod printing;
+mod readings;
 mod rules;
-#[cfg(test)]
-mod tests;
+mod usage;
 mod values;
 
-use crate::entries::meant_call;
+use crate::calls::call_of_matches;
+use crate::commands::form_of_word;
 use crate::hyphens::any_is_refused;
-use crate::parses::entries_of_words;
+use crate::parsing::matches_of_words;
 pub use answers::line_of_answer;
 pub use faults::WordFault;
 use ipc_terms::Call;
 use std::alloc::Global;
+pub use usage::usage_of_commands;
 
 /// The call that a command's words mean, as `mq-open /jobs rw --create`.
 ///
@@ -39,7 +41,11 @@ pub fn call_of_words(alloc: Global, words: &[&str]) -> Result<Call, WordFault>
     if any_is_refused(words) {
         return Err(WordFault::Usage);
     }
-    let entries = entries_of_words(alloc, words)?;
-    let call = meant_call(alloc, &entries)?;
+    let [word, rest @ ..] = words else {
+        return Err(WordFault::Usage);
+    };
+    let form = form_of_word(word).ok_or(WordFault::Usage)?;
+    let found = matches_of_words(alloc, form, rest)?;
+    let call = call_of_matches(alloc, form.verb, &found)?;
     Ok(call)
 }

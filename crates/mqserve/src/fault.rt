@@ -6,7 +6,7 @@ ghost use Rattle.clap.specs.Words.{kind_of};
 ghost use Rattle.ipc_script.specs.declared.fault.ScriptFault.TheVariants.{Memory};
 ghost use Rattle.mqserve.specs.declared.fault.ProgramFault.TheVariants.{Script};
 ghost use Rattle.mqserve.specs.Faults.{of_arguments, of_reading};
-ghost use Rattle.mqserve.specs.Statuses.{IsStatus};
+ghost use Rattle.mqserve.specs.Statuses.{status_of_fault, status_of_arguments};
 
 use clap::error::ErrorKind;
 use ipc_script::ScriptFault;
@@ -26,11 +26,11 @@ pub enum ProgramFault {
 impl ProgramFault {
     /// The status to exit with.
     pub fn status(&self) -> u8
-        ensures { IsStatus self.now result }
+        ensures { result ≡ status_of_fault self.now }
     {
         match self {
-            ProgramFault::Arguments(error) if !error.use_stderr() => 0,
-            ProgramFault::Arguments(_) | ProgramFault::NotUtf8 => 2,
+            ProgramFault::Arguments(error) => status_of_arguments(error.kind()),
+            ProgramFault::NotUtf8 => 2,
             ProgramFault::Script(fault) => fault.status(),
         }
     }
@@ -42,6 +42,15 @@ impl ProgramFault {
             ProgramFault::NotUtf8 => eprintln!(rt; "error: an argument is not UTF-8"),
             ProgramFault::Script(fault) => eprintln!(rt; "mqserve: {fault}"),
         };
+    }
+}
+
+fn status_of_arguments(kind: ErrorKind) -> u8
+    ensures { result ≡ status_of_arguments kind }
+{
+    match kind {
+        ErrorKind::DisplayHelp | ErrorKind::DisplayVersion => 0,
+        _ => 2,
     }
 }
 

@@ -3,9 +3,11 @@
 #![tactic(auto)]
 
 mod fault;
+mod guidance;
 
 use clap::Command;
 use fault::ProgramFault;
+use guidance::{help_text, hint};
 use ipc_core::Limits;
 use ipc_script::run_script;
 use std::alloc::Global;
@@ -25,6 +27,7 @@ fn main(rt: HostRuntime) -> ExitCode {
 fn run(rt: &HostRuntime) -> Result<(), ProgramFault> {
     let words: Vec<String> = env::args(rt)?.collect(rt.alloc())?;
     read_arguments(rt.alloc(), &words)?;
+    hint(rt);
     run_script(rt.alloc(), Limits::STANDARD, rt.stdin(), rt.stdout())?;
     Ok(())
 }
@@ -32,10 +35,14 @@ fn run(rt: &HostRuntime) -> Result<(), ProgramFault> {
 /// Reads the program's arguments, of which the first is its name. A script is all that can be
 /// asked for.
 fn read_arguments(alloc: Global, words: &[String]) -> Result<(), ProgramFault> {
-    let script = Command::new(alloc, "script").about("Run a script from standard input");
+    let text = help_text(alloc)?;
+    let script = Command::new(alloc, "script")
+        .about("Run a script from standard input")
+        .after_help(text.as_str());
     let command = Command::new(alloc, "mqserve")
         .version("0.1.0")
         .about("Serves POSIX message queues and named semaphores")
+        .after_help(text.as_str())
         .subcommand(script)?;
     command.try_get_matches_from(words)?;
     Ok(())

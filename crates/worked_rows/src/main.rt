@@ -10,7 +10,7 @@ use row::judge;
 use std::io;
 
 /// The scripts, in the order in which they are run.
-const ROWS: [&str; 41] = [
+const ROWS: [&str; 48] = [
     "first_run",
     "present_before_mode",
     "name_forms",
@@ -41,6 +41,9 @@ const ROWS: [&str; 41] = [
     "refused_while_parked",
     "nonblock_where_others_park",
     "parked_under_an_older_label",
+    "labels_and_sessions",
+    "lines_and_words",
+    "line_not_utf8",
     "users_found_by_key",
     "users_none",
     "users_most",
@@ -49,6 +52,10 @@ const ROWS: [&str; 41] = [
     "users_duplicate_name",
     "users_duplicate_key",
     "users_duplicate_uid",
+    "users_no_input",
+    "users_not_ended",
+    "users_not_utf8",
+    "users_before_steps",
     "limits_msg_max",
     "limits_msgsize_max",
     "limits_queues_max",

@@ -1,15 +1,12 @@
-use Rattle.std.proofs.Common.{◌≡◌, ℕ, zero, suc, eqb, List, [], ◌∷◌, ◌++◌, length, slice_get, Some, refl, sym, ap, ◌∙◌, arith}
+use Rattle.std.proofs.Common.{◌≡◌, ℕ, zero, suc, List, [], ◌∷◌, ◌++◌, length, slice_get, Some, refl, sym, ap, ◌∙◌, arith}
 use Rattle.std.specs.Prelude.{reverse}
 use Rattle.std.proofs.lemmas.Bool.{ne_eqb}
-use Rattle.std.proofs.lemmas.Bool.Decides.{nat_tests}
+use Rattle.std.proofs.Math.Dec.{eqb-suc-suc}
 use Rattle.std.proofs.lemmas.List.{reverse-append, length_push}
 use Rattle.ipc_terms.specs.declared.record.Record.{Record}
 use Rattle.ipc_terms.specs.History.{History, record_at}
 use Rattle.ipc_trail.specs.Log.{Log}
 use Rattle.ipc_trail.proofs.trail.Trail.get.Goals as goal
-
-eqb_suc : (a b : ℕ) → eqb (suc a) (suc b) ≡ eqb a b
-eqb_suc a b = grind (arith, nat_tests)
 
 -- the oldest record stands at place 0
 at_first : (ys : History) (x : Record) → record_at zero (ys ++ x ∷ []) ≡ Some x
@@ -21,7 +18,7 @@ at_later : (ys : History) (x : Record) (i : ℕ) → record_at (suc i) (ys ++ x 
 at_later [] x i = rw (ne_eqb 0 (suc i) (λ (q : 0 ≡ suc i). omega arith)) refl
 at_later (y ∷ ys) x i =
     let n : length (ys ++ x ∷ []) ≡ suc (length ys) = let k = length_push ys x in omega arith in
-    rw (n, eqb_suc (length ys) i, at_later ys x i) refl
+    rw (n, eqb-suc-suc (length ys) i, at_later ys x i) refl
 
 turned : (x : Record) (xs : List Record) → reverse (x ∷ xs) ≡ reverse xs ++ x ∷ []
 turned x xs = reverse-append (x ∷ []) xs

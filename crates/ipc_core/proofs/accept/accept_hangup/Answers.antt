@@ -1,9 +1,0 @@
-use Rattle.ipc_core.proofs.Decisions.{hangup_within}
-use Rattle.ipc_core.proofs.Accepting.{agrees_ended}
-use Rattle.ipc_core.proofs.accept.accept_hangup.Goals as goal
-
-pub end_session-requires : goal.end_session-requires
-end_session-requires c = hangup_within _ _ _ c.args.sid c.requires.core.agrees c.requires.accepted
-
-pub returns : goal.returns
-returns c = rw c.end_session.ensures (agrees_ended _ _ _ c.args.sid c.requires.core (hangup_within _ _ _ c.args.sid c.requires.core.agrees c.requires.accepted))

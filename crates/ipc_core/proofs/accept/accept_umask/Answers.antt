@@ -1,9 +1,0 @@
-use Rattle.ipc_core.proofs.Decisions.{umask_within}
-use Rattle.ipc_core.proofs.Accepting.{agrees_masked}
-use Rattle.ipc_core.proofs.accept.accept_umask.Goals as goal
-
-pub set_mask-requires : goal.set_mask-requires
-set_mask-requires c = umask_within _ _ _ c.args.sid c.args.mask c.requires.core.agrees c.requires.accepted
-
-pub returns : goal.returns
-returns c = rw c.set_mask.ensures (agrees_masked _ _ _ c.args.sid c.args.mask c.requires.core.agrees)

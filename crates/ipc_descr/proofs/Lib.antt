@@ -1,0 +1,6 @@
+pub mod Answering
+pub mod AmongOthers
+pub mod KeepingLemmas
+pub mod NumbersLemmas
+pub mod PlacesLemmas
+pub mod RowsLemmas

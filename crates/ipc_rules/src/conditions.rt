@@ -1,0 +1,124 @@
+//! The conditions under which rules forbid.
+
+ghost use Rattle.std.specs.Prelude.{◌≡◌, nat_lt, is_some, option_and_then};
+ghost use Rattle.std.specs.Option.{option_copied};
+ghost use Rattle.ipc_access.specs.Users.{cred_of};
+ghost use Rattle.ipc_terms.specs.Objects.{as_queue};
+ghost use Rattle.ipc_policy.specs.Rules.{there_is, is_of_family, denied, denied_at, removal_denied, reads_only, writes_only, bits_wanted, out_of_range};
+
+use ipc_access::{Cred, grants, may_remove};
+use ipc_policy::{Config, HARD_MSG_MAX, HARD_MSGSIZE_MAX, Held};
+use ipc_terms::{Access, Attributes, Facts, Family, Kind, Object, Uid};
+
+pub fn is_known(config: &Config, found: Option<Uid>) -> bool
+    ensures { result ≡ is_some (option_and_then (cred_of config.now.users) found) }
+{
+    match found {
+        Some(uid) => config.users.cred(uid).is_some(),
+        None => false,
+    }
+}
+
+pub fn is_read_only(held: Option<Held>) -> bool
+    ensures { result ≡ there_is (λ x. reads_only x.access) held }
+{
+    match held {
+        Some(held) => matches!(held.access, Access::Read),
+        None => false,
+    }
+}
+
+pub fn is_write_only(held: Option<Held>) -> bool
+    ensures { result ≡ there_is (λ x. writes_only x.access) held }
+{
+    match held {
+        Some(held) => matches!(held.access, Access::Write),
+        None => false,
+    }
+}
+
+pub fn as_queue(object: Option<Object>) -> Option<Attributes>
+    ensures { result ≡ as_queue object }
+{
+    match object?.kind {
+        Kind::Queue(attributes) => Some(attributes),
+    }
+}
+
+pub fn is_too_long(queue: Option<Attributes>, length: usize) -> bool
+    ensures { result ≡ there_is (λ x. nat_lt x.msgsize length) queue }
+{
+    match queue {
+        Some(attributes) => (attributes.msgsize as usize) < length,
+        None => false,
+    }
+}
+
+pub fn is_too_short(queue: Option<Attributes>, length: u32) -> bool
+    ensures { result ≡ there_is (λ x. nat_lt length x.msgsize) queue }
+{
+    match queue {
+        Some(attributes) => length < attributes.msgsize,
+        None => false,
+    }
+}
+
+pub fn bits_of(access: Access) -> u8
+    ensures { result ≡ bits_wanted access }
+{
+    match access {
+        Access::Read => 4,
+        Access::Write => 2,
+        Access::Both => 6,
+    }
+}
+
+pub fn is_denied(who: Option<&Cred>, at: Facts, wanted: u8) -> bool
+    ensures { result ≡ denied (option_copied who.entry) at wanted }
+{
+    match who {
+        Some(who) => !grants(who, at.owner, at.group, at.mode, wanted),
+        None => false,
+    }
+}
+
+pub fn is_denied_at(who: Option<&Cred>, at: Option<Facts>, wanted: u8) -> bool
+    ensures { result ≡ denied_at (option_copied who.entry) at wanted }
+{
+    match at {
+        Some(at) => is_denied(who, at, wanted),
+        None => false,
+    }
+}
+
+pub fn is_removal_denied(who: Option<&Cred>, directory: Facts, at: Option<Facts>) -> bool
+    ensures { result ≡ removal_denied (option_copied who.entry) directory at }
+{
+    let (Some(who), Some(at)) = (who, at) else {
+        return false;
+    };
+    !may_remove(who, &directory, at.owner)
+}
+
+pub fn is_out_of_range(config: &Config, who: Option<&Cred>, given: Option<Attributes>) -> bool
+    ensures { result ≡ out_of_range config.now (option_copied who.entry) given }
+{
+    let (Some(who), Some(given)) = (who, given) else {
+        return false;
+    };
+    let (most, longest) = if who.is_root() {
+        (HARD_MSG_MAX, HARD_MSGSIZE_MAX)
+    } else {
+        (config.limits.msg_max, config.limits.msgsize_max)
+    };
+    given.maxmsg == 0 || given.msgsize == 0 || most < given.maxmsg || longest < given.msgsize
+}
+
+pub fn is_of_family(family: Family, object: Option<Object>) -> bool
+    ensures { result ≡ is_of_family family object }
+{
+    match object {
+        Some(object) => object.kind.family() == family,
+        None => false,
+    }
+}

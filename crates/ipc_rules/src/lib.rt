@@ -1,0 +1,8 @@
+//! The rules: each is one function with the name of its definition, and the verdict is the first that forbids.
+#![tactic(auto)]
+
+mod asking;
+mod conditions;
+mod rules;
+
+pub use rules::{EVERY_RULE, decide, forbids};

@@ -1,0 +1,415 @@
+//! The rules of the policy, each by its name, and the verdict: the first that forbids.
+
+ghost use Rattle.std.specs.Prelude.{◌≡◌};
+ghost use Rattle.ipc_policy.specs.Names.{creating};
+ghost use Rattle.ipc_policy.specs.Rules.{forbids, no_session, in_call, not_in_call, name_form, name_long, bad_descr, not_for_write, not_for_read, dir_search, dir_read, absent, present, mode_denied, dir_write, sticky, attr_range, descr_limit, prio_range, message_long, buffer_short, would_block, bad_key};
+ghost use Rattle.ipc_policy.specs.Verdict.{verdict};
+
+use crate::asking::{Opening, naming_of, opening_of, queue_named, unlinking_of};
+use crate::conditions::{
+    as_queue, bits_of, is_denied, is_denied_at, is_known, is_of_family, is_out_of_range,
+    is_read_only, is_removal_denied, is_too_long, is_too_short, is_write_only,
+};
+use ipc_names::{has_form, is_long};
+use ipc_policy::{DESCRIPTIONS_MAX, MQ_PRIO_MAX};
+use ipc_state::State;
+use ipc_terms::{Asked, Call, Event, Family, Rule};
+
+/// Every rule, in the order of their numbers.
+pub const EVERY_RULE: [Rule; 31] = [
+    Rule::NoSession,
+    Rule::InCall,
+    Rule::NotInCall,
+    Rule::NameForm,
+    Rule::NameLong,
+    Rule::NotAdmin,
+    Rule::NoUser,
+    Rule::BadDescr,
+    Rule::NotForWrite,
+    Rule::NotForRead,
+    Rule::DirSearch,
+    Rule::DirRead,
+    Rule::Absent,
+    Rule::Present,
+    Rule::ModeDenied,
+    Rule::DirWrite,
+    Rule::Sticky,
+    Rule::NotOwner,
+    Rule::ChownDenied,
+    Rule::AttrRange,
+    Rule::ValueRange,
+    Rule::QueueCount,
+    Rule::ByteLimit,
+    Rule::DescrLimit,
+    Rule::PrioRange,
+    Rule::MessageLong,
+    Rule::BufferShort,
+    Rule::NotifyTaken,
+    Rule::WouldBlock,
+    Rule::Overflow,
+    Rule::BadKey,
+];
+
+/// The rule of the lowest number that forbids the event, if one does.
+#[tactic(auto, unfolding(ipc_policy::specs::Verdict::verdict))]
+pub fn decide(state: &State, event: &Event) -> Option<Rule>
+    ensures { result ≡ verdict state.now.config state.now.history event.now }
+{
+    EVERY_RULE
+        .iter()
+        .copied()
+        .find(|rule| forbids(state, *rule, event))
+}
+
+/// Whether the rule forbids the event.
+#[tactic(auto, unfolding(ipc_policy::specs::Rules::forbids))]
+pub fn forbids(state: &State, rule: Rule, event: &Event) -> bool
+    ensures { result ≡ forbids rule state.now.config state.now.history event.now }
+{
+    match rule {
+        Rule::NoSession => no_session(state, event),
+        Rule::InCall => in_call(state, event),
+        Rule::NotInCall => not_in_call(state, event),
+        Rule::NameForm => name_form(state, event),
+        Rule::NameLong => name_long(state, event),
+        Rule::BadDescr => bad_descr(state, event),
+        Rule::NotForWrite => not_for_write(state, event),
+        Rule::NotForRead => not_for_read(state, event),
+        Rule::DirSearch => dir_search(state, event),
+        Rule::DirRead => dir_read(state, event),
+        Rule::Absent => absent(state, event),
+        Rule::Present => present(state, event),
+        Rule::ModeDenied => mode_denied(state, event),
+        Rule::DirWrite => dir_write(state, event),
+        Rule::Sticky => sticky(state, event),
+        Rule::AttrRange => attr_range(state, event),
+        Rule::DescrLimit => descr_limit(state, event),
+        Rule::PrioRange => prio_range(state, event),
+        Rule::MessageLong => message_long(state, event),
+        Rule::BufferShort => buffer_short(state, event),
+        Rule::WouldBlock => would_block(state, event),
+        Rule::BadKey => bad_key(state, event),
+        Rule::NotAdmin
+        | Rule::NoUser
+        | Rule::NotOwner
+        | Rule::ChownDenied
+        | Rule::ValueRange
+        | Rule::QueueCount
+        | Rule::ByteLimit
+        | Rule::NotifyTaken
+        | Rule::Overflow => false,
+    }
+}
+
+/// A call or a hang-up of a session that is not live.
+#[tactic(auto, unfolding(ipc_policy::specs::Rules::no_session))]
+fn no_session(state: &State, event: &Event) -> bool
+    ensures { result ≡ no_session state.now.config state.now.history event.now }
+{
+    match event {
+        Event::Hello { .. } => false,
+        Event::Do { sid, .. } | Event::Hangup { sid } => !state.is_live(*sid),
+    }
+}
+
+/// Any call but an interrupt while the session is parked; a hang-up is no call.
+#[tactic(auto, unfolding(ipc_policy::specs::Rules::in_call))]
+fn in_call(state: &State, event: &Event) -> bool
+    ensures { result ≡ in_call state.now.config state.now.history event.now }
+{
+    match event {
+        Event::Do {
+            call: Call::Interrupt,
+            ..
+        } => false,
+        Event::Do { sid, .. } => state.is_parked(*sid),
+        _ => false,
+    }
+}
+
+/// An interrupt while the session is not parked.
+#[tactic(auto, unfolding(ipc_policy::specs::Rules::not_in_call))]
+fn not_in_call(state: &State, event: &Event) -> bool
+    ensures { result ≡ not_in_call state.now.config state.now.history event.now }
+{
+    match event {
+        Event::Do {
+            sid,
+            call: Call::Interrupt,
+        } => !state.is_parked(*sid),
+        _ => false,
+    }
+}
+
+/// A named call, and the name has not the form of a name.
+#[tactic(auto, unfolding(ipc_policy::specs::Rules::name_form))]
+fn name_form(state: &State, event: &Event) -> bool
+    ensures { result ≡ name_form state.now.config state.now.history event.now }
+{
+    match naming_of(event) {
+        Some(what) => !has_form(what.name.as_slice()),
+        None => false,
+    }
+}
+
+/// A named call, and the name has more bytes in all than its family's limit.
+#[tactic(auto, unfolding(ipc_policy::specs::Rules::name_long))]
+fn name_long(state: &State, event: &Event) -> bool
+    ensures { result ≡ name_long state.now.config state.now.history event.now }
+{
+    match naming_of(event) {
+        Some(what) => is_long(what.family, what.name.as_slice()),
+        None => false,
+    }
+}
+
+/// A call that names a queue's description, and the session does not hold it, or it gives an
+/// object of the other family.
+#[tactic(auto, unfolding(ipc_policy::specs::Rules::bad_descr))]
+fn bad_descr(state: &State, event: &Event) -> bool
+    ensures { result ≡ bad_descr state.now.config state.now.history event.now }
+{
+    let Event::Do { sid, call } = event else {
+        return false;
+    };
+    match queue_named(call) {
+        Some(desc) => !is_of_family(Family::Mq, state.object_held(*sid, desc)),
+        None => false,
+    }
+}
+
+/// A send by a description that was opened for reading alone.
+#[tactic(auto, unfolding(ipc_policy::specs::Rules::not_for_write))]
+fn not_for_write(state: &State, event: &Event) -> bool
+    ensures { result ≡ not_for_write state.now.config state.now.history event.now }
+{
+    match event {
+        Event::Do {
+            sid,
+            call: Call::MqSend { desc, .. },
+        } => is_read_only(state.held(*sid, *desc)),
+        _ => false,
+    }
+}
+
+/// A receive by a description that was opened for writing alone.
+#[tactic(auto, unfolding(ipc_policy::specs::Rules::not_for_read))]
+fn not_for_read(state: &State, event: &Event) -> bool
+    ensures { result ≡ not_for_read state.now.config state.now.history event.now }
+{
+    match event {
+        Event::Do {
+            sid,
+            call: Call::MqReceive { desc, .. },
+        } => is_write_only(state.held(*sid, *desc)),
+        _ => false,
+    }
+}
+
+/// A named call, and search on the family's directory is not granted.
+#[tactic(auto, unfolding(ipc_policy::specs::Rules::dir_search))]
+fn dir_search(state: &State, event: &Event) -> bool
+    ensures { result ≡ dir_search state.now.config state.now.history event.now }
+{
+    match naming_of(event) {
+        Some(what) => is_denied(state.cred(what.session), state.directory(what.family), 1),
+        None => false,
+    }
+}
+
+/// A listing, and read on the directory is not granted.
+#[tactic(auto, unfolding(ipc_policy::specs::Rules::dir_read))]
+fn dir_read(state: &State, event: &Event) -> bool
+    ensures { result ≡ dir_read state.now.config state.now.history event.now }
+{
+    match event {
+        Event::Do {
+            sid,
+            call: Call::ListNames { family, .. },
+        } => { is_denied(state.cred(*sid), state.directory(*family), 4) }
+        _ => false,
+    }
+}
+
+/// An open without CREAT, or a named call that is no open, and the name is unbound.
+#[tactic(auto, unfolding(ipc_policy::specs::Rules::absent))]
+fn absent(state: &State, event: &Event) -> bool
+    ensures { result ≡ absent state.now.config state.now.history event.now }
+{
+    if let Some(asked) = opening_of(event) {
+        return !asked.flags.creates() && !state.is_bound(asked.family, asked.name);
+    }
+    match naming_of(event) {
+        Some(what) => !state.is_bound(what.family, what.name),
+        None => false,
+    }
+}
+
+/// An open with CREAT and EXCL, and the name is bound.
+#[tactic(auto, unfolding(ipc_policy::specs::Rules::present))]
+fn present(state: &State, event: &Event) -> bool
+    ensures { result ≡ present state.now.config state.now.history event.now }
+{
+    match opening_of(event) {
+        Some(asked) => {
+            asked.flags.creates()
+                && asked.flags.is_exclusive()
+                && state.is_bound(asked.family, asked.name)
+        }
+        None => false,
+    }
+}
+
+/// An open of a bound name, and the object does not grant the wanted access.
+#[tactic(auto, unfolding(ipc_policy::specs::Rules::mode_denied))]
+fn mode_denied(state: &State, event: &Event) -> bool
+    ensures { result ≡ mode_denied state.now.config state.now.history event.now }
+{
+    match opening_of(event) {
+        Some(asked) => is_denied_at(
+            state.cred(asked.session),
+            state.facts_bound(asked.family, asked.name),
+            bits_of(asked.access),
+        ),
+        None => false,
+    }
+}
+
+/// A creating open, or an unlink, and write on the directory is not granted.
+#[tactic(auto, unfolding(ipc_policy::specs::Rules::dir_write))]
+fn dir_write(state: &State, event: &Event) -> bool
+    ensures { result ≡ dir_write state.now.config state.now.history event.now }
+{
+    if let Some(asked) = opening_of(event) {
+        return is_creating(state, &asked)
+            && is_denied(state.cred(asked.session), state.directory(asked.family), 2);
+    }
+    match unlinking_of(event) {
+        Some(what) => is_denied(state.cred(what.session), state.directory(what.family), 2),
+        None => false,
+    }
+}
+
+/// An unlink of a bound name in a sticky directory, by another than user 0, the object's owner
+/// and the directory's.
+#[tactic(auto, unfolding(ipc_policy::specs::Rules::sticky))]
+fn sticky(state: &State, event: &Event) -> bool
+    ensures { result ≡ sticky state.now.config state.now.history event.now }
+{
+    match unlinking_of(event) {
+        Some(what) => is_removal_denied(
+            state.cred(what.session),
+            state.directory(what.family),
+            state.facts_bound(what.family, what.name),
+        ),
+        None => false,
+    }
+}
+
+/// A creating open with attributes that are 0 or above the caller's limits.
+#[tactic(auto, unfolding(ipc_policy::specs::Rules::attr_range))]
+fn attr_range(state: &State, event: &Event) -> bool
+    ensures { result ≡ attr_range state.now.config state.now.history event.now }
+{
+    match opening_of(event) {
+        Some(asked) => {
+            let Asked::Queue(given) = asked.kind;
+            is_creating(state, &asked)
+                && is_out_of_range(state.config(), state.cred(asked.session), given)
+        }
+        None => false,
+    }
+}
+
+/// An open while the session holds 1,024 descriptions.
+#[tactic(auto, unfolding(ipc_policy::specs::Rules::descr_limit))]
+fn descr_limit(state: &State, event: &Event) -> bool
+    ensures { result ≡ descr_limit state.now.config state.now.history event.now }
+{
+    match opening_of(event) {
+        Some(asked) => state.held_count(asked.session) >= DESCRIPTIONS_MAX,
+        None => false,
+    }
+}
+
+/// A send with a priority of 32,768 or more.
+#[tactic(auto, unfolding(ipc_policy::specs::Rules::prio_range))]
+fn prio_range(state: &State, event: &Event) -> bool
+    ensures { result ≡ prio_range state.now.config state.now.history event.now }
+{
+    match event {
+        Event::Do {
+            call: Call::MqSend { priority, .. },
+            ..
+        } => *priority >= MQ_PRIO_MAX,
+        _ => false,
+    }
+}
+
+/// A send that is longer than the queue's message size.
+#[tactic(auto, unfolding(ipc_policy::specs::Rules::message_long))]
+fn message_long(state: &State, event: &Event) -> bool
+    ensures { result ≡ message_long state.now.config state.now.history event.now }
+{
+    match event {
+        Event::Do {
+            sid,
+            call: Call::MqSend { desc, bytes, .. },
+        } => {
+            is_too_long(
+                as_queue(state.object_held(*sid, *desc)),
+                bytes.as_slice().len(),
+            )
+        }
+        _ => false,
+    }
+}
+
+/// A receive with a length below the queue's message size.
+#[tactic(auto, unfolding(ipc_policy::specs::Rules::buffer_short))]
+fn buffer_short(state: &State, event: &Event) -> bool
+    ensures { result ≡ buffer_short state.now.config state.now.history event.now }
+{
+    match event {
+        Event::Do {
+            sid,
+            call: Call::MqReceive { desc, length },
+        } => { is_too_short(as_queue(state.object_held(*sid, *desc)), *length) }
+        _ => false,
+    }
+}
+
+/// A send to a full queue, or a receive from an empty one, by a description with NONBLOCK.
+#[tactic(auto, unfolding(ipc_policy::specs::Rules::would_block))]
+fn would_block(state: &State, event: &Event) -> bool
+    ensures { result ≡ would_block state.now.config state.now.history event.now }
+{
+    let Event::Do { sid, call } = event else {
+        return false;
+    };
+    match call {
+        Call::MqSend { desc, .. } => state.is_full(*sid, *desc) && state.is_nonblock(*sid, *desc),
+        Call::MqReceive { desc, .. } => state.is_empty(*sid, *desc)
+            && state.is_nonblock(*sid, *desc),
+        _ => false,
+    }
+}
+
+/// A hello for no user of the file.
+#[tactic(auto, unfolding(ipc_policy::specs::Rules::bad_key))]
+fn bad_key(state: &State, event: &Event) -> bool
+    ensures { result ≡ bad_key state.now.config state.now.history event.now }
+{
+    match event {
+        Event::Hello { found } => !is_known(state.config(), *found),
+        _ => false,
+    }
+}
+
+/// Whether the open creates an object.
+#[tactic(auto, unfolding(ipc_policy::specs::Names::creating))]
+fn is_creating(state: &State, asked: &Opening) -> bool
+    ensures { result ≡ creating state.now.history asked.now }
+{
+    asked.flags.creates() && !state.is_bound(asked.family, asked.name)
+}

@@ -1,0 +1,12 @@
+pub mod Mapped
+pub mod Gathered
+pub mod Lookups
+pub mod QueueLookups
+pub mod Accepted
+pub mod QueueSteps
+pub mod HeldQueues
+pub mod ParkedColumn
+pub mod SessionTables
+pub mod ObjectTables
+pub mod Serving
+pub mod Accepting

@@ -1,0 +1,257 @@
+-- What a send, a receive and a withdrawal do to the tables of sessions and of queues.
+use Rattle.std.proofs.Common.{◌≡◌, ℕ, ◌<◌, ◌≤◌, Bool, true, false, cond, List, [], ◌∷◌, length, map, slice_get, Option, Some, None, is_some, refl, sym, ap, subst, ◌∙◌, arith}
+use Rattle.std.specs.Prelude.{option_and_then}
+use Rattle.std.specs.Option.{option_map}
+use Rattle.std.proofs.lemmas.Bool.{eq-eqb, leb-true}
+use Rattle.std.proofs.lemmas.Option.{slice_get_within}
+use Rattle.ipc_terms.specs.Lists.{first}
+use Rattle.ipc_terms.specs.History.{Message, message_at}
+use Rattle.ipc_terms.specs.declared.ids.Sid.{Sid}
+use Rattle.ipc_terms.specs.declared.ids.Desc.{Desc}
+use Rattle.ipc_terms.specs.declared.call.Call.TheVariants.{MqSend, MqReceive}
+use Rattle.ipc_terms.specs.declared.record.Event.TheVariants.{Do}
+use Rattle.ipc_queue.specs.declared.queue.Ticket.{Ticket}
+use Rattle.ipc_queue.specs.declared.queue.ParkedSend.{ParkedSend}
+use Rattle.ipc_queue.specs.Tickets.{Tickets, outcome_by_receiver, send_outcome, sent, outcome_by_next, receive_outcome, received, withdrawn}
+use Rattle.ipc_policy.specs.declared.config.Config.{Config}
+use Rattle.ipc_policy.specs.declared.config.Held.{Held}
+use Rattle.ipc_terms.specs.declared.call.Attributes.{Attributes}
+use Rattle.ipc_policy.specs.History.{History, after_accepted, there_is}
+use Rattle.ipc_policy.specs.Sessions.{hellos, user, live, mask}
+use Rattle.ipc_policy.specs.Descriptions.{holds}
+use Rattle.ipc_policy.specs.Life.{alive}
+use Rattle.ipc_policy.specs.Queues.{Send, Wait, Sends, Receives, Withdraws, Queue, next, has_none, has_all, room, attributes, maxmsg, queue, queue_after, contents, senders, receivers, is_full, is_empty}
+use Rattle.ipc_policy.specs.Parking.{Parked, parked}
+use Rattle.ipc_policy.specs.Verdict.{Legal}
+use Rattle.ipc_policy.proofs.EachItem.{each_first, each_map}
+use Rattle.ipc_policy.proofs.EntryOrder.{next_some}
+use Rattle.ipc_policy.proofs.Keeping.{sent_once}
+use Rattle.ipc_policy.proofs.Lengths.{none_is_empty}
+use Rattle.ipc_policy.proofs.Sent.{IsSent, all_sent, next_sent}
+use Rattle.ipc_policy.proofs.CallsListed.{calls_listed}
+use Rattle.ipc_policy.specs.Laws.{IsBounded}
+use Rattle.ipc_policy.proofs.QueueBounds.{bounded, room_positive}
+use Rattle.ipc_policy.proofs.ParkedSessions.{senders_differ, receivers_differ}
+use Rattle.ipc_policy.proofs.ParkedSteps.{queue_by_send, queue_by_receive}
+use Rattle.ipc_tables.specs.declared.rows.Session.{Session}
+use Rattle.ipc_tables.specs.Objects.{queue_at}
+use Rattle.ipc_tables.specs.Kept.{Kept, live_at}
+use Rattle.ipc_tables.specs.Steps.{parked_by_send, parked_by_receive, ReceiverStands, SenderStands}
+use Rattle.ipc_state.specs.Agrees.{Agrees, IsCore, SessionsAgree, sender_of, receiver_of, tickets_of}
+use Rattle.ipc_state.proofs.Mapped.{longest_mapped}
+use Rattle.ipc_state.proofs.Lookups.{queue_alive}
+use Rattle.ipc_state.proofs.QueueLookups.{holds_alive}
+use Rattle.ipc_policy.proofs.Unforbidden.{IsFree}
+use Rattle.ipc_state.proofs.Accepted.{within_live, not_bad_queue, limits_some}
+use Rattle.ipc_state.proofs.QueueSteps.{IsOnce, full_same, next_same, sent_is, received_is, withdrawn_is}
+use Rattle.ipc_state.proofs.ParkedColumn.{parked_object, column_after}
+use Rattle.ipc_state.proofs.SessionTables.{Columns, columns_of, columns_moved}
+use Rattle.ipc_state.proofs.HeldQueues.{place_mapped}
+
+-- what is known of the queue that an object is
+pub record IsOpen (c : Config) (h : History) (o : ℕ) (y : Attributes) : Type 0 where
+  pub some : 1 ≤ y.maxmsg
+  pub most : maxmsg c h o ≡ y.maxmsg
+  pub bounds : IsBounded y.maxmsg (queue c h o)
+
+pub is_open : (c : Config) (h : History) (t : Kept) (o : ℕ) (y : Attributes) → IsCore c h t → attributes c h o ≡ Some y → IsOpen c h o y
+is_open c h t o y k e =
+    let limit = (limits_some c k.in_range).0 in
+    let least : 1 ≤ c.limits.msg_max = omega arith in
+    let most : maxmsg c h o ≡ y.maxmsg = ap room e in
+    record {
+      some = subst (λ (n : ℕ). 1 ≤ n) most (room_positive c h least k.legal o (ap is_some e));
+      most = most;
+      bounds = subst (λ (n : ℕ). IsBounded n (queue c h o)) most (bounded c h least k.legal o);
+    }
+
+abbrev priority_of : Option Message → ℕ
+priority_of None = 0
+priority_of (Some m) = m.priority
+
+priority_same : (x t : Send) → ◌≡◌ {A = Option Message} (Some (record { priority = x.priority; bytes = x.bytes })) (Some (record { priority = t.priority; bytes = t.bytes })) → x.priority ≡ t.priority
+priority_same x t e = ap priority_of e
+
+-- its messages were sent, and so no two have one place
+pub once : (c : Config) (h : History) (o : ℕ) → IsOnce (contents c h o)
+once c h o = record {
+  one = λ i. let sum = sent_once c h o i in omega arith;
+  same = λ t e.
+      let here = (next_sent c h o t e).there in
+      each_map (IsSent h) (λ x. x.place ≡ t.place → x.priority ≡ t.priority) (contents c h o) (λ x is at. same_message h x t is here at) (all_sent c h o).inside;
+} where
+  same_message : (h : History) (x t : Send) → IsSent h x → message_at t.place h ≡ Some (record { priority = t.priority; bytes = t.bytes }) → x.place ≡ t.place → x.priority ≡ t.priority
+  same_message h x t is here at =
+      let both : ◌≡◌ {A = Option Message} (Some (record { priority = x.priority; bytes = x.bytes })) (Some (record { priority = t.priority; bytes = t.bytes })) = sym is.there ∙ ap (λ i. message_at i h) at ∙ here in
+      priority_same x t both
+
+-- a session that is parked stands in the table
+pub parked_stands : (c : Config) (h : History) (xs : List Session) (s : ℕ) (p : Parked) → SessionsAgree c h xs → parked c h s ≡ Some p → s < length xs
+parked_stands c h xs s p a e = at (slice_get xs s) refl (a.parks s ∙ ap (option_map (λ (q : Parked). q.object)) e) where
+  at : (w : Option Session) → slice_get xs s ≡ w → option_and_then (λ (row : Session). row.parked_on) w ≡ Some p.object → s < length xs
+  at None k f = absurd cc
+  at (Some row) k f = slice_get_within xs s row k
+
+pub receiver_stands : (c : Config) (h : History) (xs : List Session) (o : ℕ) (w : Wait) → Legal c h → SessionsAgree c h xs → first (receivers c h o) ≡ Some w → w.session < length xs
+receiver_stands c h xs o w legal a e = each_first (λ (v : Wait). v.session < length xs) (receivers c h o) (each_map _ (λ (v : Wait). v.session < length xs) (receivers c h o) (λ v is. parked_stands c h xs v.session _ a is) ((calls_listed c h legal).each_receive o)) w e
+
+pub sender_stands : (c : Config) (h : History) (xs : List Session) (o : ℕ) (m : Send) → Legal c h → SessionsAgree c h xs → first (senders c h o) ≡ Some m → m.session < length xs
+sender_stands c h xs o m legal a e = each_first (λ (v : Send). v.session < length xs) (senders c h o) (each_map _ (λ (v : Send). v.session < length xs) (senders c h o) (λ v is. parked_stands c h xs v.session _ a is) ((calls_listed c h legal).each_send o)) m e
+
+-- the queue of an object that is alive, as it is kept
+pub queue_there : (c : Config) (h : History) (t : Kept) (o : ℕ) (y : Attributes) → Agrees c h t → alive h o ≡ true → attributes c h o ≡ Some y → queue_at t.objects o ≡ Some (tickets_of (queue c h o) y)
+queue_there c h t o y a lives e = queue_alive c h t o a lives ∙ ap (option_map (tickets_of (queue c h o))) e
+
+-- who is first in a list that is kept
+first_mapped : (rs : List Wait) (who : Sid) → first (map receiver_of rs) ≡ Some who → (w : Wait) × ((first rs ≡ Some w) × (w.session ≡ who.0))
+first_mapped [] who e = absurd cc
+first_mapped (w ∷ ws) who e = let same : receiver_of w ≡ who = cc in (w, (refl, ap (λ (s : Sid). s.0) same))
+
+first_sender : (ss : List Send) (who : ParkedSend) → first (map sender_of ss) ≡ Some who → (m : Send) × ((first ss ≡ Some m) × (m.session ≡ who.session.0))
+first_sender [] who e = absurd cc
+first_sender (m ∷ ms) who e = let same : sender_of m ≡ who = cc in (m, (refl, ap (λ (s : ParkedSend). s.session.0) same))
+
+-- what a send does to the table of sessions
+send_told : (c : Config) (h : History) (o : ℕ) (y : Attributes) → attributes c h o ≡ Some y → send_outcome (tickets_of (queue c h o) y) ≡ outcome_by_receiver (is_full c h o) (option_map receiver_of (first (receivers c h o)))
+unfolding send_outcome
+send_told c h o y e =
+    ap (λ b. outcome_by_receiver b (first (map receiver_of (receivers c h o)))) (full_same y (queue c h o) ∙ sym (ap (there_is (λ x. has_all x.maxmsg (contents c h o))) e))
+    ∙ ap (outcome_by_receiver (is_full c h o)) (longest_mapped receiver_of (receivers c h o))
+
+sent_column : (c : Config) (h : History) (xs : List Session) (o : ℕ) (sid : Sid) → SessionsAgree c h xs → sid.0 < length xs → (r : Option Wait) → ((w : Wait) → r ≡ Some w → w.session < length xs) → (f : Bool) → Columns (parked_by_send o sid (Some (outcome_by_receiver f (option_map receiver_of r))) xs) (hellos h) (user h) (mask h) (live h) (column_after (option_map (λ (w : Wait). w.session) r) f sid.0 o (parked_object c h))
+sent_column c h xs o sid a lt (Some w) there f = columns_moved xs (hellos h) (user h) (mask h) (live h) (parked_object c h) None w.session (there w refl) (columns_of c h xs a)
+sent_column c h xs o sid a lt None there true = columns_moved xs (hellos h) (user h) (mask h) (live h) (parked_object c h) (Some o) sid.0 lt (columns_of c h xs a)
+sent_column c h xs o sid a lt None there false = columns_of c h xs a
+
+pub sessions_sent : (c : Config) (h : History) (t : Kept) (o : ℕ) (y : Attributes) (sid : Sid) → Legal c h → Agrees c h t → alive h o ≡ true → attributes c h o ≡ Some y → sid.0 < length t.sessions → Columns (parked_by_send o sid (option_map send_outcome (queue_at t.objects o)) t.sessions) (hellos h) (user h) (mask h) (live h) (column_after (option_map (λ (w : Wait). w.session) (first (receivers c h o))) (is_full c h o) sid.0 o (parked_object c h))
+sessions_sent c h t o y sid legal a lives e lt =
+    let told : option_map send_outcome (queue_at t.objects o) ≡ Some (outcome_by_receiver (is_full c h o) (option_map receiver_of (first (receivers c h o)))) = ap (option_map send_outcome) (queue_there c h t o y a lives e) ∙ ap Some (send_told c h o y e) in
+    rw told (sent_column c h t.sessions o sid a.sessions lt (first (receivers c h o)) (λ w is. receiver_stands c h t.sessions o w legal a.sessions is) (is_full c h o))
+
+-- at a full queue no receive is parked
+pub none_receives : (c : Config) (h : History) (o : ℕ) (y : Attributes) → IsOpen c h o y → attributes c h o ≡ Some y → is_full c h o ≡ true → option_map (λ (w : Wait). w.session) (first (receivers c h o)) ≡ None
+none_receives c h o y q e full = at (receivers c h o) refl where
+  filled : y.maxmsg ≤ length (contents c h o)
+  filled = leb-true _ _ (sym (ap (there_is (λ x. has_all x.maxmsg (contents c h o))) e) ∙ full)
+
+  at : (rs : List Wait) → receivers c h o ≡ rs → option_map (λ (w : Wait). w.session) (first rs) ≡ None
+  at [] k = refl
+  at (w ∷ ws) k = absurd (let none : length (contents c h o) ≡ 0 = ap length (q.bounds.receivers_wait (ap has_none k)) in let least = q.some in let more = filled in omega arith)
+
+-- what a receive does to the table of sessions
+receive_told : (q : Queue) (y : Attributes) → receive_outcome (tickets_of q y) ≡ outcome_by_next (option_map (λ (m : Send). m.place) (next q.contents)) (option_map sender_of (first q.senders))
+unfolding receive_outcome
+receive_told q y =
+    ap (λ n. outcome_by_next (option_map (λ (t : Ticket). t.place) n) (first (map sender_of q.senders))) (next_same q.contents)
+    ∙ ap (λ n. outcome_by_next n (first (map sender_of q.senders))) (place_mapped (next q.contents))
+    ∙ ap (outcome_by_next (option_map (λ (m : Send). m.place) (next q.contents))) (longest_mapped sender_of q.senders)
+
+received_column : (c : Config) (h : History) (xs : List Session) (o : ℕ) (sid : Sid) → SessionsAgree c h xs → sid.0 < length xs → (r : Option Send) → ((m : Send) → r ≡ Some m → m.session < length xs) → (b : Bool) → (b ≡ true → option_map (λ (m : Send). m.session) r ≡ None) → (n : Option Send) → (b ≡ true → n ≡ None) → (b ≡ false → is_some n ≡ true) → Columns (parked_by_receive o sid (Some (outcome_by_next (option_map (λ (m : Send). m.place) n) (option_map sender_of r))) xs) (hellos h) (user h) (mask h) (live h) (column_after (option_map (λ (m : Send). m.session) r) b sid.0 o (parked_object c h))
+received_column c h xs o sid a lt (Some m) there true excl n none some = absurd (let no' = excl refl in cc)
+received_column c h xs o sid a lt (Some m) there false excl None none some = absurd (let no' = some refl in cc)
+received_column c h xs o sid a lt (Some m) there false excl (Some x) none some = columns_moved xs (hellos h) (user h) (mask h) (live h) (parked_object c h) None m.session (there m refl) (columns_of c h xs a)
+received_column c h xs o sid a lt None there true excl (Some x) none some = absurd (let no' = none refl in cc)
+received_column c h xs o sid a lt None there true excl None none some = columns_moved xs (hellos h) (user h) (mask h) (live h) (parked_object c h) (Some o) sid.0 lt (columns_of c h xs a)
+received_column c h xs o sid a lt None there false excl None none some = absurd (let no' = some refl in cc)
+received_column c h xs o sid a lt None there false excl (Some x) none some = columns_of c h xs a
+
+-- where an object is empty, it has no next message, and else it has one
+next_none : (cs : List Send) → has_none cs ≡ true → next cs ≡ None
+next_none [] e = refl
+next_none (x ∷ xs) e = absurd cc
+
+next_is : (cs : List Send) → has_none cs ≡ false → is_some (next cs) ≡ true
+next_is cs e = at (next cs) refl where
+  at : (w : Option Send) → next cs ≡ w → is_some w ≡ true
+  at None k = absurd (let none = sym (ap has_none (next_some cs k)) ∙ e in cc)
+  at (Some x) k = refl
+
+empty_at : (c : Config) (h : History) (o : ℕ) (y : Attributes) → attributes c h o ≡ Some y → is_empty c h o ≡ has_none (contents c h o)
+empty_at c h o y e = ap (there_is (λ x. has_none (contents c h o))) e
+
+-- at an empty queue no send is parked
+pub none_sends : (c : Config) (h : History) (o : ℕ) (y : Attributes) → IsOpen c h o y → attributes c h o ≡ Some y → is_empty c h o ≡ true → option_map (λ (m : Send). m.session) (first (senders c h o)) ≡ None
+none_sends c h o y q e empty = at (senders c h o) refl where
+  nothing : length (contents c h o) ≡ 0
+  nothing = ap length (none_is_empty (contents c h o) (sym (empty_at c h o y e) ∙ empty))
+
+  at : (ss : List Send) → senders c h o ≡ ss → option_map (λ (m : Send). m.session) (first ss) ≡ None
+  at [] k = refl
+  at (m ∷ ms) k = absurd (let full : length (contents c h o) ≡ y.maxmsg = q.bounds.senders_wait (ap has_none k) in let least = q.some in let none = nothing in omega arith)
+
+pub sessions_received : (c : Config) (h : History) (t : Kept) (o : ℕ) (y : Attributes) (sid : Sid) → Legal c h → Agrees c h t → alive h o ≡ true → attributes c h o ≡ Some y → IsOpen c h o y → sid.0 < length t.sessions → Columns (parked_by_receive o sid (option_map receive_outcome (queue_at t.objects o)) t.sessions) (hellos h) (user h) (mask h) (live h) (column_after (option_map (λ (m : Send). m.session) (first (senders c h o))) (is_empty c h o) sid.0 o (parked_object c h))
+sessions_received c h t o y sid legal a lives e q lt =
+    let told : option_map receive_outcome (queue_at t.objects o) ≡ Some (outcome_by_next (option_map (λ (m : Send). m.place) (next (contents c h o))) (option_map sender_of (first (senders c h o)))) = ap (option_map receive_outcome) (queue_there c h t o y a lives e) ∙ ap Some (receive_told (queue c h o) y) in
+    rw told (received_column c h t.sessions o sid a.sessions lt (first (senders c h o)) (λ m is. sender_stands c h t.sessions o m legal a.sessions is) (is_empty c h o) (none_sends c h o y q e) (next (contents c h o)) (λ b. next_none (contents c h o) (sym (empty_at c h o y e) ∙ b)) (λ b. next_is (contents c h o) (sym (empty_at c h o y e) ∙ b)))
+
+-- what they do to the queue
+pub queue_sent : (c : Config) (h : History) (sid : Sid) (desc : Desc) (priority : ℕ) (bytes : List ℕ) (x : Held) (y : Attributes) → IsOpen c h x.object y → holds h sid.0 desc.0 ≡ Some x → tickets_of (queue c (after_accepted h (Do sid (MqSend desc priority bytes))) x.object) y ≡ sent (record { place = length h; priority = priority }) sid (tickets_of (queue c h x.object) y)
+queue_sent c h sid desc priority bytes x y q held =
+    let m : Send = record { place = length h; session = sid.0; desc = desc.0; priority = priority; bytes = bytes } in
+    ap (λ r. tickets_of r y) (queue_by_send c h sid desc priority bytes x x.object held ∙ ap (λ b. cond b (queue_after (maxmsg c h x.object) (Sends m) (queue c h x.object)) (queue c h x.object)) (eq-eqb x.object x.object refl))
+    ∙ ap (λ n. tickets_of (queue_after n (Sends m) (queue c h x.object)) y) q.most
+    ∙ sent_is y m (queue c h x.object) q.some q.bounds
+
+pub queue_received : (c : Config) (h : History) (sid : Sid) (desc : Desc) (length' : ℕ) (x : Held) (y : Attributes) → IsOpen c h x.object y → holds h sid.0 desc.0 ≡ Some x → tickets_of (queue c (after_accepted h (Do sid (MqReceive desc length'))) x.object) y ≡ received sid (tickets_of (queue c h x.object) y)
+queue_received c h sid desc length' x y q held =
+    let w : Wait = record { place = length h; session = sid.0; desc = desc.0 } in
+    ap (λ r. tickets_of r y) (queue_by_receive c h sid desc length' x x.object held ∙ ap (λ b. cond b (queue_after (maxmsg c h x.object) (Receives w) (queue c h x.object)) (queue c h x.object)) (eq-eqb x.object x.object refl))
+    ∙ ap (λ n. tickets_of (queue_after n (Receives w) (queue c h x.object)) y) q.most
+    ∙ received_is y w (queue c h x.object) q.some q.bounds (once c h x.object)
+
+pub queue_withdrawn : (c : Config) (h : History) (sid : Sid) (o n : ℕ) (y : Attributes) → Legal c h → tickets_of (queue_after n (Withdraws sid.0) (queue c h o)) y ≡ withdrawn sid (tickets_of (queue c h o) y)
+queue_withdrawn c h sid o n y legal = withdrawn_is y sid (queue c h o) (senders_differ c h legal o) (receivers_differ c h legal o)
+
+-- what is there where a call by a description of object o is accepted
+pub record IsHere (c : Config) (h : History) (t : Kept) (s d o : ℕ) : Type 0 where
+  pub x : Held
+  pub given : Attributes
+  pub held : holds h s d ≡ Some x
+  pub same : x.object ≡ o
+  pub made : attributes c h x.object ≡ Some given
+  pub lives : alive h x.object ≡ true
+  pub live' : live_at t.sessions s ≡ true
+  pub within : s < length t.sessions
+
+some_of : {A : Type 0} (w : Option A) → is_some w ≡ true → (y : A) × (w ≡ Some y)
+some_of None e = absurd cc
+some_of (Some y) e = (y, refl)
+
+object_in : (w : Option Held) (o : ℕ) → option_map (λ (x : Held). x.object) w ≡ Some o → (x : Held) × ((w ≡ Some x) × (x.object ≡ o))
+object_in None o e = absurd cc
+object_in (Some x) o e = let same : x.object ≡ o = cc in (x, (refl, same))
+
+pub call_here : (c : Config) (h : History) (t : Kept) (s d o : ℕ) → Agrees c h t → IsFree c h s d → option_map (λ (x : Held). x.object) (holds h s d) ≡ Some o → IsHere c h t s d o
+call_here c h t s d o a free is =
+    let there = object_in (holds h s d) o is in
+    let found = some_of (attributes c h there.0.object) (not_bad_queue c h s d there.0 free.held there.1.0) in
+    let lives' = a.sessions.lives s ∙ free.lives in
+    record { x = there.0; given = found.0; held = there.1.0; same = there.1.1; made = found.1; lives = holds_alive h s d there.0 there.1.0; live' = lives'; within = within_live t.sessions s lives' }
+
+-- and its queue stands in the table
+pub queue_stands : (c : Config) (h : History) (t : Kept) (s d o : ℕ) → Agrees c h t → IsHere c h t s d o → is_some (queue_at t.objects o) ≡ true
+queue_stands c h t s d o a here = subst (λ (i : ℕ). is_some (queue_at t.objects i) ≡ true) here.same (ap is_some (queue_there c h t here.x.object here.given a here.lives here.made))
+
+-- so who is served stands in the table of sessions
+receivers_stand : (c : Config) (h : History) (t : Kept) (o : ℕ) (y : Attributes) → Legal c h → Agrees c h t → alive h o ≡ true → attributes c h o ≡ Some y → ReceiverStands t o
+receivers_stand c h t o y legal a lives e = λ q who is first'.
+    let same : tickets_of (queue c h o) y ≡ q = (let both = sym (queue_there c h t o y a lives e) ∙ is in cc) in
+    let found = first_mapped (receivers c h o) who (ap (λ (r : Tickets). first r.receivers) same ∙ first') in
+    subst (λ (s : ℕ). s < length t.sessions) found.1.1 (receiver_stands c h t.sessions o found.0 legal a.sessions found.1.0)
+
+senders_stand : (c : Config) (h : History) (t : Kept) (o : ℕ) (y : Attributes) → Legal c h → Agrees c h t → alive h o ≡ true → attributes c h o ≡ Some y → SenderStands t o
+senders_stand c h t o y legal a lives e = λ q who is first'.
+    let same : tickets_of (queue c h o) y ≡ q = (let both = sym (queue_there c h t o y a lives e) ∙ is in cc) in
+    let found = first_sender (senders c h o) who (ap (λ (r : Tickets). first r.senders) same ∙ first') in
+    subst (λ (s : ℕ). s < length t.sessions) found.1.1 (sender_stands c h t.sessions o found.0 legal a.sessions found.1.0)
+
+pub receiver_is : (c : Config) (h : History) (t : Kept) (s d o : ℕ) → Legal c h → Agrees c h t → IsHere c h t s d o → ReceiverStands t o
+receiver_is c h t s d o legal a here = subst (ReceiverStands t) here.same (receivers_stand c h t here.x.object here.given legal a here.lives here.made)
+
+pub sender_is : (c : Config) (h : History) (t : Kept) (s d o : ℕ) → Legal c h → Agrees c h t → IsHere c h t s d o → SenderStands t o
+sender_is c h t s d o legal a here = subst (SenderStands t) here.same (senders_stand c h t here.x.object here.given legal a here.lives here.made)
+
+-- what is held has a number
+pub number_there : (w : Option Held) → is_some w ≡ true → option_map (λ (x : Held). x.object) w ≡ None → ⊥
+number_there None e k = cc
+number_there (Some x) e k = cc

@@ -1,0 +1,9 @@
+use Rattle.ipc_state.proofs.Accepted.{leaver_within}
+use Rattle.ipc_state.proofs.Accepting.{agrees_ended}
+use Rattle.ipc_state.proofs.accept.accept_hangup.Goals as goal
+
+pub end_session-requires : goal.end_session-requires
+end_session-requires c = leaver_within _ _ _ c.args.sid c.requires.core.agrees c.requires.accepted
+
+pub returns : goal.returns
+returns c = rw c.end_session.ensures (agrees_ended _ _ _ c.args.sid c.requires.core (leaver_within _ _ _ c.args.sid c.requires.core.agrees c.requires.accepted))

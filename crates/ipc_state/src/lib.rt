@@ -1,0 +1,13 @@
+//! The state of a server: the tables are what the policy makes of all that happened. It answers the policy's
+//! questions in the policy's words, and does and records an event.
+#![tactic(auto)]
+
+mod accept;
+mod limits;
+mod looking;
+mod message;
+mod states;
+
+pub use limits::{Field, first_bad};
+pub use message::Message;
+pub use states::State;

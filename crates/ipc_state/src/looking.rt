@@ -1,0 +1,115 @@
+//! What is looked up in the tables.
+
+ghost use Rattle.std.specs.Prelude.{◌≡◌, ◌==◌, length, slice_get, is_some, option_and_then};
+ghost use Rattle.std.specs.Option.{option_map, option_copied};
+ghost use Rattle.ipc_access.specs.Users.{cred_of};
+ghost use Rattle.ipc_descr.specs.Descriptions.{row_of};
+ghost use Rattle.ipc_queue.specs.Tickets.{is_full_of};
+ghost use Rattle.ipc_tables.specs.Objects.{row_at, facts_at, queue_at};
+ghost use Rattle.ipc_tables.specs.Kept.{live_at, parked_on_at};
+ghost use Rattle.ipc_policy.specs.History.{there_is};
+ghost use Rattle.ipc_state.specs.Agrees.{held_in};
+
+use ipc_access::Cred;
+use ipc_policy::{Config, Held};
+use ipc_queue::Queue;
+use ipc_tables::Tables;
+use ipc_terms::{Desc, Facts, Object, Sid};
+
+pub fn is_live(tables: &Tables, sid: Sid) -> bool
+    ensures { result ≡ live_at tables.now.sessions sid.0 }
+{
+    match tables.session(sid) {
+        Some(session) => session.is_live,
+        None => false,
+    }
+}
+
+/// Whether the session's call is parked.
+pub fn is_parked(tables: &Tables, sid: Sid) -> bool
+    ensures { result ≡ is_some (parked_on_at tables.now.sessions sid.0) }
+{
+    match tables.session(sid) {
+        Some(session) => session.parked_on.is_some(),
+        None => false,
+    }
+}
+
+/// Who the session's user is.
+pub fn cred<'a>(config: &'a Config, tables: &Tables, sid: Sid) -> Option<&'a Cred>
+    ensures { option_copied result ≡ option_and_then (λ row. cred_of config.now.users row.user) (slice_get tables.now.sessions sid.0) }
+{
+    match tables.session(sid) {
+        Some(session) => config.users.cred(session.user),
+        None => None,
+    }
+}
+
+/// The number of the object that the session has by the description.
+pub fn object_number(tables: &Tables, sid: Sid, desc: Desc) -> Option<u64>
+    ensures { result ≡ option_map (λ row. row.object) (row_of tables.now.descriptions.rows sid.0 desc.0) }
+{
+    tables.descriptions().get(sid, desc).map(|row| row.object)
+}
+
+/// What the session holds by the description.
+pub fn held(tables: &Tables, sid: Sid, desc: Desc) -> Option<Held>
+    ensures { result ≡ option_map held_in (row_of tables.now.descriptions.rows sid.0 desc.0) }
+{
+    tables.descriptions().get(sid, desc).map(|row| Held {
+        session: row.session,
+        object: row.object,
+        access: row.access,
+    })
+}
+
+/// Whether the session holds the description, and its calls are refused where they would wait.
+pub fn is_nonblock(tables: &Tables, sid: Sid, desc: Desc) -> bool
+    ensures { result ≡ there_is (λ row. row.nonblock) (row_of tables.now.descriptions.rows sid.0 desc.0) }
+{
+    match tables.descriptions().get(sid, desc) {
+        Some(row) => row.nonblock,
+        None => false,
+    }
+}
+
+/// The owner, group and mode of the object.
+pub fn facts(tables: &Tables, object: Option<u64>) -> Option<Facts>
+    ensures { result ≡ option_and_then (facts_at tables.now.objects) object }
+{
+    tables.object(object?).map(|row| row.facts)
+}
+
+/// What the object is.
+pub fn object(tables: &Tables, number: Option<u64>) -> Option<Object>
+    ensures { result ≡ option_and_then (λ o. option_map (λ row. row.object) (row_at tables.now.objects o)) number }
+{
+    tables.object(number?).map(|row| row.object)
+}
+
+/// The queue that the object is.
+pub fn queue(tables: &Tables, object: Option<u64>) -> Option<&Queue>
+    ensures { option_copied result ≡ option_and_then (queue_at tables.now.objects) object }
+{
+    tables.queue(object?)
+}
+
+/// Whether there is a queue, and it has as many messages as it may.
+pub fn is_full(queue: Option<&Queue>) -> bool
+    ensures { result ≡ there_is is_full_of (option_copied queue.entry) }
+{
+    match queue {
+        Some(queue) => queue.is_full(),
+        None => false,
+    }
+}
+
+/// Whether there is a queue, and it has no messages.
+pub fn is_empty(queue: Option<&Queue>) -> bool
+    ensures { result ≡ there_is (λ q. length q.tickets == 0) (option_copied queue.entry) }
+{
+    match queue {
+        Some(queue) => queue.len() == 0,
+        None => false,
+    }
+}

@@ -1,0 +1,51 @@
+-- Objects in their table, and what is looked up there.
+use Rattle.std.specs.Prelude.{Bool, ℕ, ◌<◌, ◌==◌, List, [], find, Option, Some, None, option_and_then}
+use Rattle.std.specs.Option.{option_map}
+use Rattle.ipc_terms.specs.declared.facts.Facts.{Facts}
+use Rattle.ipc_terms.specs.declared.object.Kind.{Kind}
+use Rattle.ipc_terms.specs.declared.object.Kind.TheVariants.{Queue as QueueKind}
+use Rattle.ipc_terms.specs.declared.object.Object.{Object}
+use Rattle.ipc_queue.specs.Tickets.{Tickets}
+use Rattle.ipc_tables.specs.declared.rows.Body.{Body}
+use Rattle.ipc_tables.specs.declared.rows.Body.TheVariants.{Queue as QueueBody}
+use Rattle.ipc_tables.specs.declared.rows.ObjectRow.{ObjectRow}
+
+-- a queue has room for a message of a byte
+abbrev pub HasRoom : Kind → Type 0
+HasRoom (QueueKind attributes) = (0 < attributes.maxmsg) × (0 < attributes.msgsize)
+
+-- the queue, if it is one
+abbrev pub queue_in : Body → Option Tickets
+queue_in (QueueBody queue) = Some queue
+
+-- the queue changes
+abbrev pub with_body : (Tickets → Tickets) → Body → Body
+with_body change (QueueBody queue) = QueueBody (change queue)
+
+-- what stands in a new object
+abbrev pub new_body : Kind → Body
+new_body (QueueKind attributes) = QueueBody (record { maxmsg = attributes.maxmsg; msgsize = attributes.msgsize; tickets = []; senders = []; receivers = [] })
+
+-- the row of a new object
+abbrev pub new_row : ℕ → Object → Facts → ObjectRow
+new_row o object facts = record { number = o; object = object; facts = facts; body = new_body object.kind }
+
+-- whether this is object o
+abbrev pub is_number : ℕ → ObjectRow → Bool
+is_number o row = row.number == o
+
+-- the row of object o
+abbrev pub row_at : List ObjectRow → ℕ → Option ObjectRow
+row_at objects o = find (is_number o) objects
+
+-- the owner, group and mode of object o
+abbrev pub facts_at : List ObjectRow → ℕ → Option Facts
+facts_at objects o = option_map (λ row. row.facts) (row_at objects o)
+
+-- the queue that object o is
+abbrev pub queue_at : List ObjectRow → ℕ → Option Tickets
+queue_at objects o = option_and_then (λ row. queue_in row.body) (row_at objects o)
+
+-- the queue in a row changes
+abbrev pub with_queue : (Tickets → Tickets) → ObjectRow → ObjectRow
+with_queue change row = record row { body = with_body change row.body }

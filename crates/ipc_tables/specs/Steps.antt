@@ -1,0 +1,133 @@
+-- What each call does to the tables.
+use Rattle.std.specs.Prelude.{◌≡◌, Bool, true, false, ℕ, ◌+◌, ◌<◌, List, [], ◌∷◌, ◌++◌, length, filter, Option, Some, None}
+use Rattle.std.specs.Option.{option_map}
+use Rattle.ipc_terms.specs.Lists.{first, changed, changed_first}
+use Rattle.ipc_terms.specs.declared.ids.Uid.{Uid}
+use Rattle.ipc_terms.specs.declared.ids.Sid.{Sid}
+use Rattle.ipc_terms.specs.declared.ids.Mode.{Mode}
+use Rattle.ipc_terms.specs.declared.object.Object.{Object}
+use Rattle.ipc_terms.specs.declared.facts.Facts.{Facts}
+use Rattle.ipc_names.specs.Directory.{Directory, without_name}
+use Rattle.ipc_descr.specs.declared.row.Row.{Row}
+use Rattle.ipc_descr.specs.Descriptions.{with_open, is_desc, without_desc, without_session, with_nonblock}
+use Rattle.ipc_queue.specs.declared.queue.Ticket.{Ticket}
+use Rattle.ipc_queue.specs.declared.queue.ParkedSend.{ParkedSend}
+use Rattle.ipc_queue.specs.declared.queue.SendOutcome.{SendOutcome}
+use Rattle.ipc_queue.specs.declared.queue.SendOutcome.TheVariants.{HandedTo, Parked as SendParks}
+use Rattle.ipc_queue.specs.declared.queue.ReceiveOutcome.{ReceiveOutcome}
+use Rattle.ipc_queue.specs.declared.queue.ReceiveOutcome.TheVariants.{TookAndAdmitted, Parked as ReceiveParks}
+use Rattle.ipc_queue.specs.Tickets.{Tickets, send_outcome, sent, receive_outcome, received, withdrawn}
+use Rattle.ipc_tables.specs.declared.rows.Session.{Session}
+use Rattle.ipc_tables.specs.declared.rows.ObjectRow.{ObjectRow}
+use Rattle.ipc_tables.specs.declared.tables.Grant.{Grant}
+use Rattle.ipc_tables.specs.Objects.{is_number, queue_at, new_row, with_queue}
+use Rattle.ipc_tables.specs.Kept.{Kept, is_alive, parked_on_at}
+
+abbrev pub with_mask : Mode → Session → Session
+with_mask mask row = record row { mask = mask }
+
+abbrev pub with_parked : Option ℕ → Session → Session
+with_parked object row = record row { parked_on = object }
+
+abbrev pub hung_up : Session → Session
+hung_up row = record row { is_live = false }
+
+-- a session starts, with the mask octal 022
+abbrev pub after_hello : Kept → Uid → Kept
+after_hello t user = record t { sessions = t.sessions ++ record { user = user; mask = record { 0 = 18 }; is_live = true; parked_on = None } ∷ [] }
+
+abbrev pub after_umask : Kept → ℕ → Mode → Kept
+after_umask t s mask = record t { sessions = changed (with_mask mask) t.sessions s }
+
+-- an open of what there is
+abbrev pub after_found : Kept → Grant → ℕ → Kept
+after_found t grant o = record t { descriptions = with_open t.descriptions grant.session o grant.access grant.nonblock }
+
+-- an open that creates a queue
+abbrev pub after_created : Kept → Grant → List ℕ → Object → Facts → Kept
+after_created t grant name object facts =
+    record t {
+      queues = record t.queues { bindings = t.queues.bindings ++ record { name = name; object = t.created } ∷ [] };
+      objects = t.objects ++ new_row t.created object facts ∷ [];
+      created = t.created + 1;
+      descriptions = with_open t.descriptions grant.session t.created grant.access grant.nonblock;
+    }
+
+-- the objects that are alive
+abbrev pub living : Directory → Directory → List Row → List ObjectRow → List ObjectRow
+living queues semaphores rows objects = filter (λ row. is_alive queues semaphores rows row.number) objects
+
+-- other descriptions are held, and the objects that nothing keeps are gone
+abbrev pub with_rows : Kept → List Row → Kept
+with_rows t rows =
+    record t {
+      descriptions = record t.descriptions { rows = rows };
+      objects = living t.queues t.semaphores rows t.objects;
+    }
+
+abbrev pub after_close : Kept → ℕ → ℕ → Kept
+after_close t s d = with_rows t (without_desc t.descriptions.rows s d)
+
+abbrev pub after_unlink : Kept → List ℕ → Kept
+after_unlink t name =
+    record t {
+      queues = record t.queues { bindings = without_name t.queues.bindings name };
+      objects = living (record t.queues { bindings = without_name t.queues.bindings name }) t.semaphores t.descriptions.rows t.objects;
+    }
+
+-- a session that a send serves is parked no more, and one whose send parks is parked on the object
+abbrev pub parked_by_send : ℕ → Sid → Option SendOutcome → List Session → List Session
+parked_by_send o sid (Some (HandedTo receiver)) sessions = changed (with_parked None) sessions receiver.0
+parked_by_send o sid (Some SendParks) sessions = changed (with_parked (Some o)) sessions sid.0
+parked_by_send o sid _ sessions = sessions
+
+-- a send of the session to object o
+abbrev pub after_send : Kept → ℕ → Ticket → Sid → Kept
+after_send t o ticket sid =
+    record t {
+      sessions = parked_by_send o sid (option_map send_outcome (queue_at t.objects o)) t.sessions;
+      objects = changed_first (is_number o) (with_queue (sent ticket sid)) t.objects;
+    }
+
+-- a session whose send a receive lets in is parked no more, and one whose receive parks is parked on the object
+abbrev pub parked_by_receive : ℕ → Sid → Option ReceiveOutcome → List Session → List Session
+parked_by_receive o sid (Some (TookAndAdmitted place sender)) sessions = changed (with_parked None) sessions sender.0
+parked_by_receive o sid (Some ReceiveParks) sessions = changed (with_parked (Some o)) sessions sid.0
+parked_by_receive o sid _ sessions = sessions
+
+-- a receive of the session from object o
+abbrev pub after_receive : Kept → ℕ → Sid → Kept
+after_receive t o sid =
+    record t {
+      sessions = parked_by_receive o sid (option_map receive_outcome (queue_at t.objects o)) t.sessions;
+      objects = changed_first (is_number o) (with_queue (received sid)) t.objects;
+    }
+
+-- the session whose receive has been parked longest on object o stands in the table
+abbrev pub ReceiverStands : Kept → ℕ → Type 0
+ReceiverStands t o = (q : Tickets) (who : Sid) → queue_at t.objects o ≡ Some q → first q.receivers ≡ Some who → who.0 < length t.sessions
+
+-- and so does the one whose send has been
+abbrev pub SenderStands : Kept → ℕ → Type 0
+SenderStands t o = (q : Tickets) (m : ParkedSend) → queue_at t.objects o ≡ Some q → first q.senders ≡ Some m → m.session.0 < length t.sessions
+
+-- the call in which a session is parked is withdrawn from its queue
+abbrev pub after_withdrawal : Kept → Sid → Kept
+after_withdrawal t sid = by_object (parked_on_at t.sessions sid.0) where
+  by_object : Option ℕ → Kept
+  by_object None = t
+  by_object (Some o) =
+      record t {
+        sessions = changed (with_parked None) t.sessions sid.0;
+        objects = changed_first (is_number o) (with_queue (withdrawn sid)) t.objects;
+      }
+
+-- a session is live no more, and what it held is closed
+abbrev pub ended : Kept → ℕ → Kept
+ended t s = record (with_rows t (without_session t.descriptions.rows s)) { sessions = changed hung_up t.sessions s }
+
+abbrev pub after_hangup : Kept → Sid → Kept
+after_hangup t sid = ended (after_withdrawal t sid) sid.0
+
+abbrev pub after_setattr : Kept → ℕ → Bool → Kept
+after_setattr t d nonblock = record t { descriptions = record t.descriptions { rows = changed_first (is_desc d) (with_nonblock nonblock) t.descriptions.rows } }

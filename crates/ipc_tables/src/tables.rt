@@ -1,0 +1,356 @@
+//! The tables.
+
+ghost use Rattle.std.specs.Prelude.{◌≡◌, ◌+◌, ◌^◌, ◌<◌, [], true, length, slice_get, position, is_some, IsSome, None, OnOk, OnErr};
+ghost use Rattle.std.specs.Option.{option_copied};
+ghost use Rattle.ipc_terms.specs.Lists.{changed};
+ghost use Rattle.ipc_terms.specs.declared.ids.Family.TheVariants.{Mq, Sem};
+ghost use Rattle.ipc_names.specs.Directory.{first_directory, object_named};
+ghost use Rattle.ipc_descr.specs.Descriptions.{row_of, is_open};
+ghost use Rattle.ipc_tables.specs.Objects.{HasRoom, is_number, row_at, queue_at};
+ghost use Rattle.ipc_tables.specs.Kept.{directory_kept, is_alive};
+ghost use Rattle.ipc_tables.specs.Steps.{hung_up, with_parked, living, ReceiverStands, SenderStands, after_hello, after_umask, after_found, after_created, after_close, after_unlink, after_hangup, after_send, after_receive, after_withdrawal, ended, after_setattr};
+
+use crate::rows::{Body, ObjectRow, Session};
+use ipc_descr::Descrs;
+use ipc_names::NameDir;
+use ipc_queue::{Queue, ReceiveOutcome, SendOutcome};
+use ipc_terms::{Access, Desc, Facts, Family, Mode, Name, NoMemory, Object, Sid, Uid, push_within};
+use std::alloc::Global;
+use std::marker::Model;
+
+/// Who opens a description, and what it gives besides the object.
+#[derive(Clone, Copy)]
+pub struct Grant {
+    pub session: Sid,
+    pub access: Access,
+    pub nonblock: bool,
+}
+
+/// Sessions stand at their numbers. Of the objects, those that are alive: numbered by the objects
+/// created before them, and in the order of their numbers.
+#[derive(Drop)]
+pub struct Tables {
+    sessions: Vec<Session>,
+    queues: NameDir,
+    semaphores: NameDir,
+    objects: Vec<ObjectRow>,
+    created: u64,
+    descriptions: Descrs,
+}
+
+impl Model for Tables {
+    ghost use Rattle.ipc_tables.specs.Kept.{Kept};
+
+    ghost Value = { Kept };
+
+    ghost view = { λ a. record { sessions = a.sessions.items; queues = a.queues; semaphores = a.semaphores; objects = a.objects.items; created = a.created; descriptions = a.descriptions } };
+}
+
+/// The mask of a session that has set none: octal 022.
+const FIRST_MASK: Mode = Mode(0o22);
+
+impl Tables {
+    /// No sessions, names, objects and descriptions. Takes no memory.
+    pub fn new(alloc: Global) -> Self
+        ensures { result ≡ record { sessions = []; queues = first_directory Mq; semaphores = first_directory Sem; objects = []; created = 0; descriptions = record { rows = []; opened = 0 } } }
+    {
+        Tables {
+            sessions: Vec::new(alloc),
+            queues: NameDir::new(alloc, Family::Mq),
+            semaphores: NameDir::new(alloc, Family::Sem),
+            objects: Vec::new(alloc),
+            created: 0,
+            descriptions: Descrs::new(alloc),
+        }
+    }
+
+    /// The session of the number, live or not.
+    pub fn session(&self, sid: Sid) -> Option<Session>
+        ensures { result ≡ slice_get self.now.sessions sid.0 }
+    {
+        self.sessions.get(sid.0 as usize).copied()
+    }
+
+    /// How many sessions ever started.
+    pub fn session_count(&self) -> usize
+        ensures { result ≡ length self.now.sessions }
+    {
+        self.sessions.len()
+    }
+
+    /// The names of the family, and its directory.
+    pub fn names(&self, family: Family) -> &NameDir
+        ensures { result.now ≡ directory_kept family self.now }
+    {
+        match family {
+            Family::Mq => &self.queues,
+            Family::Sem => &self.semaphores,
+        }
+    }
+
+    /// The object of the number, while it is alive.
+    pub fn object(&self, number: u64) -> Option<&ObjectRow>
+        ensures { option_copied result ≡ row_at self.now.objects number }
+    {
+        find_object(&self.objects, number)
+    }
+
+    /// The queue that the object is, while it is alive.
+    pub fn queue(&self, object: u64) -> Option<&Queue>
+        ensures { option_copied result ≡ queue_at self.now.objects object }
+    {
+        self.object(object)?.body.queue()
+    }
+
+    /// The descriptions that are held.
+    pub fn descriptions(&self) -> &Descrs
+        ensures { result.now ≡ self.now.descriptions }
+    {
+        &self.descriptions
+    }
+
+    /// Starts a session of the user. An `Err` changes nothing.
+    pub fn start_session(&mut self, user: Uid) -> Result<(), NoMemory>
+        ensures ok { OnOk result (self.new ≡ after_hello self.old user) }
+        ensures err { OnErr result (self.new ≡ self.old) }
+    {
+        self.sessions.push(Session {
+            user,
+            mask: FIRST_MASK,
+            is_live: true,
+            parked_on: None,
+        })?;
+        Ok(())
+    }
+
+    /// Gives the session this mask.
+    pub fn set_mask(&mut self, sid: Sid, mask: Mode)
+        requires { sid.0 < length self.old.sessions }
+        ensures { self.new ≡ after_umask self.old sid.0 mask }
+    {
+        let session = &mut self.sessions[sid.0 as usize];
+        session.mask = mask;
+    }
+
+    /// Opens an object that is there. An `Err` changes nothing.
+    pub fn open_found(&mut self, grant: Grant, object: u64) -> Result<(), NoMemory>
+        requires { self.old.descriptions.opened < 2 ^ 63 }
+        ensures ok { OnOk result (self.new ≡ after_found self.old grant object) }
+        ensures err { OnErr result (self.new ≡ self.old) }
+    {
+        self.descriptions
+            .open(grant.session, object, grant.access, grant.nonblock)?;
+        Ok(())
+    }
+
+    /// Makes an object, binds the queue's name to it, and opens it. An `Err` changes nothing.
+    pub fn open_created(
+        &mut self,
+        alloc: Global,
+        grant: Grant,
+        name: &Name,
+        object: Object,
+        facts: Facts,
+    ) -> Result<(), NoMemory>
+        requires unbound { object_named self.old.queues.bindings name.now ≡ None }
+        requires opened { self.old.descriptions.opened < 2 ^ 63 }
+        requires created { self.old.created + 1 < 2 ^ 64 }
+        requires room { HasRoom object.kind }
+        ensures ok { OnOk result (self.new ≡ after_created self.old grant name.now object facts) }
+        ensures err { OnErr result (self.new ≡ self.old) }
+    {
+        let number = self.created;
+        self.objects.reserve(1)?;
+        self.queues.bind(name.try_clone()?, number)?;
+        if self
+            .descriptions
+            .open(grant.session, number, grant.access, grant.nonblock)
+            .is_err()
+        {
+            self.queues.unbind(name);
+            return Err(NoMemory);
+        }
+        let row = ObjectRow {
+            number,
+            object,
+            facts,
+            body: Body::new(alloc, object.kind),
+        };
+        push_within(&mut self.objects, row);
+        self.created += 1;
+        Ok(())
+    }
+
+    /// The session's message of this priority, whose send stands at the place `ticket`, is handed
+    /// to the longest parked receive, or enters the queue, or its send parks. An `Err` changes
+    /// nothing.
+    pub fn send(
+        &mut self,
+        object: u64,
+        ticket: u64,
+        priority: u32,
+        sid: Sid,
+    ) -> Result<(), NoMemory>
+        requires queue { is_some (queue_at self.old.objects object) ≡ true }
+        requires receiver { ReceiverStands self.old object }
+        requires session { sid.0 < length self.old.sessions }
+        ensures ok { OnOk result (self.new ≡ after_send self.old object (record { place = ticket; priority = priority }) sid) }
+        ensures err { OnErr result (self.new ≡ self.old) }
+    {
+        let Some(index) = find_index(&self.objects, object) else {
+            unreachable!();
+        };
+        match self.objects[index].body.send(ticket, priority, sid)? {
+            SendOutcome::Queued => {}
+            SendOutcome::HandedTo(receiver) => self.set_parked(receiver, None),
+            SendOutcome::Parked => self.set_parked(sid, Some(object)),
+        }
+        Ok(())
+    }
+
+    /// The session takes the next message from the queue, and lets the longest parked send enter;
+    /// or its receive parks. An `Err` changes nothing.
+    pub fn receive(&mut self, object: u64, sid: Sid) -> Result<(), NoMemory>
+        requires queue { is_some (queue_at self.old.objects object) ≡ true }
+        requires sender { SenderStands self.old object }
+        requires session { sid.0 < length self.old.sessions }
+        ensures ok { OnOk result (self.new ≡ after_receive self.old object sid) }
+        ensures err { OnErr result (self.new ≡ self.old) }
+    {
+        let Some(index) = find_index(&self.objects, object) else {
+            unreachable!();
+        };
+        match self.objects[index].body.receive(sid)? {
+            ReceiveOutcome::Took(_) => {}
+            ReceiveOutcome::TookAndAdmitted(_, sender) => self.set_parked(sender, None),
+            ReceiveOutcome::Parked => self.set_parked(sid, Some(object)),
+        }
+        Ok(())
+    }
+
+    /// Withdraws the call in which the session is parked, if it is.
+    pub fn withdraw(&mut self, sid: Sid)
+        requires { sid.0 < length self.old.sessions }
+        ensures { self.new ≡ after_withdrawal self.old sid }
+    {
+        let Some(object) = self.sessions[sid.0 as usize].parked_on else {
+            return;
+        };
+        if let Some(index) = find_index(&self.objects, object) {
+            self.objects[index].body.withdraw(sid);
+        }
+        self.set_parked(sid, None);
+    }
+
+    /// The session's call is parked on this object, or on none.
+    fn set_parked(&mut self, sid: Sid, object: Option<u64>)
+        requires { sid.0 < length self.old.sessions }
+        ensures { self.new ≡ record self.old { sessions = changed (with_parked object) self.old.sessions sid.0 } }
+    {
+        let session = &mut self.sessions[sid.0 as usize];
+        session.parked_on = object;
+    }
+
+    /// Sets whether the calls by the description are refused where they would wait.
+    pub fn set_nonblock(&mut self, sid: Sid, desc: Desc, nonblock: bool)
+        requires { IsSome (row_of self.old.descriptions.rows sid.0 desc.0) }
+        ensures { self.new ≡ after_setattr self.old desc.0 nonblock }
+    {
+        self.descriptions.set_nonblock(sid, desc, nonblock);
+    }
+
+    /// Closes the description, if the session holds it. An object that nothing keeps is gone.
+    pub fn close(&mut self, sid: Sid, desc: Desc)
+        ensures { self.new ≡ after_close self.old sid.0 desc.0 }
+    {
+        self.descriptions.close(sid, desc);
+        self.remove_dead();
+    }
+
+    /// Leaves the queue's name unbound. An object that nothing keeps is gone.
+    pub fn unlink(&mut self, name: &Name)
+        ensures { self.new ≡ after_unlink self.old name.now }
+    {
+        self.queues.unbind(name);
+        self.remove_dead();
+    }
+
+    /// Ends the session: withdraws its parked call, and closes what it holds. An object that nothing
+    /// keeps is gone.
+    pub fn end_session(&mut self, sid: Sid)
+        requires { sid.0 < length self.old.sessions }
+        ensures { self.new ≡ after_hangup self.old sid }
+    {
+        self.withdraw(sid);
+        self.end(sid);
+    }
+
+    /// The session is live no more, and what it holds is closed. An object that nothing keeps is gone.
+    fn end(&mut self, sid: Sid)
+        requires { sid.0 < length self.old.sessions }
+        ensures { self.new ≡ ended self.old sid.0 }
+    {
+        self.mark_ended(sid);
+        self.descriptions.close_all(sid);
+        self.remove_dead();
+    }
+
+    /// Removes the objects that nothing keeps, with what stands in them.
+    fn remove_dead(&mut self)
+        ensures { self.new ≡ record self.old { objects = living self.old.queues self.old.semaphores self.old.descriptions.rows self.old.objects } }
+    {
+        keep_living(
+            &mut self.objects,
+            &self.queues,
+            &self.semaphores,
+            &self.descriptions,
+        );
+    }
+
+    /// The session is live no more.
+    fn mark_ended(&mut self, sid: Sid)
+        requires { sid.0 < length self.old.sessions }
+        ensures { self.new ≡ record self.old { sessions = changed hung_up self.old.sessions sid.0 } }
+    {
+        let session = &mut self.sessions[sid.0 as usize];
+        session.is_live = false;
+    }
+}
+
+/// Keeps the objects that have a name, or that a description gives.
+fn keep_living(
+    objects: &mut Vec<ObjectRow>,
+    queues: &NameDir,
+    semaphores: &NameDir,
+    descriptions: &Descrs,
+)
+    ensures { objects.new.items ≡ living queues.now semaphores.now descriptions.now.rows objects.old.items }
+{
+    objects.retain(|row| keeps(queues, semaphores, descriptions, row.number));
+}
+
+/// Whether the object has a name, or a description gives it.
+fn keeps(queues: &NameDir, semaphores: &NameDir, descriptions: &Descrs, object: u64) -> bool
+    ensures { result ≡ is_alive queues.now semaphores.now descriptions.now.rows object }
+{
+    queues.names_object(object) || semaphores.names_object(object) || is_open(descriptions, object)
+}
+
+/// Whether a description gives the object.
+fn is_open(descriptions: &Descrs, object: u64) -> bool
+    ensures { result ≡ is_open descriptions.now.rows object }
+{
+    descriptions.uses(object) > 0
+}
+
+fn find_object(objects: &[ObjectRow], number: u64) -> Option<&ObjectRow>
+    ensures { option_copied result ≡ row_at objects.now number }
+{
+    objects.iter().find(|row| row.number == number)
+}
+
+fn find_index(objects: &[ObjectRow], number: u64) -> Option<usize>
+    ensures { result ≡ position (is_number number) objects.now }
+{
+    objects.iter().position(|row| row.number == number)
+}

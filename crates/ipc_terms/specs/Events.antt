@@ -1,0 +1,10 @@
+-- Events.
+use Rattle.ipc_terms.specs.declared.ids.Sid.{Sid}
+use Rattle.ipc_terms.specs.declared.record.Event.{Event}
+use Rattle.ipc_terms.specs.declared.record.Event.TheVariants.{Hello, Do, Hangup}
+
+-- the session that an event names; a hello names nobody
+abbrev pub caller : Event → Sid
+caller (Hello found) = record { 0 = 18446744073709551615 }
+caller (Do sid call) = sid
+caller (Hangup sid) = sid

@@ -1,0 +1,201 @@
+//! Each public call on descriptions, and worked lists of them.
+
+use ipc_descr::{Descrs, Row};
+use ipc_terms::{Access, Desc, Sid};
+use std::alloc::Global;
+use std::test::Fail;
+
+const ANN: Sid = Sid(0);
+
+const BOB: Sid = Sid(1);
+
+/// One step on the descriptions, and what it is to give.
+#[derive(Clone, Copy)]
+enum Step {
+    Open(Sid, u64, Access, bool, Desc),
+    Get(Sid, Desc, Option<Row>),
+    SetNonblock(Sid, Desc, bool),
+    Close(Sid, Desc, Option<u64>),
+    CloseAll(Sid),
+    First(Sid, Option<Desc>),
+    Holder(Desc, Option<Sid>),
+    Count(Sid, usize),
+    Uses(u64, usize),
+    Slot(Sid, Desc, Option<usize>),
+    Opened(u64),
+}
+
+use Step::{Close, CloseAll, Count, First, Get, Holder, Open, Opened, SetNonblock, Slot, Uses};
+
+/// Opens. An open that is refused for want of memory is made again: it used up no number.
+fn retried_open(
+    descrs: &mut Descrs,
+    sid: Sid,
+    object: u64,
+    access: Access,
+    nonblock: bool,
+) -> Result<Desc, Fail> {
+    if descrs.opened() >= 1 << 63 {
+        return Err(Fail::new("too many opens"));
+    }
+    match descrs.open(sid, object, access, nonblock) {
+        Ok(desc) => Ok(desc),
+        Err(_) => Ok(descrs.open(sid, object, access, nonblock)?),
+    }
+}
+
+/// Sets whether calls by the description are refused where they would wait, and says whether the
+/// session holds it.
+fn sets(descrs: &mut Descrs, sid: Sid, desc: Desc, nonblock: bool) -> bool {
+    let held = descrs.get(sid, desc).is_some();
+    if held {
+        descrs.set_nonblock(sid, desc, nonblock);
+    }
+    held
+}
+
+/// Does the step, and says whether it gave what it is to give.
+fn gives(descrs: &mut Descrs, step: Step) -> Result<bool, Fail> {
+    Ok(match step {
+        Open(sid, object, access, nonblock, wanted) => {
+            retried_open(descrs, sid, object, access, nonblock)? == wanted
+        }
+        Get(sid, desc, wanted) => descrs.get(sid, desc).copied() == wanted,
+        SetNonblock(sid, desc, nonblock) => sets(descrs, sid, desc, nonblock),
+        Close(sid, desc, wanted) => descrs.close(sid, desc) == wanted,
+        CloseAll(sid) => {
+            descrs.close_all(sid);
+            true
+        }
+        First(sid, wanted) => descrs.first(sid) == wanted,
+        Holder(desc, wanted) => descrs.holder(desc) == wanted,
+        Count(sid, wanted) => descrs.count(sid) == wanted,
+        Uses(object, wanted) => descrs.uses(object) == wanted,
+        Slot(sid, desc, wanted) => descrs.slot(sid, desc) == wanted,
+        Opened(wanted) => descrs.opened() == wanted,
+    })
+}
+
+/// Does the steps in order on no descriptions.
+fn all_give(alloc: Global, steps: &[Step]) -> Result<(), Fail> {
+    let mut descrs = Descrs::new(alloc);
+    for step in steps {
+        if !gives(&mut descrs, *step)? {
+            return Err(Fail::new("a step gives something else"));
+        }
+    }
+    Ok(())
+}
+
+const TWO_SESSIONS: [Step; 7] = [
+    Open(ANN, 4, Access::Read, false, Desc(0)),
+    Open(BOB, 4, Access::Both, true, Desc(1)),
+    Get(BOB, Desc(0), None),
+    Uses(4, 2),
+    Holder(Desc(0), Some(ANN)),
+    Close(ANN, Desc(0), Some(4)),
+    First(BOB, Some(Desc(1))),
+];
+
+const SLOTS: [Step; 10] = [
+    Open(ANN, 1, Access::Read, false, Desc(0)),
+    Open(ANN, 2, Access::Write, false, Desc(1)),
+    Open(BOB, 1, Access::Both, false, Desc(2)),
+    Slot(ANN, Desc(0), Some(0)),
+    Close(ANN, Desc(0), Some(1)),
+    Slot(ANN, Desc(0), None),
+    Slot(ANN, Desc(1), Some(1)),
+    Slot(BOB, Desc(2), Some(2)),
+    Open(BOB, 3, Access::Read, false, Desc(3)),
+    Slot(BOB, Desc(3), Some(0)),
+];
+
+const NONE: [Step; 7] = [
+    Opened(0),
+    Get(ANN, Desc(0), None),
+    Close(ANN, Desc(0), None),
+    First(ANN, None),
+    Holder(Desc(0), None),
+    Count(ANN, 0),
+    Uses(0, 0),
+];
+
+const TO_WRITE: Row = Row {
+    desc: Desc(0),
+    session: BOB,
+    object: 7,
+    access: Access::Write,
+    nonblock: false,
+};
+
+const TO_READ: Row = Row {
+    desc: Desc(1),
+    session: ANN,
+    object: 7,
+    access: Access::Read,
+    nonblock: true,
+};
+
+const TO_BOTH: Row = Row {
+    desc: Desc(2),
+    session: BOB,
+    object: 7,
+    access: Access::Both,
+    nonblock: false,
+};
+
+const HELD_AND_CLOSED: [Step; 17] = [
+    Open(BOB, 7, Access::Write, false, Desc(0)),
+    Open(ANN, 7, Access::Read, true, Desc(1)),
+    Open(BOB, 7, Access::Both, false, Desc(2)),
+    Get(BOB, Desc(0), Some(TO_WRITE)),
+    SetNonblock(BOB, Desc(2), true),
+    Get(
+        BOB,
+        Desc(2),
+        Some(Row {
+            nonblock: true,
+            ..TO_BOTH
+        }),
+    ),
+    SetNonblock(BOB, Desc(2), false),
+    Get(BOB, Desc(2), Some(TO_BOTH)),
+    Get(ANN, Desc(1), Some(TO_READ)),
+    Close(ANN, Desc(0), None),
+    Count(BOB, 2),
+    Uses(7, 3),
+    Close(BOB, Desc(0), Some(7)),
+    Count(BOB, 1),
+    Uses(7, 2),
+    First(BOB, Some(Desc(2))),
+    Opened(3),
+];
+
+const HUNG_UP: [Step; 12] = [
+    Open(ANN, 5, Access::Read, false, Desc(0)),
+    Open(BOB, 5, Access::Read, false, Desc(1)),
+    Open(ANN, 6, Access::Read, false, Desc(2)),
+    CloseAll(ANN),
+    Count(ANN, 0),
+    First(ANN, None),
+    Holder(Desc(2), None),
+    Uses(5, 1),
+    Uses(6, 0),
+    Holder(Desc(1), Some(BOB)),
+    Opened(3),
+    Open(ANN, 6, Access::Both, false, Desc(3)),
+];
+
+#[test]
+fn worked_descriptions(rt: HostRuntime) -> Result<(), Fail> {
+    for steps in [
+        TWO_SESSIONS.as_slice(),
+        SLOTS.as_slice(),
+        NONE.as_slice(),
+        HELD_AND_CLOSED.as_slice(),
+        HUNG_UP.as_slice(),
+    ] {
+        all_give(rt.alloc(), steps)?;
+    }
+    Ok(())
+}

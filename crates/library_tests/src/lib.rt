@@ -1,0 +1,23 @@
+//! The tests of the libraries' calls: tables of steps with what each is to give.
+#![tactic(auto)]
+
+#[cfg(test)]
+mod access_tests;
+#[cfg(test)]
+mod core_tests;
+#[cfg(test)]
+mod descriptions_tests;
+#[cfg(test)]
+mod made;
+#[cfg(test)]
+mod names_tests;
+#[cfg(test)]
+mod queue_tests;
+#[cfg(test)]
+mod script_tests;
+#[cfg(test)]
+mod terms_tests;
+#[cfg(test)]
+mod trail_tests;
+#[cfg(test)]
+mod words_tests;

@@ -1,0 +1,269 @@
+//! What no script shows: readers and writers that fail, the longest line, and when answers are
+//! written.
+
+use ipc_access::UserFault;
+use ipc_core::{Field, Limits};
+use ipc_script::{ScriptFault, run_script};
+use std::alloc::Global;
+use std::cell::Cell;
+use std::io;
+use std::io::{ErrorKind, Read, Write};
+use std::test::Fail;
+
+const FAULTS: [(ScriptFault, &str, u8); 8] = [
+    (
+        ScriptFault::Users(UserFault::BadLine(2)),
+        "users BadLine 2",
+        3,
+    ),
+    (ScriptFault::Users(UserFault::TooMany), "users TooMany", 3),
+    (ScriptFault::Config(Field::MsgMax), "config MsgMax", 3),
+    (ScriptFault::Config(Field::QueuesMax), "config QueuesMax", 3),
+    (ScriptFault::Read, "read", 4),
+    (ScriptFault::Write, "write", 4),
+    (ScriptFault::Memory, "memory", 5),
+    (ScriptFault::Line(7), "line 7", 6),
+];
+
+#[test]
+fn faults_have_words_and_statuses(rt: HostRuntime) -> Result<(), Fail> {
+    for (fault, words, status) in &FAULTS {
+        let shown = format!(in rt.alloc(); "{fault}")?;
+        assert!(rt; shown.as_str() == *words, "{shown}");
+        assert!(rt; fault.status() == *status, "{shown}");
+    }
+    Ok(())
+}
+
+/// Whether a run over memory, with a limit that is out of its range, ends by this fault.
+fn ends_by(alloc: Global, input: &[u8], wanted: ScriptFault) -> bool {
+    let limits = Limits {
+        msg_max: 0,
+        ..Limits::STANDARD
+    };
+    let mut output = Vec::new(alloc);
+    run_script(alloc, limits, input, &mut output) == Err(wanted)
+}
+
+#[test]
+fn limits_are_tested_after_users(rt: HostRuntime) {
+    for (input, fault) in [
+        (b".\n".as_slice(), ScriptFault::Config(Field::MsgMax)),
+        (
+            b"bad\n.\n".as_slice(),
+            ScriptFault::Users(UserFault::BadLine(1)),
+        ),
+    ] {
+        assert!(rt; ends_by(rt.alloc(), input, fault), "at {fault}");
+    }
+}
+
+/// A script whose fourth line is a comment of so many bytes, what it writes, and how it ends.
+const LONG_LINES: [(usize, &str, Result<(), ScriptFault>); 3] = [
+    (1_048_575, "a started 0\n", Ok(())),
+    (1_048_576, "a started 0\n", Ok(())),
+    (1_048_577, "", Err(ScriptFault::Line(3))),
+];
+
+#[test]
+fn a_line_has_at_most_1_048_576_bytes(rt: HostRuntime) -> Result<(), Fail> {
+    let alloc = rt.alloc();
+    for (length, written, outcome) in LONG_LINES {
+        let mut input = Vec::from_slice(alloc, b"ann:ka1:1000:1000::\n.\n")?;
+        input.extend_from_slice(&vec![in alloc; b'#'; length]?)?;
+        input.extend_from_slice(b"\na hello ka1\n")?;
+        let mut output = Vec::new(alloc);
+        let ended = run_script(alloc, Limits::STANDARD, input.as_slice(), &mut output);
+        assert!(rt; ended == outcome, "with {length}");
+        assert!(rt; output.as_slice() == written.as_bytes(), "with {length}");
+    }
+    Ok(())
+}
+
+/// A script, and what it writes.
+const SCRIPT: &str = "ann:ka1:1000:1000::\n.\na hello ka1\na hello\nb hello ka1\n";
+
+const WRITTEN: &str = "a started 0\na fault usage\nb started 1\n";
+
+/// A reader of a few bytes at a time, of which one read fails.
+#[derive(Drop)]
+struct FailingReader<'a> {
+    rest: &'a [u8],
+    reads: u64,
+    fails_at: u64,
+    kind: ErrorKind,
+}
+
+impl Read for FailingReader<'_> {
+    fn read(&mut self, buffer: &mut [u8]) -> io::Result<usize> {
+        self.reads = self.reads.saturating_add(1);
+        if self.reads == self.fails_at {
+            return Err(io::Error::from(self.kind));
+        }
+        let most = buffer.len().min(7);
+        self.rest.read(&mut buffer[..most])
+    }
+}
+
+/// A writer to memory of a few bytes at a time, of which one write fails.
+#[derive(Drop)]
+struct FailingWriter {
+    written: Vec<u8>,
+    writes: u64,
+    fails_at: u64,
+}
+
+impl Write for FailingWriter {
+    fn write(&mut self, buffer: &[u8]) -> io::Result<usize> {
+        self.writes = self.writes.saturating_add(1);
+        if self.writes == self.fails_at {
+            return Err(io::Error::from(ErrorKind::BrokenPipe));
+        }
+        let most = buffer.len().min(5);
+        self.written.write(&buffer[..most])
+    }
+
+    fn flush(&mut self) -> io::Result<()> {
+        Ok(())
+    }
+}
+
+/// Runs the script by a reader whose read of this number fails. An `Ok` has written all, and an
+/// `Err` a part.
+fn read_with_failure(alloc: Global, fails_at: u64, kind: ErrorKind) -> Result<bool, Fail> {
+    let reader = FailingReader {
+        rest: SCRIPT.as_bytes(),
+        reads: 0,
+        fails_at,
+        kind,
+    };
+    let mut output = Vec::new(alloc);
+    match run_script(alloc, Limits::STANDARD, reader, &mut output) {
+        Ok(()) if output.as_slice() == WRITTEN.as_bytes() => Ok(true),
+        Err(ScriptFault::Read) if WRITTEN.as_bytes().starts_with(&output) => Ok(false),
+        _ => Err(Fail::new("another outcome")),
+    }
+}
+
+#[test]
+fn each_read_fails_once(rt: HostRuntime) -> Result<(), Fail> {
+    // 54 bytes by sevens, and the read that finds the end. One that is interrupted is made again.
+    for fails_at in 1..=12u64 {
+        let is_whole = read_with_failure(rt.alloc(), fails_at, ErrorKind::UnexpectedEof)?;
+        assert!(rt; is_whole == (fails_at > 9), "at {fails_at}");
+        let is_whole = read_with_failure(rt.alloc(), fails_at, ErrorKind::Interrupted)?;
+        assert!(rt; is_whole, "at {fails_at}");
+    }
+    Ok(())
+}
+
+/// Runs the script by a writer whose write of this number fails; by a failing one a part is written,
+/// or all in the end.
+fn write_with_failure(alloc: Global, fails_at: u64) -> Result<bool, Fail> {
+    let mut writer = FailingWriter {
+        written: Vec::new(alloc),
+        writes: 0,
+        fails_at,
+    };
+    let outcome = run_script(alloc, Limits::STANDARD, SCRIPT.as_bytes(), &mut writer);
+    let written = writer.written.as_slice();
+    match outcome {
+        Ok(()) if written == WRITTEN.as_bytes() => Ok(true),
+        Err(ScriptFault::Write) if WRITTEN.as_bytes().starts_with(written) => Ok(false),
+        _ => Err(Fail::new("another outcome")),
+    }
+}
+
+#[test]
+fn each_write_fails_once(rt: HostRuntime) -> Result<(), Fail> {
+    // One block of 38 bytes by fives.
+    for fails_at in 1..=12u64 {
+        let is_whole = write_with_failure(rt.alloc(), fails_at)?;
+        assert!(rt; is_whole == (fails_at > 8), "at {fails_at}");
+    }
+    Ok(())
+}
+
+/// Where the writer fails, what it lost was answered before the line that is at fault.
+#[test]
+fn a_writer_s_fault_comes_before_a_later_line_s(rt: HostRuntime) {
+    let mut writer = FailingWriter {
+        written: Vec::new(rt.alloc()),
+        writes: 0,
+        fails_at: 1,
+    };
+    let input = b"ann:ka1:1000:1000::\n.\na hello ka1\n\xff\n".as_slice();
+    let outcome = run_script(rt.alloc(), Limits::STANDARD, input, &mut writer);
+    assert!(rt; outcome == Err(ScriptFault::Write));
+}
+
+/// What a person types, each with the answers to the lines that it ends; the first two are the user
+/// file.
+const TYPED: [(&str, &str); 9] = [
+    ("ann:ka1:1000:1000::\n", ""),
+    (".\n", ""),
+    ("a hello ka1\n", "a started 0\n"),
+    ("# a comment\n", ""),
+    ("a umask 027\n", "a mask 022\n"),
+    ("a mq-open /jobs rw --create\n", "a opened 0\n"),
+    ("a um", ""),
+    ("ask 022\na umask", "a mask 027\n"),
+    ("\n", "a fault usage\n"),
+];
+
+/// What was written and flushed, as a number of bytes.
+#[derive(Drop)]
+struct Screen<'a> {
+    written: usize,
+    shown: &'a Cell<usize>,
+}
+
+impl Write for Screen<'_> {
+    fn write(&mut self, buffer: &[u8]) -> io::Result<usize> {
+        self.written = self.written.saturating_add(buffer.len());
+        Ok(buffer.len())
+    }
+
+    fn flush(&mut self) -> io::Result<()> {
+        self.shown.set(self.written);
+        Ok(())
+    }
+}
+
+/// A reader of what is typed, which fails where an answer to an earlier line isn't shown yet.
+#[derive(Drop)]
+struct Person<'a> {
+    typed: usize,
+    due: usize,
+    shown: &'a Cell<usize>,
+}
+
+impl Read for Person<'_> {
+    fn read(&mut self, buffer: &mut [u8]) -> io::Result<usize> {
+        if self.shown.get() != self.due {
+            return Err(io::Error::from(ErrorKind::TimedOut));
+        }
+        let Some((line, answer)) = TYPED.get(self.typed) else {
+            return Ok(0);
+        };
+        self.typed += 1;
+        self.due = self.due.saturating_add(answer.len());
+        line.as_bytes().read(buffer)
+    }
+}
+
+#[test]
+fn answers_are_shown_before_more_is_read(rt: HostRuntime) {
+    let shown = Cell::new(0);
+    let person = Person {
+        typed: 0,
+        due: 0,
+        shown: &shown,
+    };
+    let screen = Screen {
+        written: 0,
+        shown: &shown,
+    };
+    let outcome = run_script(rt.alloc(), Limits::STANDARD, person, screen);
+    assert!(rt; outcome == Ok(()));
+}

@@ -1,0 +1,40 @@
+//! What is told to a person who runs the program.
+
+use ipc_words::usage_of_commands;
+use std::alloc::{AllocError, Global};
+use std::io::IsTerminal;
+
+/// Where standard input is a terminal, says on standard error what is waited for. A standard error
+/// that can't be written to is passed over.
+pub fn hint(rt: &HostRuntime) {
+    if rt.stdin().is_terminal() {
+        let _ = eprintln!(rt;
+            "mqserve: waiting for a user file, a line `.`, and then steps; see mqserve --help"
+        );
+    }
+}
+
+/// What `--help` says below the arguments: the form of a script, and each command.
+pub fn help_text(alloc: Global) -> Result<String, AllocError> {
+    let commands = usage_of_commands(alloc)?;
+    format!(in alloc; "{FORM}\n{commands}\n{EXAMPLE}")
+}
+
+const FORM: &str = "\
+A script is a user file, a line `.`, and then one step a line.
+A user is NAME:KEY:UID:GID:GROUPS:LIMIT, where GROUPS and LIMIT may be empty.
+A step is a label and what its session does:
+  LABEL hello KEY    starts a session of the user with this key
+  LABEL hangup       ends the session that the label started last
+  LABEL COMMAND      calls, as that session
+
+Commands:";
+
+const EXAMPLE: &str = "\
+Example:
+  ann:ka1:1000:1000::
+  .
+  a hello ka1
+  a mq-open /jobs rw --create
+  a mq-send 0 5 hi
+  a mq-receive 0 8192";
