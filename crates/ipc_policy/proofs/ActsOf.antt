@@ -1,12 +1,12 @@
 -- What a legal history rules out, and which events send to an object and receive from it.
 use Rattle.std.proofs.Common.{◌≡◌, ℕ, Bool, true, false, not, eqb, length, cond, Option, Some, None, is_some, refl, sym, ap}
 use Rattle.std.proofs.lemmas.Bool.{eqb-true}
-use Rattle.ipc_terms.specs.Objects.{of_queue, as_queue, family_of}
+use Rattle.ipc_terms.specs.Objects.{of_queue, as_queue, of_semaphore, as_semaphore, family_of}
 use Rattle.ipc_terms.specs.Names.{same_family}
 use Rattle.ipc_terms.specs.declared.rule.Rule.TheVariants.{BadDescr}
 use Rattle.ipc_terms.specs.declared.ids.Sid.{Sid}
 use Rattle.ipc_terms.specs.declared.ids.Desc.{Desc}
-use Rattle.ipc_terms.specs.declared.ids.Family.TheVariants.{Mq}
+use Rattle.ipc_terms.specs.declared.ids.Family.TheVariants.{Mq, Sem}
 use Rattle.ipc_terms.specs.declared.call.Call.{Call}
 use Rattle.ipc_terms.specs.declared.call.Call.TheVariants.{MqSend, MqReceive}
 use Rattle.ipc_terms.specs.declared.record.Event.{Event}
@@ -15,13 +15,13 @@ use Rattle.ipc_policy.specs.declared.config.Config.{Config}
 use Rattle.ipc_policy.specs.declared.config.Held.{Held}
 use Rattle.ipc_terms.specs.declared.object.Object.{Object}
 use Rattle.ipc_terms.specs.declared.object.Kind.{Kind}
-use Rattle.ipc_terms.specs.declared.object.Kind.TheVariants.{Queue}
+use Rattle.ipc_terms.specs.declared.object.Kind.TheVariants.{Queue, Semaphore}
 use Rattle.ipc_policy.specs.History.{History, there_is}
 use Rattle.ipc_policy.specs.Objects.{object}
 use Rattle.ipc_policy.specs.Descriptions.{holds}
 use Rattle.ipc_policy.specs.Life.{gives_object}
 use Rattle.ipc_policy.specs.Queues.{Send, Wait, Act, Sends, Receives, Rests, act, attributes}
-use Rattle.ipc_policy.specs.Rules.{forbids, bad_descr, not_held, is_of_family, queue_named}
+use Rattle.ipc_policy.specs.Rules.{forbids, bad_descr, not_held, is_of_family, described}
 use Rattle.ipc_policy.specs.Verdict.{verdict}
 use Rattle.ipc_policy.proofs.Unforbidden.{unforbidden}
 use Rattle.ipc_policy.proofs.Sent.{not_sends}
@@ -87,17 +87,39 @@ queue_given None e = absurd cc
 queue_given (Some x) e = at x.kind e where
   at : (k : Kind) → not (same_family (family_of k) Mq) ≡ false → is_some (of_queue k) ≡ true
   at (Queue given) e = refl
+  at (Semaphore first_value) e = absurd cc
 
-pub held_queue : (c : Config) (h : History) (sid : Sid) (call : Call) (desc : Desc) (x : Held) → None ≡ verdict c h (Do sid call) → queue_named call ≡ Some desc → holds h sid.0 desc.0 ≡ Some x → is_some (attributes c h x.object) ≡ true
+-- what the description of an accepted call on a semaphore gives is a semaphore
+pub semaphore_given : (x : Option Object) → not (is_of_family Sem x) ≡ false → is_some (as_semaphore x) ≡ true
+semaphore_given None e = absurd cc
+semaphore_given (Some x) e = at x.kind e where
+  at : (k : Kind) → not (same_family (family_of k) Sem) ≡ false → is_some (of_semaphore k) ≡ true
+  at (Queue given) e = absurd cc
+  at (Semaphore first_value) e = refl
+
+pub held_queue : (c : Config) (h : History) (sid : Sid) (call : Call) (desc : Desc) (x : Held) → None ≡ verdict c h (Do sid call) → described call ≡ Some (record { family = Mq; desc = desc }) → holds h sid.0 desc.0 ≡ Some x → is_some (attributes c h x.object) ≡ true
 unfolding forbids bad_descr
 held_queue c h sid call desc x legal named held =
-    let passes : there_is (λ d. not_held c h sid.0 Mq d.0) (queue_named call) ≡ false = unforbidden c h (Do sid call) (sym legal) BadDescr in
+    let passes : there_is (λ d. not_held c h sid.0 d.family d.desc.0) (described call) ≡ false = unforbidden c h (Do sid call) (sym legal) BadDescr in
     let passes' : not_held c h sid.0 Mq desc.0 ≡ false = rw named at passes in
     queue_given (object c h x.object) (rw held at passes')
+
+pub held_semaphore : (c : Config) (h : History) (sid : Sid) (call : Call) (desc : Desc) (x : Held) → None ≡ verdict c h (Do sid call) → described call ≡ Some (record { family = Sem; desc = desc }) → holds h sid.0 desc.0 ≡ Some x → is_some (as_semaphore (object c h x.object)) ≡ true
+unfolding forbids bad_descr
+held_semaphore c h sid call desc x legal named held =
+    let passes : there_is (λ d. not_held c h sid.0 d.family d.desc.0) (described call) ≡ false = unforbidden c h (Do sid call) (sym legal) BadDescr in
+    let passes' : not_held c h sid.0 Sem desc.0 ≡ false = rw named at passes in
+    semaphore_given (object c h x.object) (rw held at passes')
 
 -- and so an object
 pub queue_is_object : (c : Config) (h : History) (o : ℕ) → is_some (attributes c h o) ≡ true → is_some (object c h o) ≡ true
 queue_is_object c h o e = at (object c h o) e where
   at : (x : Option Object) → is_some (as_queue x) ≡ true → is_some x ≡ true
+  at None e = e
+  at (Some x) e = refl
+
+pub semaphore_is_object : (c : Config) (h : History) (o : ℕ) → is_some (as_semaphore (object c h o)) ≡ true → is_some (object c h o) ≡ true
+semaphore_is_object c h o e = at (object c h o) e where
+  at : (x : Option Object) → is_some (as_semaphore x) ≡ true → is_some x ≡ true
   at None e = e
   at (Some x) e = refl

@@ -6,7 +6,7 @@ use Rattle.std.proofs.lemmas.Bool.{eqb-false}
 use Rattle.ipc_terms.specs.declared.rule.Rule.{Rule}
 use Rattle.ipc_terms.specs.declared.ids.Uid.{Uid}
 use Rattle.ipc_terms.specs.declared.ids.Family.{Family}
-use Rattle.ipc_terms.specs.declared.call.Call.TheVariants.{MqOpen}
+use Rattle.ipc_terms.specs.declared.call.Call.TheVariants.{MqOpen, SemOpen}
 use Rattle.ipc_terms.specs.declared.record.Event.{Event}
 use Rattle.ipc_terms.specs.declared.record.Event.TheVariants.{Hello, Do, Hangup}
 use Rattle.ipc_access.specs.Users.{cred_of}
@@ -14,7 +14,7 @@ use Rattle.ipc_policy.specs.declared.config.Config.{Config}
 use Rattle.ipc_terms.specs.declared.facts.Facts.{Facts}
 use Rattle.ipc_policy.specs.History.{History}
 use Rattle.ipc_policy.specs.Sessions.{user, live, cred, mask}
-use Rattle.ipc_policy.specs.Names.{queue_opening, is_bound, creations, bound}
+use Rattle.ipc_policy.specs.Names.{queue_opening, semaphore_opening, is_bound, creations, bound}
 use Rattle.ipc_policy.specs.Objects.{object, facts, first_facts}
 use Rattle.ipc_policy.specs.Grow.{is_new, creations_after, made_after}
 use Rattle.ipc_policy.specs.Verdict.{verdict, Legal}
@@ -47,6 +47,7 @@ mapped_some f (Some x) e = refl
 facts_more : (c : Config) (h : History) (o : ℕ) (e : Event) → Legal c h → (o < creations h → is_some (facts c h o) ≡ true) → None ≡ verdict c h e → o < creations_after e (is_bound h) (creations h) → is_some (made_after o e (is_bound h) (creations h) (λ asked. option_map (first_facts asked (mask h asked.session.0)) (cred c h asked.session.0)) (facts c h o)) ≡ true
 facts_more c h o (Hello found) legal known e lt = known lt
 facts_more c h o (Do sid (MqOpen asked)) legal known e lt = facts_opened (creations h) o (is_new (queue_opening sid asked) (is_bound h)) (eqb (creations h) o) refl _ (facts c h o) (λ new. mapped_some (first_facts (queue_opening sid asked) (mask h sid.0)) (cred c h sid.0) (cred_known c h legal sid.0 (caller_live c h sid (MqOpen asked) (sym e)))) known lt
+facts_more c h o (Do sid (SemOpen asked)) legal known e lt = facts_opened (creations h) o (is_new (semaphore_opening sid asked) (is_bound h)) (eqb (creations h) o) refl _ (facts c h o) (λ new. mapped_some (first_facts (semaphore_opening sid asked) (mask h sid.0)) (cred c h sid.0) (cred_known c h legal sid.0 (caller_live c h sid (SemOpen asked) (sym e)))) known lt
 facts_more c h o (Do sid call) legal known e lt = known lt
 facts_more c h o (Hangup sid) legal known e lt = known lt
 

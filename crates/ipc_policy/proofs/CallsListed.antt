@@ -9,7 +9,7 @@ use Rattle.ipc_terms.specs.declared.rule.Rule.TheVariants.{InCall}
 use Rattle.ipc_terms.specs.declared.ids.Sid.{Sid}
 use Rattle.ipc_terms.specs.declared.ids.Desc.{Desc}
 use Rattle.ipc_terms.specs.declared.call.Call.{Call}
-use Rattle.ipc_terms.specs.declared.call.Call.TheVariants.{MqSend, MqReceive}
+use Rattle.ipc_terms.specs.declared.call.Call.TheVariants.{MqSend, MqReceive, SemWait}
 use Rattle.ipc_terms.specs.declared.record.Event.{Event}
 use Rattle.ipc_terms.specs.declared.record.Event.TheVariants.{Hello, Do, Hangup}
 use Rattle.ipc_policy.specs.declared.config.Config.{Config}
@@ -17,18 +17,20 @@ use Rattle.ipc_policy.specs.declared.config.Held.{Held}
 use Rattle.ipc_terms.specs.declared.call.Attributes.{Attributes}
 use Rattle.ipc_policy.specs.History.{History, kept, there_is}
 use Rattle.ipc_policy.specs.Descriptions.{holds}
-use Rattle.ipc_policy.specs.Queues.{Send, Wait, Act, Sends, Receives, Withdraws, Rests, Queue, has_all, has_none, behind, queue_after, act, queue, maxmsg, room, attributes, contents, senders, receivers, is_full, is_empty}
-use Rattle.ipc_policy.specs.Parking.{ParkedKind, Sending, Receiving, Parked, parks, parked_on, ends_call, ends_parked, parked, stands_at}
+use Rattle.ipc_policy.specs.Queues.{Send, Wait, Act, Sends, Receives, Withdraws, Rests, Queue, has_all, has_none, behind, senders_after, receivers_after, queue_after, act, queue, maxmsg, room, attributes, contents, senders, receivers, is_full, is_empty}
+use Rattle.ipc_policy.specs.Semaphores.{SemaphoreAct, Posts, Waits, Tries, Cancels, Idles, Semaphore, semaphore_act, semaphore_after, waiters_after, gives_value, semaphore, value, waiters, is_zero}
+use Rattle.ipc_policy.specs.Parking.{ParkedKind, Sending, Receiving, Waiting, Parked, withdraws, is_posted, parks, parked_on, ends_call, ends_parked, parked, stands_at}
 use Rattle.ipc_policy.specs.Readings.{Each, ends_send, ends_receive}
 use Rattle.ipc_policy.specs.Rules.{forbids, in_call, is_interrupt}
 use Rattle.ipc_policy.specs.Verdict.{verdict}
 use Rattle.ipc_policy.specs.Laws.{IsListed, ParkedIsListed, place_listed}
-use Rattle.ipc_policy.proofs.EachItem.{each_map, each_parked_sender, each_parked_receiver}
+use Rattle.ipc_policy.proofs.EachItem.{each_map, each_parked_sender, each_parked_receiver, each_parked_waiter}
 use Rattle.ipc_policy.proofs.Gathering.{find_kept}
 use Rattle.ipc_policy.proofs.Queueing.{refused_parked}
+use Rattle.ipc_policy.proofs.Waits.{or_right, or_left, or_neither, act_waits, cancels, withdraws_alike, posts_no_send, posts_no_receive, not_ended_wait, is_zero-at}
 use Rattle.ipc_policy.proofs.Unforbidden.{unforbidden}
-use Rattle.ipc_policy.proofs.ActsOf.{act_sends, act_receives, held_queue}
-use Rattle.ipc_policy.proofs.ParkedPlaces.{parked_by_place}
+use Rattle.ipc_policy.proofs.ActsOf.{act_sends, act_receives, held_queue, held_semaphore}
+use Rattle.ipc_policy.proofs.ParkedPlaces.{parked_by_place, first_keeps}
 
 -- a call that a parked session makes is not accepted, but for an interrupt
 pub another_call : (c : Config) (h : History) (sid : Sid) (call : Call) (s : ℕ) → None ≡ verdict c h (Do sid call) → is_interrupt call ≡ false → is_some (parked c h s) ≡ true → eqb sid.0 s ≡ false
@@ -42,6 +44,7 @@ another_call c h sid call s legal other k = ne_eqb _ _ (λ (e : sid.0 ≡ s).
 pub parks_no_other : (c : Config) (h : History) (e : Event) (s : ℕ) → None ≡ verdict c h e → is_some (parked c h s) ≡ true → parks c s e h ≡ None
 parks_no_other c h (Do sid (MqSend desc priority bytes)) s legal k = rw (another_call c h sid (MqSend desc priority bytes) s legal refl k) refl
 parks_no_other c h (Do sid (MqReceive desc length')) s legal k = rw (another_call c h sid (MqReceive desc length') s legal refl k) refl
+parks_no_other c h (Do sid (SemWait desc)) s legal k = rw (another_call c h sid (SemWait desc) s legal refl k) refl
 parks_no_other c h (Do sid call) s legal k = refl
 parks_no_other c h (Hello found) s legal k = refl
 parks_no_other c h (Hangup sid) s legal k = refl
@@ -83,6 +86,9 @@ parks_send_of c h sid desc priority bytes x k e = let here : eqb sid.0 sid.0 ≡
 parks_receive_of : (c : Config) (h : History) (sid : Sid) (desc : Desc) (length' : ℕ) (x : Held) → holds h sid.0 desc.0 ≡ Some x → is_empty c h x.object ≡ true → parks c sid.0 (Do sid (MqReceive desc length')) h ≡ Some (record { object = x.object; place = length h; kind = Receiving })
 parks_receive_of c h sid desc length' x k e = let here : eqb sid.0 sid.0 ≡ true = eq-eqb _ _ refl in rw (k, here, e) refl
 
+parks_wait_of : (c : Config) (h : History) (sid : Sid) (desc : Desc) (x : Held) → holds h sid.0 desc.0 ≡ Some x → is_zero c h x.object ≡ true → parks c sid.0 (Do sid (SemWait desc)) h ≡ Some (record { object = x.object; place = length h; kind = Waiting })
+parks_wait_of c h sid desc x k e = let here : eqb sid.0 sid.0 ≡ true = eq-eqb _ _ refl in rw (k, here, e) refl
+
 send_parks : (c : Config) (h : History) (o : ℕ) (e : Event) → None ≡ verdict c h e → (m : Send) → act o e h ≡ Sends m → has_all (maxmsg c h o) (contents c h o) ≡ true → parked c (record { event = e; rule = None } ∷ h) m.session ≡ Some (record { object = o; place = m.place; kind = Sending })
 send_parks c h o e legal m k f =
     let a = act_sends o e h m k in
@@ -108,6 +114,19 @@ receive_parks c h o e legal w k f =
     ∙ ap (λ (n : ℕ). Some (record { object = n; place = length h; kind = Receiving })) a.object in
     let now = gets_parked c h e a.sid.0 (record { object = o; place = length h; kind = Receiving }) parks_now in
     subst (λ (v : Wait). parked c (record { event = e; rule = None } ∷ h) v.session ≡ Some (record { object = o; place = v.place; kind = Receiving })) (sym a.wait) now
+
+wait_parks : (c : Config) (h : History) (o : ℕ) (e : Event) → None ≡ verdict c h e → (w : Wait) → semaphore_act o e h ≡ Waits w → eqb (value h o) 0 ≡ true → parked c (record { event = e; rule = None } ∷ h) w.session ≡ Some (record { object = o; place = w.place; kind = Waiting })
+wait_parks c h o e legal w k f =
+    let a = act_waits o e h w k in
+    let legal' : None ≡ verdict c h (Do a.sid (SemWait a.desc)) = rw a.event at legal in
+    let there = held_semaphore c h a.sid (SemWait a.desc) a.desc a.x legal' refl a.held in
+    let zero' : is_zero c h a.x.object ≡ true = is_zero-at c h a.x.object there ∙ subst (λ (n : ℕ). eqb (value h n) 0 ≡ true) (sym a.object) f in
+    let parks_now : parks c a.sid.0 e h ≡ Some (record { object = o; place = length h; kind = Waiting }) =
+    ap (λ (d : Event). parks c a.sid.0 d h) a.event
+    ∙ parks_wait_of c h a.sid a.desc a.x a.held zero'
+    ∙ ap (λ (n : ℕ). Some (record { object = n; place = length h; kind = Waiting })) a.object in
+    let now = gets_parked c h e a.sid.0 (record { object = o; place = length h; kind = Waiting }) parks_now in
+    subst (λ (v : Wait). parked c (record { event = e; rule = None } ∷ h) v.session ≡ Some (record { object = o; place = v.place; kind = Waiting })) (sym a.wait) now
 
 -- what does not end a listed call does not end its session's parked call
 not_ended_send : (o : ℕ) (m : Send) (a : Act) (q : Queue) → ends_send m a q ≡ false → ends_call m.session (record { object = o; place = m.place; kind = Sending }) a q ≡ false
@@ -148,21 +167,29 @@ place_filtered : {A : Type 0} (place session : A → ℕ) (s t i : ℕ) (xs : Li
 place_filtered place session s t i xs other e = ap (option_map place) (find_kept (λ x. eqb (session x) s) (λ x. not (eqb (session x) t)) xs (λ x here. let same : session x ≡ s = eqb-true _ _ here in rw (same, other) refl)) ∙ e
 
 -- what lists the call of a parked session lists it until it ends
-listed_stays : (n : ℕ) (a : Act) (q : Queue) (s : ℕ) (o i : ℕ) (kind : ParkedKind) → place_listed kind s q ≡ Some i → ends_call s (record { object = o; place = i; kind = kind }) a q ≡ false → place_listed kind s (queue_after n a q) ≡ Some i
-listed_stays n (Sends m) q s o i Sending e k = place_added (λ (x : Send). x.place) (λ x. x.session) s i q.senders m (has_all n q.contents) e
-listed_stays n (Receives w) q s o i Sending e k = place_behind (λ (x : Send). x.place) (λ x. x.session) s i q.senders e k
-listed_stays n (Withdraws t) q s o i Sending e k = place_filtered (λ (x : Send). x.place) (λ x. x.session) s t i q.senders (left (eqb s t) k) e where
-  left : (b : Bool) → (b || (false && stands_at (λ (x : Send). x.place) i (first q.senders))) ≡ false → b ≡ false
-  left true j = absurd cc
-  left false j = refl
-listed_stays n Rests q s o i Sending e k = e
-listed_stays n (Sends m) q s o i Receiving e k = place_behind (λ (x : Wait). x.place) (λ x. x.session) s i q.receivers e k
-listed_stays n (Receives w) q s o i Receiving e k = place_added (λ (x : Wait). x.place) (λ x. x.session) s i q.receivers w (has_none q.contents) e
-listed_stays n (Withdraws t) q s o i Receiving e k = place_filtered (λ (x : Wait). x.place) (λ x. x.session) s t i q.receivers (left (eqb s t) k) e where
-  left : (b : Bool) → (b || (false && stands_at (λ (x : Wait). x.place) i (first q.receivers))) ≡ false → b ≡ false
-  left true j = absurd cc
-  left false j = refl
-listed_stays n Rests q s o i Receiving e k = e
+send_stays : (n : ℕ) (a : Act) (q : Queue) (s o i : ℕ) → place_of_session (λ (x : Send). x.place) (λ x. x.session) s q.senders ≡ Some i → ends_call s (record { object = o; place = i; kind = Sending }) a q ≡ false → place_of_session (λ (x : Send). x.place) (λ x. x.session) s (senders_after n a q) ≡ Some i
+send_stays n (Sends m) q s o i e k = place_added (λ (x : Send). x.place) (λ x. x.session) s i q.senders m (has_all n q.contents) e
+send_stays n (Receives w) q s o i e k = place_behind (λ (x : Send). x.place) (λ x. x.session) s i q.senders e k
+send_stays n (Withdraws t) q s o i e k = place_filtered (λ (x : Send). x.place) (λ x. x.session) s t i q.senders (or_left (eqb s t) _ k) e
+send_stays n Rests q s o i e k = e
+
+receive_stays : (a : Act) (q : Queue) (s o i : ℕ) → place_of_session (λ (x : Wait). x.place) (λ x. x.session) s q.receivers ≡ Some i → ends_call s (record { object = o; place = i; kind = Receiving }) a q ≡ false → place_of_session (λ (x : Wait). x.place) (λ x. x.session) s (receivers_after a q) ≡ Some i
+receive_stays (Sends m) q s o i e k = place_behind (λ (x : Wait). x.place) (λ x. x.session) s i q.receivers e k
+receive_stays (Receives w) q s o i e k = place_added (λ (x : Wait). x.place) (λ x. x.session) s i q.receivers w (has_none q.contents) e
+receive_stays (Withdraws t) q s o i e k = place_filtered (λ (x : Wait). x.place) (λ x. x.session) s t i q.receivers (or_left (eqb s t) _ k) e
+receive_stays Rests q s o i e k = e
+
+wait_stays : (b : SemaphoreAct) (u : Semaphore) (a : Act) (q : Queue) (s o i : ℕ) → withdraws s a ≡ cancels s b → place_of_session (λ (x : Wait). x.place) (λ x. x.session) s u.waiters ≡ Some i → (is_posted b Waiting i u || ends_call s (record { object = o; place = i; kind = Waiting }) a q) ≡ false → place_of_session (λ (x : Wait). x.place) (λ x. x.session) s (waiters_after b u) ≡ Some i
+wait_stays Posts u a q s o i alike e k = place_behind (λ (x : Wait). x.place) (λ x. x.session) s i u.waiters e (or_left _ _ k)
+wait_stays (Waits w) u a q s o i alike e k = place_added (λ (x : Wait). x.place) (λ x. x.session) s i u.waiters w (eqb u.value 0) e
+wait_stays Tries u a q s o i alike e k = e
+wait_stays (Cancels t) u a q s o i alike e k = place_filtered (λ (x : Wait). x.place) (λ x. x.session) s t i u.waiters (sym alike ∙ or_left (withdraws s a) false k) e
+wait_stays Idles u a q s o i alike e k = e
+
+listed_stays : (n : ℕ) (a : Act) (q : Queue) (b : SemaphoreAct) (u v : Semaphore) → v.waiters ≡ waiters_after b u → (s o i : ℕ) (kind : ParkedKind) → withdraws s a ≡ cancels s b → place_listed kind s q u ≡ Some i → (is_posted b kind i u || ends_call s (record { object = o; place = i; kind = kind }) a q) ≡ false → place_listed kind s (queue_after n a q) v ≡ Some i
+listed_stays n a q b u v now s o i Sending alike e k = send_stays n a q s o i e (or_right _ _ k)
+listed_stays n a q b u v now s o i Receiving alike e k = receive_stays a q s o i e (or_right _ _ k)
+listed_stays n a q b u v now s o i Waiting alike e k = ap (place_of_session (λ (x : Wait). x.place) (λ x. x.session) s) now ∙ wait_stays b u a q s o i alike e k
 
 -- a session that is not parked is not listed, and so is listed by the call that comes
 place_new : {A : Type 0} (place session : A → ℕ) (f : ℕ → Option Parked) (call : A → Parked) (s : ℕ) (xs : List A) (m : A) → Each (λ x. f (session x) ≡ Some (call x)) xs → f s ≡ None → session m ≡ s → place_of_session place session s (xs ++ m ∷ []) ≡ Some (place m)
@@ -171,7 +198,7 @@ place_new place session f call s (x ∷ xs) m all none here =
     let other : eqb (session x) s ≡ false = ne_eqb _ _ (λ (e : session x ≡ s). absurd (let wrong : None ≡ Some (call x) = sym none ∙ ap f (sym e) ∙ all.0 in cc)) in
     rw other (place_new place session f call s xs m all.1 none here)
 
-new_send : (c : Config) (h : History) (sid : Sid) (desc : Desc) (priority : ℕ) (bytes : List ℕ) (s : ℕ) (x : Held) → IsListed c h → None ≡ verdict c h (Do sid (MqSend desc priority bytes)) → parked c h s ≡ None → sid.0 ≡ s → holds h sid.0 desc.0 ≡ Some x → is_full c h x.object ≡ true → place_listed Sending s (queue c (record { event = Do sid (MqSend desc priority bytes); rule = None } ∷ h) x.object) ≡ Some (length h)
+new_send : (c : Config) (h : History) (sid : Sid) (desc : Desc) (priority : ℕ) (bytes : List ℕ) (s : ℕ) (x : Held) → IsListed c h → None ≡ verdict c h (Do sid (MqSend desc priority bytes)) → parked c h s ≡ None → sid.0 ≡ s → holds h sid.0 desc.0 ≡ Some x → is_full c h x.object ≡ true → place_listed Sending s (queue c (record { event = Do sid (MqSend desc priority bytes); rule = None } ∷ h) x.object) (semaphore (record { event = Do sid (MqSend desc priority bytes); rule = None } ∷ h) x.object) ≡ Some (length h)
 unfolding queue
 new_send c h sid desc priority bytes s x known legal none same held full =
     let m : Send = record { place = length h; session = sid.0; desc = desc.0; priority = priority; bytes = bytes } in
@@ -179,11 +206,11 @@ new_send c h sid desc priority bytes s x known legal none same held full =
     let acts : act x.object (Do sid (MqSend desc priority bytes)) h ≡ Sends (record { place = length h; session = sid.0; desc = desc.0; priority = priority; bytes = bytes }) = (let self : eqb x.object x.object ≡ true = eq-eqb _ _ refl in rw (held, self) refl) in
     let there = held_queue c h sid (MqSend desc priority bytes) desc x legal refl held in
     let all : has_all (maxmsg c h x.object) (contents c h x.object) ≡ true = sym (is_full-at c h x.object there) ∙ full in
-    ap (λ a. place_listed Sending s (queue_after (maxmsg c h x.object) a q)) acts
+    ap (λ a. place_of_session (λ (y : Send). y.place) (λ y. y.session) s (senders_after (maxmsg c h x.object) a q)) acts
     ∙ ap (λ b. place_of_session (λ (y : Send). y.place) (λ y. y.session) s (cond b (q.senders ++ m ∷ []) q.senders)) all
     ∙ place_new (λ (y : Send). y.place) (λ y. y.session) (parked c h) (λ y. record { object = x.object; place = y.place; kind = Sending }) s q.senders m (known.each_send x.object) none same
 
-new_receive : (c : Config) (h : History) (sid : Sid) (desc : Desc) (length' : ℕ) (s : ℕ) (x : Held) → IsListed c h → None ≡ verdict c h (Do sid (MqReceive desc length')) → parked c h s ≡ None → sid.0 ≡ s → holds h sid.0 desc.0 ≡ Some x → is_empty c h x.object ≡ true → place_listed Receiving s (queue c (record { event = Do sid (MqReceive desc length'); rule = None } ∷ h) x.object) ≡ Some (length h)
+new_receive : (c : Config) (h : History) (sid : Sid) (desc : Desc) (length' : ℕ) (s : ℕ) (x : Held) → IsListed c h → None ≡ verdict c h (Do sid (MqReceive desc length')) → parked c h s ≡ None → sid.0 ≡ s → holds h sid.0 desc.0 ≡ Some x → is_empty c h x.object ≡ true → place_listed Receiving s (queue c (record { event = Do sid (MqReceive desc length'); rule = None } ∷ h) x.object) (semaphore (record { event = Do sid (MqReceive desc length'); rule = None } ∷ h) x.object) ≡ Some (length h)
 unfolding queue
 new_receive c h sid desc length' s x known legal none same held empty =
     let w : Wait = record { place = length h; session = sid.0; desc = desc.0 } in
@@ -191,32 +218,56 @@ new_receive c h sid desc length' s x known legal none same held empty =
     let acts : act x.object (Do sid (MqReceive desc length')) h ≡ Receives (record { place = length h; session = sid.0; desc = desc.0 }) = (let self : eqb x.object x.object ≡ true = eq-eqb _ _ refl in rw (held, self) refl) in
     let there = held_queue c h sid (MqReceive desc length') desc x legal refl held in
     let nothing : has_none (contents c h x.object) ≡ true = sym (is_empty-at c h x.object there) ∙ empty in
-    ap (λ a. place_listed Receiving s (queue_after (maxmsg c h x.object) a q)) acts
+    ap (λ a. place_of_session (λ (y : Wait). y.place) (λ y. y.session) s (receivers_after a q)) acts
     ∙ ap (λ b. place_of_session (λ (y : Wait). y.place) (λ y. y.session) s (cond b (q.receivers ++ w ∷ []) q.receivers)) nothing
     ∙ place_new (λ (y : Wait). y.place) (λ y. y.session) (parked c h) (λ y. record { object = x.object; place = y.place; kind = Receiving }) s q.receivers w (known.each_receive x.object) none same
 
+new_wait : (c : Config) (h : History) (sid : Sid) (desc : Desc) (s : ℕ) (x : Held) → IsListed c h → None ≡ verdict c h (Do sid (SemWait desc)) → parked c h s ≡ None → sid.0 ≡ s → holds h sid.0 desc.0 ≡ Some x → is_zero c h x.object ≡ true → place_listed Waiting s (queue c (record { event = Do sid (SemWait desc); rule = None } ∷ h) x.object) (semaphore (record { event = Do sid (SemWait desc); rule = None } ∷ h) x.object) ≡ Some (length h)
+unfolding semaphore
+new_wait c h sid desc s x known legal none same held at_zero =
+    let w : Wait = record { place = length h; session = sid.0; desc = desc.0 } in
+    let u : Semaphore = semaphore h x.object in
+    let acts : semaphore_act x.object (Do sid (SemWait desc)) h ≡ Waits (record { place = length h; session = sid.0; desc = desc.0 }) = (let self : eqb x.object x.object ≡ true = eq-eqb _ _ refl in rw (held, self) refl) in
+    let there = held_semaphore c h sid (SemWait desc) desc x legal refl held in
+    let nothing : eqb (value h x.object) 0 ≡ true = sym (is_zero-at c h x.object there) ∙ at_zero in
+    ap (place_of_session (λ (y : Wait). y.place) (λ y. y.session) s) (first_keeps (gives_value x.object (Do sid (SemWait desc)) h) (semaphore_after (semaphore_act x.object (Do sid (SemWait desc)) h) u))
+    ∙ ap (λ a. place_of_session (λ (y : Wait). y.place) (λ y. y.session) s (waiters_after a u)) acts
+    ∙ ap (λ b. place_of_session (λ (y : Wait). y.place) (λ y. y.session) s (cond b (u.waiters ++ w ∷ []) u.waiters)) nothing
+    ∙ place_new (λ (y : Wait). y.place) (λ y. y.session) (parked c h) (λ y. record { object = x.object; place = y.place; kind = Waiting }) s u.waiters w (known.each_wait x.object) none same
+
 -- the call that parks is listed
-listed_new : (c : Config) (h : History) (e : Event) (s : ℕ) (p : Parked) → IsListed c h → None ≡ verdict c h e → parked c h s ≡ None → parks c s e h ≡ Some p → place_listed p.kind s (queue c (record { event = e; rule = None } ∷ h) p.object) ≡ Some p.place
+listed_new : (c : Config) (h : History) (e : Event) (s : ℕ) (p : Parked) → IsListed c h → None ≡ verdict c h e → parked c h s ≡ None → parks c s e h ≡ Some p → place_listed p.kind s (queue c (record { event = e; rule = None } ∷ h) p.object) (semaphore (record { event = e; rule = None } ∷ h) p.object) ≡ Some p.place
 listed_new c h (Do sid (MqSend desc priority bytes)) s p known legal none k = mine (eqb sid.0 s) refl k where
-  given : sid.0 ≡ s → (y : Option Held) → holds h sid.0 desc.0 ≡ y → option_and_then (parked_on (is_full c h) Sending (length h)) y ≡ Some p → place_listed p.kind s (queue c (record { event = Do sid (MqSend desc priority bytes); rule = None } ∷ h) p.object) ≡ Some p.place
+  given : sid.0 ≡ s → (y : Option Held) → holds h sid.0 desc.0 ≡ y → option_and_then (parked_on (is_full c h) Sending (length h)) y ≡ Some p → place_listed p.kind s (queue c (record { event = Do sid (MqSend desc priority bytes); rule = None } ∷ h) p.object) (semaphore (record { event = Do sid (MqSend desc priority bytes); rule = None } ∷ h) p.object) ≡ Some p.place
   given same None q j = absurd cc
   given same (Some x) q j = full (is_full c h x.object) refl j where
-    full : (b : Bool) → is_full c h x.object ≡ b → cond b (Some (record { object = x.object; place = length h; kind = Sending })) None ≡ Some p → place_listed p.kind s (queue c (record { event = Do sid (MqSend desc priority bytes); rule = None } ∷ h) p.object) ≡ Some p.place
-    full true f i = let is : record { object = x.object; place = length h; kind = Sending } ≡ p = cc in subst (λ (z : Parked). place_listed z.kind s (queue c (record { event = Do sid (MqSend desc priority bytes); rule = None } ∷ h) z.object) ≡ Some z.place) is (new_send c h sid desc priority bytes s x known legal none same q f)
+    full : (b : Bool) → is_full c h x.object ≡ b → cond b (Some (record { object = x.object; place = length h; kind = Sending })) None ≡ Some p → place_listed p.kind s (queue c (record { event = Do sid (MqSend desc priority bytes); rule = None } ∷ h) p.object) (semaphore (record { event = Do sid (MqSend desc priority bytes); rule = None } ∷ h) p.object) ≡ Some p.place
+    full true f i = let is : record { object = x.object; place = length h; kind = Sending } ≡ p = cc in subst (λ (z : Parked). place_listed z.kind s (queue c (record { event = Do sid (MqSend desc priority bytes); rule = None } ∷ h) z.object) (semaphore (record { event = Do sid (MqSend desc priority bytes); rule = None } ∷ h) z.object) ≡ Some z.place) is (new_send c h sid desc priority bytes s x known legal none same q f)
     full false f i = absurd cc
 
-  mine : (b : Bool) → eqb sid.0 s ≡ b → cond b (option_and_then (parked_on (is_full c h) Sending (length h)) (holds h sid.0 desc.0)) None ≡ Some p → place_listed p.kind s (queue c (record { event = Do sid (MqSend desc priority bytes); rule = None } ∷ h) p.object) ≡ Some p.place
+  mine : (b : Bool) → eqb sid.0 s ≡ b → cond b (option_and_then (parked_on (is_full c h) Sending (length h)) (holds h sid.0 desc.0)) None ≡ Some p → place_listed p.kind s (queue c (record { event = Do sid (MqSend desc priority bytes); rule = None } ∷ h) p.object) (semaphore (record { event = Do sid (MqSend desc priority bytes); rule = None } ∷ h) p.object) ≡ Some p.place
   mine true q j = given (eqb-true _ _ q) (holds h sid.0 desc.0) refl j
   mine false q j = absurd cc
 listed_new c h (Do sid (MqReceive desc length')) s p known legal none k = mine (eqb sid.0 s) refl k where
-  given : sid.0 ≡ s → (y : Option Held) → holds h sid.0 desc.0 ≡ y → option_and_then (parked_on (is_empty c h) Receiving (length h)) y ≡ Some p → place_listed p.kind s (queue c (record { event = Do sid (MqReceive desc length'); rule = None } ∷ h) p.object) ≡ Some p.place
+  given : sid.0 ≡ s → (y : Option Held) → holds h sid.0 desc.0 ≡ y → option_and_then (parked_on (is_empty c h) Receiving (length h)) y ≡ Some p → place_listed p.kind s (queue c (record { event = Do sid (MqReceive desc length'); rule = None } ∷ h) p.object) (semaphore (record { event = Do sid (MqReceive desc length'); rule = None } ∷ h) p.object) ≡ Some p.place
   given same None q j = absurd cc
   given same (Some x) q j = empty (is_empty c h x.object) refl j where
-    empty : (b : Bool) → is_empty c h x.object ≡ b → cond b (Some (record { object = x.object; place = length h; kind = Receiving })) None ≡ Some p → place_listed p.kind s (queue c (record { event = Do sid (MqReceive desc length'); rule = None } ∷ h) p.object) ≡ Some p.place
-    empty true f i = let is : record { object = x.object; place = length h; kind = Receiving } ≡ p = cc in subst (λ (z : Parked). place_listed z.kind s (queue c (record { event = Do sid (MqReceive desc length'); rule = None } ∷ h) z.object) ≡ Some z.place) is (new_receive c h sid desc length' s x known legal none same q f)
+    empty : (b : Bool) → is_empty c h x.object ≡ b → cond b (Some (record { object = x.object; place = length h; kind = Receiving })) None ≡ Some p → place_listed p.kind s (queue c (record { event = Do sid (MqReceive desc length'); rule = None } ∷ h) p.object) (semaphore (record { event = Do sid (MqReceive desc length'); rule = None } ∷ h) p.object) ≡ Some p.place
+    empty true f i = let is : record { object = x.object; place = length h; kind = Receiving } ≡ p = cc in subst (λ (z : Parked). place_listed z.kind s (queue c (record { event = Do sid (MqReceive desc length'); rule = None } ∷ h) z.object) (semaphore (record { event = Do sid (MqReceive desc length'); rule = None } ∷ h) z.object) ≡ Some z.place) is (new_receive c h sid desc length' s x known legal none same q f)
     empty false f i = absurd cc
 
-  mine : (b : Bool) → eqb sid.0 s ≡ b → cond b (option_and_then (parked_on (is_empty c h) Receiving (length h)) (holds h sid.0 desc.0)) None ≡ Some p → place_listed p.kind s (queue c (record { event = Do sid (MqReceive desc length'); rule = None } ∷ h) p.object) ≡ Some p.place
+  mine : (b : Bool) → eqb sid.0 s ≡ b → cond b (option_and_then (parked_on (is_empty c h) Receiving (length h)) (holds h sid.0 desc.0)) None ≡ Some p → place_listed p.kind s (queue c (record { event = Do sid (MqReceive desc length'); rule = None } ∷ h) p.object) (semaphore (record { event = Do sid (MqReceive desc length'); rule = None } ∷ h) p.object) ≡ Some p.place
+  mine true q j = given (eqb-true _ _ q) (holds h sid.0 desc.0) refl j
+  mine false q j = absurd cc
+listed_new c h (Do sid (SemWait desc)) s p known legal none k = mine (eqb sid.0 s) refl k where
+  given : sid.0 ≡ s → (y : Option Held) → holds h sid.0 desc.0 ≡ y → option_and_then (parked_on (is_zero c h) Waiting (length h)) y ≡ Some p → place_listed p.kind s (queue c (record { event = Do sid (SemWait desc); rule = None } ∷ h) p.object) (semaphore (record { event = Do sid (SemWait desc); rule = None } ∷ h) p.object) ≡ Some p.place
+  given same None q j = absurd cc
+  given same (Some x) q j = at_zero (is_zero c h x.object) refl j where
+    at_zero : (b : Bool) → is_zero c h x.object ≡ b → cond b (Some (record { object = x.object; place = length h; kind = Waiting })) None ≡ Some p → place_listed p.kind s (queue c (record { event = Do sid (SemWait desc); rule = None } ∷ h) p.object) (semaphore (record { event = Do sid (SemWait desc); rule = None } ∷ h) p.object) ≡ Some p.place
+    at_zero true f i = let is : record { object = x.object; place = length h; kind = Waiting } ≡ p = cc in subst (λ (z : Parked). place_listed z.kind s (queue c (record { event = Do sid (SemWait desc); rule = None } ∷ h) z.object) (semaphore (record { event = Do sid (SemWait desc); rule = None } ∷ h) z.object) ≡ Some z.place) is (new_wait c h sid desc s x known legal none same q f)
+    at_zero false f i = absurd cc
+
+  mine : (b : Bool) → eqb sid.0 s ≡ b → cond b (option_and_then (parked_on (is_zero c h) Waiting (length h)) (holds h sid.0 desc.0)) None ≡ Some p → place_listed p.kind s (queue c (record { event = Do sid (SemWait desc); rule = None } ∷ h) p.object) (semaphore (record { event = Do sid (SemWait desc); rule = None } ∷ h) p.object) ≡ Some p.place
   mine true q j = given (eqb-true _ _ q) (holds h sid.0 desc.0) refl j
   mine false q j = absurd cc
 listed_new c h (Do sid call) s p known legal none k = absurd cc
@@ -238,29 +289,34 @@ parked_cases c h e s p k = at (parks c s e h) k where
   at None j = inr (kept_parts (λ x. ends_parked c s x e h) (parked c h s) p j)
   at (Some x) j = inl j
 
-listed_after : (c : Config) (h : History) (e : Event) (s : ℕ) (p : Parked) → IsListed c h → None ≡ verdict c h e → (parks c s e h ≡ Some p) ⊎ ((parked c h s ≡ Some p) × (ends_parked c s p e h ≡ false)) → place_listed p.kind s (queue c (record { event = e; rule = None } ∷ h) p.object) ≡ Some p.place
-unfolding queue
+listed_after : (c : Config) (h : History) (e : Event) (s : ℕ) (p : Parked) → IsListed c h → None ≡ verdict c h e → (parks c s e h ≡ Some p) ⊎ ((parked c h s ≡ Some p) × (ends_parked c s p e h ≡ false)) → place_listed p.kind s (queue c (record { event = e; rule = None } ∷ h) p.object) (semaphore (record { event = e; rule = None } ∷ h) p.object) ≡ Some p.place
+unfolding queue semaphore
 listed_after c h e s p known legal (inl k) = listed_new c h e s p known legal (parks_when_free c h e s p legal k) k
-listed_after c h e s p known legal (inr k) = listed_stays (maxmsg c h p.object) (act p.object e h) (queue c h p.object) s p.object p.place p.kind (known.each_parked s p k.0) k.1
+listed_after c h e s p known legal (inr k) = listed_stays (maxmsg c h p.object) (act p.object e h) (queue c h p.object) (semaphore_act p.object e h) (semaphore h p.object) (semaphore (record { event = e; rule = None } ∷ h) p.object) (first_keeps (gives_value p.object e h) (semaphore_after (semaphore_act p.object e h) (semaphore h p.object))) s p.object p.place p.kind (withdraws_alike p.object e h s) (known.each_parked s p k.0) k.1
 
 listed_more : (c : Config) (h : History) → IsListed c h → (e : Event) (r : Option Rule) → r ≡ verdict c h e → IsListed c (record { event = e; rule = r } ∷ h)
-unfolding queue
+unfolding queue semaphore
 listed_more c h known e (Some rule) legal = record {
   each_send = λ o. each_map (λ (m : Send). parked c h m.session ≡ Some (record { object = o; place = m.place; kind = Sending })) (λ m. parked c (record { event = e; rule = Some rule } ∷ h) m.session ≡ Some (record { object = o; place = m.place; kind = Sending })) (senders c h o) (λ m p. refused_parked c h e rule m.session ∙ p) (known.each_send o);
   each_receive = λ o. each_map (λ (w : Wait). parked c h w.session ≡ Some (record { object = o; place = w.place; kind = Receiving })) (λ w. parked c (record { event = e; rule = Some rule } ∷ h) w.session ≡ Some (record { object = o; place = w.place; kind = Receiving })) (receivers c h o) (λ w p. refused_parked c h e rule w.session ∙ p) (known.each_receive o);
+  each_wait = λ o. each_map (λ (w : Wait). parked c h w.session ≡ Some (record { object = o; place = w.place; kind = Waiting })) (λ w. parked c (record { event = e; rule = Some rule } ∷ h) w.session ≡ Some (record { object = o; place = w.place; kind = Waiting })) (waiters h o) (λ w p. refused_parked c h e rule w.session ∙ p) (known.each_wait o);
   each_parked = λ s p k. known.each_parked s p (sym (refused_parked c h e rule s) ∙ k);
 }
 listed_more c h known e None legal = record {
   each_send = λ o. each_parked_sender (λ (m : Send). parked c h m.session ≡ Some (record { object = o; place = m.place; kind = Sending })) (λ m. parked c (record { event = e; rule = None } ∷ h) m.session ≡ Some (record { object = o; place = m.place; kind = Sending })) (maxmsg c h o) (act o e h) (queue c h o) (length h) (parked_by_place c h o).sends_rise
-      (λ m p keeps. stays_parked c h e m.session (record { object = o; place = m.place; kind = Sending }) p (parks_no_other c h e m.session legal (ap is_some p)) (not_ended_send o m (act o e h) (queue c h o) keeps))
+      (λ m p keeps. stays_parked c h e m.session (record { object = o; place = m.place; kind = Sending }) p (parks_no_other c h e m.session legal (ap is_some p)) (or_neither _ _ (posts_no_send (semaphore_act o e h) m.place (semaphore h o)) (not_ended_send o m (act o e h) (queue c h o) keeps)))
       (send_parks c h o e legal) (known.each_send o);
   each_receive = λ o. each_parked_receiver (λ (w : Wait). parked c h w.session ≡ Some (record { object = o; place = w.place; kind = Receiving })) (λ w. parked c (record { event = e; rule = None } ∷ h) w.session ≡ Some (record { object = o; place = w.place; kind = Receiving })) (act o e h) (queue c h o) (length h) (parked_by_place c h o).receives_rise
-      (λ w p keeps. stays_parked c h e w.session (record { object = o; place = w.place; kind = Receiving }) p (parks_no_other c h e w.session legal (ap is_some p)) (not_ended_receive o w (act o e h) (queue c h o) keeps))
+      (λ w p keeps. stays_parked c h e w.session (record { object = o; place = w.place; kind = Receiving }) p (parks_no_other c h e w.session legal (ap is_some p)) (or_neither _ _ (posts_no_receive (semaphore_act o e h) w.place (semaphore h o)) (not_ended_receive o w (act o e h) (queue c h o) keeps)))
       (receive_parks c h o e legal) (known.each_receive o);
+  each_wait = λ o. subst (Each (λ (w : Wait). parked c (record { event = e; rule = None } ∷ h) w.session ≡ Some (record { object = o; place = w.place; kind = Waiting }))) (sym (first_keeps (gives_value o e h) (semaphore_after (semaphore_act o e h) (semaphore h o))))
+      (each_parked_waiter (λ (w : Wait). parked c h w.session ≡ Some (record { object = o; place = w.place; kind = Waiting })) (λ w. parked c (record { event = e; rule = None } ∷ h) w.session ≡ Some (record { object = o; place = w.place; kind = Waiting })) (semaphore_act o e h) (semaphore h o) (length h) (parked_by_place c h o).waits_rise
+      (λ w p keeps. stays_parked c h e w.session (record { object = o; place = w.place; kind = Waiting }) p (parks_no_other c h e w.session legal (ap is_some p)) (not_ended_wait o w (semaphore_act o e h) (semaphore h o) (act o e h) (queue c h o) (withdraws_alike o e h w.session) keeps))
+      (wait_parks c h o e legal) (known.each_wait o));
   each_parked = λ s p k. listed_after c h e s p known legal (parked_cases c h e s p k);
 }
 
 pub calls_listed : ParkedIsListed
-unfolding queue parked
-calls_listed c [] legal = record { each_send = λ o. tt; each_receive = λ o. tt; each_parked = λ s p k. absurd cc }
+unfolding queue semaphore parked
+calls_listed c [] legal = record { each_send = λ o. tt; each_receive = λ o. tt; each_wait = λ o. tt; each_parked = λ s p k. absurd cc }
 calls_listed c (r ∷ h) legal = listed_more c h (calls_listed c h legal.1) r.event r.rule legal.0

@@ -1,4 +1,4 @@
--- Only objects that were created are bound or held, or have messages or parked calls.
+-- Only objects that were created are bound or held, or have messages, a value or parked calls.
 use Rattle.std.proofs.Common.{◌≡◌, ℕ, ◌+◌, ◌<◌, ◌≤◌, Bool, true, false, not, ◌&&◌, eqb, cond, List, [], ◌∷◌, length, Option, Some, None, is_some, refl, sym, ap, subst, ◌∙◌, arith}
 use Rattle.std.specs.Prelude.{option_and_then}
 use Rattle.std.specs.Option.{option_or, option_map}
@@ -6,21 +6,22 @@ use Rattle.std.proofs.lemmas.Bool.{ne_eqb}
 use Rattle.ipc_terms.specs.Flags.{has_create}
 use Rattle.ipc_terms.specs.declared.rule.Rule.{Rule}
 use Rattle.ipc_terms.specs.declared.ids.Family.{Family}
-use Rattle.ipc_terms.specs.declared.ids.Family.TheVariants.{Mq}
-use Rattle.ipc_terms.specs.declared.call.Call.TheVariants.{MqOpen, MqSend, MqReceive, MqUnlink}
+use Rattle.ipc_terms.specs.declared.ids.Family.TheVariants.{Mq, Sem}
+use Rattle.ipc_terms.specs.declared.call.Call.TheVariants.{MqOpen, MqSend, MqReceive, MqUnlink, SemOpen, SemUnlink, SemPost, SemWait, SemTryWait}
 use Rattle.ipc_terms.specs.declared.record.Event.{Event}
 use Rattle.ipc_terms.specs.declared.record.Event.TheVariants.{Hello, Do, Hangup}
 use Rattle.ipc_policy.specs.declared.config.Config.{Config}
 use Rattle.ipc_policy.specs.declared.config.Held.{Held}
 use Rattle.ipc_policy.specs.History.{History, kept}
-use Rattle.ipc_policy.specs.Names.{Opening, queue_opening, unlinks, asks_name, is_bound, creations, bound}
+use Rattle.ipc_policy.specs.Names.{Opening, queue_opening, semaphore_opening, unlinks, asks_name, is_bound, creations, bound}
 use Rattle.ipc_policy.specs.Descriptions.{opened, held_as, opens, if_of, held, holds, ends_held}
 use Rattle.ipc_policy.specs.Life.{gives_object}
 use Rattle.ipc_policy.specs.Queues.{act_by, queue, empty_queue, queue_after, maxmsg}
-use Rattle.ipc_policy.specs.Grow.{is_new, creations_after, bound_after, held_after}
+use Rattle.ipc_policy.specs.Semaphores.{semaphore_act_by, semaphore_after, with_first, no_semaphore, semaphore}
+use Rattle.ipc_policy.specs.Grow.{is_new, first_value, creations_after, bound_after, held_after}
 use Rattle.ipc_policy.proofs.Holding.{held_grows}
 use Rattle.ipc_policy.proofs.Growing.{creations_grow, bound_grows}
-use Rattle.ipc_policy.proofs.Queueing.{queue_grows, refused_queue}
+use Rattle.ipc_policy.proofs.Queueing.{queue_grows, refused_queue, semaphore_grows, refused_semaphore}
 use Rattle.ipc_policy.proofs.Known.{bound_iff}
 
 -- objects are never fewer
@@ -31,10 +32,11 @@ count_at n o false le = le
 created_at : (h : History) (e : Event) (o : ℕ) → creations_after e (is_bound h) (creations h) ≤ o → creations h ≤ o
 created_at h (Hello found) o le = le
 created_at h (Do sid (MqOpen asked)) o le = count_at (creations h) o (is_new (queue_opening sid asked) (is_bound h)) le
+created_at h (Do sid (SemOpen asked)) o le = count_at (creations h) o (is_new (semaphore_opening sid asked) (is_bound h)) le
 created_at h (Do sid call) o le = le
 created_at h (Hangup sid) o le = le
 
-created_before : (h : History) (e : Event) (r : Option Rule) (o : ℕ) → creations (record { event = e; rule = r } ∷ h) ≤ o → creations h ≤ o
+pub created_before : (h : History) (e : Event) (r : Option Rule) (o : ℕ) → creations (record { event = e; rule = r } ∷ h) ≤ o → creations h ≤ o
 unfolding creations
 created_before h e (Some rule) o le = le
 created_before h e None o le = created_at h e o (rw (← creation_count) le) where
@@ -55,6 +57,8 @@ bound_at : (h : History) (f : Family) (name : List ℕ) (o : ℕ) → (bound h f
 bound_at h f name o known (Hello found) e = known e
 bound_at h f name o known (Do sid (MqOpen asked)) e = bound_open (creations h) o (is_new (queue_opening sid asked) (is_bound h)) (asks_name (queue_opening sid asked) f name) (bound h f name) known e
 bound_at h f name o known (Do sid (MqUnlink given)) e = bound_left (creations h) o (unlinks f name (Do sid (MqUnlink given))) (bound h f name) known e
+bound_at h f name o known (Do sid (SemOpen asked)) e = bound_open (creations h) o (is_new (semaphore_opening sid asked) (is_bound h)) (asks_name (semaphore_opening sid asked) f name) (bound h f name) known e
+bound_at h f name o known (Do sid (SemUnlink given)) e = bound_left (creations h) o (unlinks f name (Do sid (SemUnlink given))) (bound h f name) known e
 bound_at h f name o known (Do sid call) e = known e
 bound_at h f name o known (Hangup sid) e = known e
 
@@ -105,6 +109,11 @@ held_at h d x known (Do sid (MqOpen asked)) e =
     held_open (creations h) (cond new (creations h + 1) (creations h)) (eqb (opens h) d) (opened h (queue_opening sid asked)) (held h d) (queue_opening sid asked) x known (count_le (creations h) new)
     (λ i is. opened_below (creations h) i (has_create asked.flags) (is_bound h Mq asked.name) (bound h Mq asked.name) (bound_iff h Mq asked.name) (λ k at. bound_below h Mq asked.name k at) is)
     e
+held_at h d x known (Do sid (SemOpen asked)) e =
+    let new = is_new (semaphore_opening sid asked) (is_bound h) in
+    held_open (creations h) (cond new (creations h + 1) (creations h)) (eqb (opens h) d) (opened h (semaphore_opening sid asked)) (held h d) (semaphore_opening sid asked) x known (count_le (creations h) new)
+    (λ i is. opened_below (creations h) i (has_create asked.flags) (is_bound h Sem asked.name) (bound h Sem asked.name) (bound_iff h Sem asked.name) (λ k at. bound_below h Sem asked.name k at) is)
+    e
 held_at h d x known (Do sid call) e = known x (kept_is (λ y. ends_held d y (Do sid call)) (held h d) x e)
 held_at h d x known (Hangup sid) e = known x (kept_is (λ y. ends_held d y (Hangup sid)) (held h d) x e)
 
@@ -139,7 +148,7 @@ given_at : (o n : ℕ) (w : Option Held) → n ≤ o → ((x : Held) → w ≡ S
 given_at o n None le known = refl
 given_at o n (Some x) le known = ne_eqb x.object o (λ (q : x.object ≡ o). absurd (let lt = known x refl in omega arith))
 
-not_given : (h : History) (s d o : ℕ) → creations h ≤ o → gives_object o (holds h s d) ≡ false
+pub not_given : (h : History) (s d o : ℕ) → creations h ≤ o → gives_object o (holds h s d) ≡ false
 not_given h s d o le = given_at o (creations h) (holds h s d) le (λ x e. held_created h d x (holds_is_held h s d x e))
 
 pub empty_after : (h : History) (o n : ℕ) (e : Event) → creations h ≤ o → queue_after n (act_by (length h) (holds h) o e) empty_queue ≡ empty_queue
@@ -160,3 +169,41 @@ not_created_empty c [] o le = refl
 not_created_empty c (r ∷ h) o le =
     let before = created_before h r.event r.rule o le in
     empty_more c h o (not_created_empty c h o before) before r.event r.rule
+
+-- and a semaphore that was not created has no value and no parked wait
+pub still_after : (h : History) (o : ℕ) (e : Event) → creations h ≤ o → semaphore_after (semaphore_act_by (length h) (holds h) o e) no_semaphore ≡ no_semaphore
+still_after h o (Hello found) le = refl
+still_after h o (Do sid (SemPost desc)) le = rw (not_given h sid.0 desc.0 o le) refl
+still_after h o (Do sid (SemWait desc)) le = rw (not_given h sid.0 desc.0 o le) refl
+still_after h o (Do sid (SemTryWait desc)) le = rw (not_given h sid.0 desc.0 o le) refl
+still_after h o (Do sid call) le = refl
+still_after h o (Hangup sid) le = refl
+
+-- an event gives its first value to an object that it creates
+none_given : (n o : ℕ) (b : Bool) (w : Option ℕ) → cond b (n + 1) n ≤ o → cond (b && eqb n o) (option_or w None) None ≡ None
+none_given n o true w le = ap (λ d. cond d (option_or w None) None) (ne_eqb n o (λ (q : n ≡ o). absurd (omega arith)))
+none_given n o false w le = refl
+
+pub no_value_yet : (h : History) (e : Event) (o : ℕ) → creations_after e (is_bound h) (creations h) ≤ o → first_value o e (is_bound h) (creations h) ≡ None
+no_value_yet h (Hello found) o le = refl
+no_value_yet h (Do sid (MqOpen asked)) o le = none_given (creations h) o (is_new (queue_opening sid asked) (is_bound h)) None le
+no_value_yet h (Do sid (SemOpen asked)) o le = none_given (creations h) o (is_new (semaphore_opening sid asked) (is_bound h)) (Some asked.value) le
+no_value_yet h (Do sid call) o le = refl
+no_value_yet h (Hangup sid) o le = refl
+
+still_more : (h : History) (o : ℕ) → (creations h ≤ o → semaphore h o ≡ no_semaphore) → (e : Event) (r : Option Rule) → creations (record { event = e; rule = r } ∷ h) ≤ o → semaphore (record { event = e; rule = r } ∷ h) o ≡ no_semaphore
+unfolding creations
+still_more h o known e (Some rule) le = refused_semaphore h e rule o ∙ known le
+still_more h o known e None le =
+    let before : creations h ≤ o = created_before h e None o le in
+    semaphore_grows h e o
+    ∙ ap (λ v. with_first v (semaphore_after (semaphore_act_by (length h) (holds h) o e) (semaphore h o))) (no_value_yet h e o (rw (← creation_count) le))
+    ∙ ap (semaphore_after (semaphore_act_by (length h) (holds h) o e)) (known before)
+    ∙ still_after h o e before where
+      creation_count : creations (record { event = e; rule = None } ∷ h) ≡ creations_after e (is_bound h) (creations h)
+      creation_count = creations_grow h e
+
+pub not_created_still : (h : History) (o : ℕ) → creations h ≤ o → semaphore h o ≡ no_semaphore
+unfolding semaphore
+not_created_still [] o le = refl
+not_created_still (r ∷ h) o le = still_more h o (not_created_still h o) r.event r.rule le

@@ -1,4 +1,4 @@
--- What holds of each item of a list, and of each call that a queue lists after an act.
+-- What holds of each item of a list, and of each call that a queue or a semaphore lists after an act.
 use Rattle.std.proofs.Common.{◌≡◌, ℕ, ◌+◌, ◌<◌, Bool, true, false, not, ◌||◌, eqb, nat_lt, List, [], ◌∷◌, ◌++◌, cond, Option, Some, None, refl, subst, arith}
 use Rattle.std.specs.Prelude.{filter}
 use Rattle.std.proofs.lemmas.Bool.{ne_eqb}
@@ -7,7 +7,8 @@ use Rattle.ipc_terms.specs.Priorities.{first_of_greatest}
 use Rattle.ipc_policy.specs.History.{listed}
 use Rattle.ipc_policy.specs.Queues.{Send, Wait, Act, Sends, Receives, Withdraws, Rests, Queue, has_none, has_all, behind, next, others, receivers_after, senders_after, contents_after}
 use Rattle.ipc_policy.specs.Parking.{stands_at}
-use Rattle.ipc_policy.specs.Readings.{Each, Rising, ends_receive, ends_send}
+use Rattle.ipc_policy.specs.Semaphores.{SemaphoreAct, Posts, Waits, Tries, Cancels, Idles, Semaphore, waiters_after}
+use Rattle.ipc_policy.specs.Readings.{Each, Rising, ends_receive, ends_send, ends_wait}
 
 pub each_map : {A : Type 0} (P Q : A → Type 0) (xs : List A) → ((x : A) → P x → Q x) → Each P xs → Each Q xs
 each_map P Q [] f h = tt
@@ -90,6 +91,20 @@ each_parked_receiver P Q (Receives w) q hi r f g h = at (has_none q.contents) re
   at false e = old
 each_parked_receiver P Q (Withdraws s) q hi r f g h = each_filter P Q (λ w. not (eqb w.session s)) q.receivers (λ w e p. f w p (not_false (eqb w.session s) e)) h
 each_parked_receiver P Q Rests q hi r f g h = each_map P Q q.receivers (λ v p. f v p refl) h
+
+-- the waits that are parked after an act were parked and not ended, or come with it
+pub each_parked_waiter : (P Q : Wait → Type 0) (a : SemaphoreAct) (q : Semaphore) (hi : ℕ) → Rising (λ (w : Wait). w.place) 0 q.waiters hi → ((w : Wait) → P w → ends_wait w a q ≡ false → Q w) → ((w : Wait) → a ≡ Waits w → eqb q.value 0 ≡ true → Q w) → Each P q.waiters → Each Q (waiters_after a q)
+each_parked_waiter P Q Posts q hi r f g h = each_behind_other (λ (w : Wait). w.place) P Q q.waiters 0 hi r f h
+each_parked_waiter P Q (Waits w) q hi r f g h = at (eqb q.value 0) refl where
+  old : Each Q q.waiters
+  old = each_map P Q q.waiters (λ v p. f v p refl) h
+
+  at : (b : Bool) → eqb q.value 0 ≡ b → Each Q (cond b (q.waiters ++ w ∷ []) q.waiters)
+  at true e = each_append Q q.waiters (w ∷ []) old (g w refl e, tt)
+  at false e = old
+each_parked_waiter P Q (Cancels s) q hi r f g h = each_filter P Q (λ w. not (eqb w.session s)) q.waiters (λ w e p. f w p (not_false (eqb w.session s) e)) h
+each_parked_waiter P Q Tries q hi r f g h = each_map P Q q.waiters (λ v p. f v p refl) h
+each_parked_waiter P Q Idles q hi r f g h = each_map P Q q.waiters (λ v p. f v p refl) h
 
 -- the sends that are parked after an act were so before, or come with it
 pub each_sender : (P : Send → Type 0) (maxmsg : ℕ) (a : Act) (q : Queue) → ((m : Send) → a ≡ Sends m → P m) → Each P q.senders → Each P (senders_after maxmsg a q)

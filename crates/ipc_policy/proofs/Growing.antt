@@ -5,12 +5,12 @@ use Rattle.std.specs.Option.{option_or, option_flatten}
 use Rattle.ipc_terms.specs.declared.ids.Uid.{Uid}
 use Rattle.ipc_terms.specs.declared.ids.Family.{Family}
 use Rattle.ipc_terms.specs.Flags.{has_create, has_nonblock}
-use Rattle.ipc_terms.specs.declared.call.Call.TheVariants.{Umask, MqOpen, MqSetattr, MqUnlink}
+use Rattle.ipc_terms.specs.declared.call.Call.TheVariants.{Umask, MqOpen, MqSetattr, MqUnlink, SemOpen, SemUnlink}
 use Rattle.ipc_terms.specs.declared.record.Event.{Event}
 use Rattle.ipc_terms.specs.declared.record.Event.TheVariants.{Hello, Do, Hangup}
 use Rattle.ipc_policy.specs.History.{History, newest, kept, unended}
 use Rattle.ipc_policy.specs.Sessions.{hellos, begins, hangs_up, user, live, mask, sets_mask}
-use Rattle.ipc_policy.specs.Names.{queue_opening, Opening, asks_name, unlinks, leaves_bound, is_bound, creating, creations, binds, bound}
+use Rattle.ipc_policy.specs.Names.{queue_opening, semaphore_opening, Opening, asks_name, unlinks, leaves_bound, is_bound, creating, creations, binds, bound}
 use Rattle.ipc_policy.specs.Objects.{creation_of}
 use Rattle.ipc_policy.specs.Descriptions.{opens, is_nonblock, sets_nonblock}
 use Rattle.ipc_policy.specs.Grow.{hellos_after, user_after, live_after, mask_after, is_bound_after, creations_after, bound_after, made_after, is_new, opens_after, nonblock_after}
@@ -71,6 +71,8 @@ unfolding is_bound
 is_bound_grows h (Hello found) f name = refl
 is_bound_grows h (Do sid (MqOpen asked)) f name = bound_true (has_create asked.flags && asks_name (queue_opening sid asked) f name) (newest (leaves_bound f name) h)
 is_bound_grows h (Do sid (MqUnlink given)) f name = unbound_false (unlinks f name (Do sid (MqUnlink given))) (newest (leaves_bound f name) h)
+is_bound_grows h (Do sid (SemOpen asked)) f name = bound_true (has_create asked.flags && asks_name (semaphore_opening sid asked) f name) (newest (leaves_bound f name) h)
+is_bound_grows h (Do sid (SemUnlink given)) f name = unbound_false (unlinks f name (Do sid (SemUnlink given))) (newest (leaves_bound f name) h)
 is_bound_grows h (Do sid call) f name = refl
 is_bound_grows h (Hangup sid) f name = refl
 
@@ -82,6 +84,7 @@ pub creations_grow : (h : History) (e : Event) → creations (record { event = e
 unfolding creations creating
 creations_grow h (Hello found) = refl
 creations_grow h (Do sid (MqOpen asked)) = some_of _ _ (creations h)
+creations_grow h (Do sid (SemOpen asked)) = some_of _ _ (creations h)
 creations_grow h (Do sid call) = refl
 creations_grow h (Hangup sid) = refl
 
@@ -111,6 +114,8 @@ unfolding bound creating
 bound_grows h (Hello found) f name = kept_all (bound_so_far h f name)
 bound_grows h (Do sid (MqOpen asked)) f name = bound_open f name (queue_opening sid asked) (creations h) (bound_so_far h f name) (is_new (queue_opening sid asked) (is_bound h)) true
 bound_grows h (Do sid (MqUnlink given)) f name = kept_unless (unlinks f name (Do sid (MqUnlink given))) (bound_so_far h f name)
+bound_grows h (Do sid (SemOpen asked)) f name = bound_open f name (semaphore_opening sid asked) (creations h) (bound_so_far h f name) (is_new (semaphore_opening sid asked) (is_bound h)) true
+bound_grows h (Do sid (SemUnlink given)) f name = kept_unless (unlinks f name (Do sid (SemUnlink given))) (bound_so_far h f name)
 bound_grows h (Do sid call) f name = kept_all (bound_so_far h f name)
 bound_grows h (Hangup sid) f name = kept_all (bound_so_far h f name)
 
@@ -128,6 +133,7 @@ pub made_grows : {A : Type 0} (h : History) (e : Event) (o : ℕ) (make : Openin
 unfolding creating
 made_grows h (Hello found) o make w = made_none (eqb (creations h) o) make w
 made_grows h (Do sid (MqOpen asked)) o make w = made_open (eqb (creations h) o) (is_new (queue_opening sid asked) (is_bound h)) make _ w
+made_grows h (Do sid (SemOpen asked)) o make w = made_open (eqb (creations h) o) (is_new (semaphore_opening sid asked) (is_bound h)) make _ w
 made_grows h (Do sid call) o make w = made_none (eqb (creations h) o) make w
 made_grows h (Hangup sid) o make w = made_none (eqb (creations h) o) make w
 
@@ -135,6 +141,7 @@ pub opens_grow : (h : History) (e : Event) → opens (record { event = e; rule =
 unfolding opens
 opens_grow h (Hello found) = refl
 opens_grow h (Do sid (MqOpen asked)) = refl
+opens_grow h (Do sid (SemOpen asked)) = refl
 opens_grow h (Do sid call) = refl
 opens_grow h (Hangup sid) = refl
 
@@ -147,5 +154,6 @@ unfolding is_nonblock
 nonblock_grows h (Hello found) s d = refl
 nonblock_grows h (Do sid (MqOpen asked)) s d = nonblock_or (eqb sid.0 s && eqb (opens h) d) (has_nonblock asked.flags) false (newest (sets_nonblock s d) h)
 nonblock_grows h (Do sid (MqSetattr desc nonblock)) s d = nonblock_or (eqb sid.0 s && eqb desc.0 d) nonblock false (newest (sets_nonblock s d) h)
+nonblock_grows h (Do sid (SemOpen asked)) s d = nonblock_or (eqb sid.0 s && eqb (opens h) d) false false (newest (sets_nonblock s d) h)
 nonblock_grows h (Do sid call) s d = refl
 nonblock_grows h (Hangup sid) s d = refl

@@ -14,7 +14,7 @@ use Rattle.ipc_policy.specs.Grow.{Grows, made_after}
 use Rattle.ipc_policy.proofs.Facts.{facts_first}
 use Rattle.ipc_policy.proofs.Holding.{held_grows, count_grows}
 use Rattle.ipc_policy.proofs.Growing.{hello_grows, user_grows, live_grows, mask_grows, is_bound_grows, creations_grow, bound_grows, made_grows, opens_grow, nonblock_grows}
-use Rattle.ipc_policy.proofs.Queueing.{queue_grows, parked_grows, outbox_grows}
+use Rattle.ipc_policy.proofs.Queueing.{queue_grows, semaphore_grows, parked_grows, outbox_grows}
 use Rattle.ipc_policy.proofs.Living.{named_grows, bindings_grow, names_grow, alive_grows}
 
 -- a part of what the creation sets
@@ -50,6 +50,7 @@ grows c h e = record {
   count_of = count_grows h e;
   nonblock_of = nonblock_grows h e;
   queue_of = queue_grows c h e;
+  semaphore_of = semaphore_grows h e;
   parked_in = parked_grows c h e;
   named_by = named_grows h e;
   bindings_of = bindings_grow h e;

@@ -6,14 +6,13 @@ use Rattle.std.proofs.lemmas.Bool.{cases_eq, eqb-true, eq-eqb, ne_eqb, and_parts
 use Rattle.ipc_terms.specs.declared.rule.Rule.{Rule}
 use Rattle.ipc_terms.specs.declared.ids.Sid.{Sid}
 use Rattle.ipc_terms.specs.declared.ids.Desc.{Desc}
-use Rattle.ipc_terms.specs.declared.call.QueueOpen.{QueueOpen}
-use Rattle.ipc_terms.specs.declared.call.Call.TheVariants.{Umask, MqOpen, MqClose, MqSend, MqReceive, MqGetattr, MqSetattr, MqUnlink, ListNames, StatName, Interrupt}
+use Rattle.ipc_terms.specs.declared.call.Call.TheVariants.{Umask, MqOpen, MqClose, MqSend, MqReceive, MqGetattr, MqSetattr, MqUnlink, SemOpen, SemClose, SemUnlink, SemPost, SemWait, SemTryWait, SemGetvalue, ListNames, StatName, Interrupt}
 use Rattle.ipc_terms.specs.declared.record.Event.{Event}
 use Rattle.ipc_terms.specs.declared.record.Record.{Record}
 use Rattle.ipc_terms.specs.declared.record.Event.TheVariants.{Hello, Do, Hangup}
 use Rattle.ipc_policy.specs.declared.config.Held.{Held}
 use Rattle.ipc_policy.specs.History.{History, kept, unended_from, how_many_below}
-use Rattle.ipc_policy.specs.Names.{Opening, queue_opening, opening, bound, creations}
+use Rattle.ipc_policy.specs.Names.{Opening, queue_opening, semaphore_opening, opening, bound, creations}
 use Rattle.ipc_policy.specs.Descriptions.{opens, opened, held_as, gives, ends_held, held, if_of, holds, held_count}
 use Rattle.ipc_policy.specs.Grow.{held_after, held_count_after}
 
@@ -70,6 +69,7 @@ pub held_grows : (h : History) (e : Event) (d : ℕ) → held (record { event = 
 unfolding held
 held_grows h (Hello found) d = refl
 held_grows h (Do sid (MqOpen asked)) d = ap (option_or _) (kept_all (unended_from (gives d) (λ x e before. ends_held d x e) h))
+held_grows h (Do sid (SemOpen asked)) d = ap (option_or _) (kept_all (unended_from (gives d) (λ x e before. ends_held d x e) h))
 held_grows h (Do sid call) d = refl
 held_grows h (Hangup sid) d = refl
 
@@ -115,14 +115,14 @@ opened_at s asked true None w none = none refl ∙ and_off (eqb asked.session.0 
 opened_at s asked true (Some o) w none = mine (eqb asked.session.0 s) (held_as asked o) ∙ and_on (eqb asked.session.0 s)
 opened_at s asked false o w none = refl
 
-holds_opened : (h : History) (sid : Sid) (asked : QueueOpen) (s d : ℕ) → is_some (holds (record { event = Do sid (MqOpen asked); rule = None } ∷ h) s d) ≡ cond (eqb (opens h) d) (eqb sid.0 s && is_some (opened h (queue_opening sid asked))) (is_some (holds h s d))
+holds_opened : (h : History) (e : Event) (asked : Opening) → ((d : ℕ) → held_after d e (opens h) (bound h) (creations h) (held h d) ≡ option_or (cond (eqb (opens h) d) (option_map (held_as asked) (opened h asked)) None) (held h d)) → (s d : ℕ) → is_some (holds (record { event = e; rule = None } ∷ h) s d) ≡ cond (eqb (opens h) d) (eqb asked.session.0 s && is_some (opened h asked)) (is_some (holds h s d))
 unfolding holds
-holds_opened h sid asked s d = ap (λ o. is_some (option_and_then (if_of s) o)) (held_grows h (Do sid (MqOpen asked)) d) ∙ opened_at s (queue_opening sid asked) (eqb (opens h) d) (opened h (queue_opening sid asked)) (held h d) (λ e. none (eqb-true _ _ e)) where
+holds_opened h e asked after s d = ap (λ o. is_some (option_and_then (if_of s) o)) (held_grows h e d ∙ after d) ∙ opened_at s asked (eqb (opens h) d) (opened h asked) (held h d) (λ k. none (eqb-true _ _ k)) where
   none : opens h ≡ d → is_some (option_and_then (if_of s) (held h d)) ≡ false
-  none e = unheld h s d (omega arith)
+  none k = unheld h s d (omega arith)
 
 -- after a close
-closed_at : (s d : ℕ) (sid : Sid) (desc : Desc) (w : Option Held) (b : Bool) → (eqb sid.0 s && eqb desc.0 d) ≡ b → is_some (option_and_then (if_of s) (kept (λ x. ends_held d x (Do sid (MqClose desc))) w)) ≡ cond b false (is_some (option_and_then (if_of s) w))
+closed_at : (s d : ℕ) (sid : Sid) (desc : Desc) (w : Option Held) (b : Bool) → (eqb sid.0 s && eqb desc.0 d) ≡ b → is_some (option_and_then (if_of s) (kept (λ x. eqb sid.0 x.session.0 && eqb desc.0 d) w)) ≡ cond b false (is_some (option_and_then (if_of s) w))
 closed_at s d sid desc None true e = refl
 closed_at s d sid desc None false e = refl
 closed_at s d sid desc (Some x) b e = at (eqb sid.0 x.session.0 && eqb desc.0 d) refl b e where
@@ -146,9 +146,13 @@ closed_at s d sid desc (Some x) b e = at (eqb sid.0 x.session.0 && eqb desc.0 d)
   at false f true e = rw (other f e) refl
   at false f false e = refl
 
-holds_closed : (h : History) (sid : Sid) (desc : Desc) (s d : ℕ) (b : Bool) → (eqb sid.0 s && eqb desc.0 d) ≡ b → is_some (holds (record { event = Do sid (MqClose desc); rule = None } ∷ h) s d) ≡ cond b false (is_some (holds h s d))
+-- what a close of this description by this session leaves of what is held
+abbrev Closes : History → Event → Sid → Desc → Type 0
+Closes h e sid desc = (d : ℕ) → held_after d e (opens h) (bound h) (creations h) (held h d) ≡ kept (λ x. eqb sid.0 x.session.0 && eqb desc.0 d) (held h d)
+
+holds_closed : (h : History) (e : Event) (sid : Sid) (desc : Desc) → Closes h e sid desc → (s d : ℕ) (b : Bool) → (eqb sid.0 s && eqb desc.0 d) ≡ b → is_some (holds (record { event = e; rule = None } ∷ h) s d) ≡ cond b false (is_some (holds h s d))
 unfolding holds
-holds_closed h sid desc s d b e = ap (λ o. is_some (option_and_then (if_of s) o)) (held_grows h (Do sid (MqClose desc)) d) ∙ closed_at s d sid desc (held h d) b e
+holds_closed h e sid desc after s d b k = ap (λ o. is_some (option_and_then (if_of s) o)) (held_grows h e d ∙ after d) ∙ closed_at s d sid desc (held h d) b k
 
 -- one more description is held after an open
 count_at : (h : History) (s : ℕ) (r : Record) (b : Bool) → opens (r ∷ h) ≡ opens h + 1 → ((d : ℕ) → d < opens h → is_some (holds (r ∷ h) s d) ≡ is_some (holds h s d)) → is_some (holds (r ∷ h) s (opens h)) ≡ b → held_count (r ∷ h) s ≡ cond b (held_count h s + 1) (held_count h s)
@@ -157,31 +161,27 @@ count_at h s r b n same e =
     let below : how_many_below (λ d. is_some (holds (r ∷ h) s d)) (opens h) ≡ how_many_below (λ d. is_some (holds h s d)) (opens h) = how_many_below_same _ _ (opens h) same in
     rw (n, add-one, e, below) refl
 
-opens_more : (h : History) (sid : Sid) (asked : QueueOpen) → opens (record { event = Do sid (MqOpen asked); rule = None } ∷ h) ≡ opens h + 1
-unfolding opens
-opens_more h sid asked = refl
-
-count_opened : (h : History) (sid : Sid) (asked : QueueOpen) (s : ℕ) → held_count (record { event = Do sid (MqOpen asked); rule = None } ∷ h) s ≡ cond (eqb sid.0 s && is_some (opened h (queue_opening sid asked))) (held_count h s + 1) (held_count h s)
-count_opened h sid asked s = count_at h s _ (eqb sid.0 s && is_some (opened h (queue_opening sid asked))) (opens_more h sid asked)
-    (λ d lt. holds_opened h sid asked s d ∙ rw (ne_eqb (opens h) d (λ (q : opens h ≡ d). absurd (omega arith))) refl)
-    (holds_opened h sid asked s (opens h) ∙ rw (eq-eqb (opens h) (opens h) refl) refl)
+count_opened : (h : History) (e : Event) (asked : Opening) → opens (record { event = e; rule = None } ∷ h) ≡ opens h + 1 → ((d : ℕ) → held_after d e (opens h) (bound h) (creations h) (held h d) ≡ option_or (cond (eqb (opens h) d) (option_map (held_as asked) (opened h asked)) None) (held h d)) → (s : ℕ) → held_count (record { event = e; rule = None } ∷ h) s ≡ cond (eqb asked.session.0 s && is_some (opened h asked)) (held_count h s + 1) (held_count h s)
+count_opened h e asked more after s = count_at h s _ (eqb asked.session.0 s && is_some (opened h asked)) more
+    (λ d lt. holds_opened h e asked after s d ∙ rw (ne_eqb (opens h) d (λ (q : opens h ≡ d). absurd (omega arith))) refl)
+    (holds_opened h e asked after s (opens h) ∙ rw (eq-eqb (opens h) (opens h) refl) refl)
 
 -- one less after a close of what was held
-count_closed : (h : History) (sid : Sid) (desc : Desc) (s : ℕ) → held_count (record { event = Do sid (MqClose desc); rule = None } ∷ h) s ≡ cond (eqb sid.0 s && is_some (holds h s desc.0)) (held_count h s - 1) (held_count h s)
-unfolding held_count opens
-count_closed h sid desc s = at (eqb sid.0 s) refl (is_some (holds h s desc.0)) refl where
-  at : (b : Bool) → eqb sid.0 s ≡ b → (k : Bool) → is_some (holds h s desc.0) ≡ k → how_many_below (λ d. is_some (holds (record { event = Do sid (MqClose desc); rule = None } ∷ h) s d)) (opens h) ≡ cond (b && k) (held_count h s - 1) (held_count h s)
-  at true e true k =
-      let less : how_many_below (λ d. is_some (holds (record { event = Do sid (MqClose desc); rule = None } ∷ h) s d)) (opens h) + 1 ≡ held_count h s = how_many_below_less _ _ (opens h) desc.0 (holds_below h s desc.0 k) k (holds_closed h sid desc s desc.0 true (and_from _ _ e (eq-eqb _ _ refl))) (λ d ne. holds_closed h sid desc s d false (and_right _ _ (ne_eqb _ _ (λ q. ne (sym q))))) in
+count_closed : (h : History) (e : Event) (sid : Sid) (desc : Desc) → opens (record { event = e; rule = None } ∷ h) ≡ opens h → Closes h e sid desc → (s : ℕ) → held_count (record { event = e; rule = None } ∷ h) s ≡ cond (eqb sid.0 s && is_some (holds h s desc.0)) (held_count h s - 1) (held_count h s)
+unfolding held_count
+count_closed h e sid desc n after s = ap (how_many_below (λ d. is_some (holds (record { event = e; rule = None } ∷ h) s d))) n ∙ at (eqb sid.0 s) refl (is_some (holds h s desc.0)) refl where
+  at : (b : Bool) → eqb sid.0 s ≡ b → (k : Bool) → is_some (holds h s desc.0) ≡ k → how_many_below (λ d. is_some (holds (record { event = e; rule = None } ∷ h) s d)) (opens h) ≡ cond (b && k) (held_count h s - 1) (held_count h s)
+  at true q true k =
+      let less : how_many_below (λ d. is_some (holds (record { event = e; rule = None } ∷ h) s d)) (opens h) + 1 ≡ held_count h s = how_many_below_less _ _ (opens h) desc.0 (holds_below h s desc.0 k) k (holds_closed h e sid desc after s desc.0 true (and_from _ _ q (eq-eqb _ _ refl))) (λ d ne. holds_closed h e sid desc after s d false (and_right _ _ (ne_eqb _ _ (λ r. ne (sym r))))) in
       omega arith
-  at true e false k = how_many_below_same _ _ (opens h) (λ d lt. here d (eqb desc.0 d) refl) where
-    here : (d : ℕ) (b : Bool) → eqb desc.0 d ≡ b → is_some (holds (record { event = Do sid (MqClose desc); rule = None } ∷ h) s d) ≡ is_some (holds h s d)
-    here d true q =
-        let same : desc.0 ≡ d = eqb-true _ _ q in
+  at true q false k = how_many_below_same _ _ (opens h) (λ d lt. here d (eqb desc.0 d) refl) where
+    here : (d : ℕ) (b : Bool) → eqb desc.0 d ≡ b → is_some (holds (record { event = e; rule = None } ∷ h) s d) ≡ is_some (holds h s d)
+    here d true r =
+        let same : desc.0 ≡ d = eqb-true _ _ r in
         let none : is_some (holds h s d) ≡ false = rw (← same) k in
-        holds_closed h sid desc s d true (and_from _ _ e q) ∙ sym none
-    here d false q = holds_closed h sid desc s d false (and_right _ _ q)
-  at false e k q = how_many_below_same _ _ (opens h) (λ d lt. holds_closed h sid desc s d false (and_left _ _ e))
+        holds_closed h e sid desc after s d true (and_from _ _ q r) ∙ sym none
+    here d false r = holds_closed h e sid desc after s d false (and_right _ _ r)
+  at false q k r = how_many_below_same _ _ (opens h) (λ d lt. holds_closed h e sid desc after s d false (and_left _ _ q))
 
 -- as many are held where each is held as before
 count_kept : (h k : History) (s : ℕ) → opens k ≡ opens h → ((d : ℕ) → held k d ≡ held h d) → held_count k s ≡ held_count h s
@@ -222,13 +222,20 @@ pub count_grows : (h : History) (e : Event) (s : ℕ) → held_count (record { e
 unfolding opens
 count_grows h (Hello found) s = count_quiet h (Hello found) s refl (held_grows h (Hello found))
 count_grows h (Do sid (Umask mode)) s = count_quiet h (Do sid (Umask mode)) s refl (held_grows h (Do sid (Umask mode)))
-count_grows h (Do sid (MqOpen asked)) s = count_opened h sid asked s
-count_grows h (Do sid (MqClose desc)) s = count_closed h sid desc s
+count_grows h (Do sid (MqOpen asked)) s = count_opened h (Do sid (MqOpen asked)) (queue_opening sid asked) refl (λ d. refl) s
+count_grows h (Do sid (MqClose desc)) s = count_closed h (Do sid (MqClose desc)) sid desc refl (λ d. refl) s
+count_grows h (Do sid (SemOpen asked)) s = count_opened h (Do sid (SemOpen asked)) (semaphore_opening sid asked) refl (λ d. refl) s
+count_grows h (Do sid (SemClose desc)) s = count_closed h (Do sid (SemClose desc)) sid desc refl (λ d. refl) s
 count_grows h (Do sid (MqSend desc priority bytes)) s = count_quiet h (Do sid (MqSend desc priority bytes)) s refl (held_grows h (Do sid (MqSend desc priority bytes)))
 count_grows h (Do sid (MqReceive desc room)) s = count_quiet h (Do sid (MqReceive desc room)) s refl (held_grows h (Do sid (MqReceive desc room)))
 count_grows h (Do sid (MqGetattr desc)) s = count_quiet h (Do sid (MqGetattr desc)) s refl (held_grows h (Do sid (MqGetattr desc)))
 count_grows h (Do sid (MqSetattr desc nonblock)) s = count_quiet h (Do sid (MqSetattr desc nonblock)) s refl (held_grows h (Do sid (MqSetattr desc nonblock)))
 count_grows h (Do sid (MqUnlink name)) s = count_quiet h (Do sid (MqUnlink name)) s refl (held_grows h (Do sid (MqUnlink name)))
+count_grows h (Do sid (SemUnlink name)) s = count_quiet h (Do sid (SemUnlink name)) s refl (held_grows h (Do sid (SemUnlink name)))
+count_grows h (Do sid (SemPost desc)) s = count_quiet h (Do sid (SemPost desc)) s refl (held_grows h (Do sid (SemPost desc)))
+count_grows h (Do sid (SemWait desc)) s = count_quiet h (Do sid (SemWait desc)) s refl (held_grows h (Do sid (SemWait desc)))
+count_grows h (Do sid (SemTryWait desc)) s = count_quiet h (Do sid (SemTryWait desc)) s refl (held_grows h (Do sid (SemTryWait desc)))
+count_grows h (Do sid (SemGetvalue desc)) s = count_quiet h (Do sid (SemGetvalue desc)) s refl (held_grows h (Do sid (SemGetvalue desc)))
 count_grows h (Do sid (ListNames family start count)) s = count_quiet h (Do sid (ListNames family start count)) s refl (held_grows h (Do sid (ListNames family start count)))
 count_grows h (Do sid (StatName target)) s = count_quiet h (Do sid (StatName target)) s refl (held_grows h (Do sid (StatName target)))
 count_grows h (Do sid Interrupt) s = count_quiet h (Do sid Interrupt) s refl (held_grows h (Do sid Interrupt))

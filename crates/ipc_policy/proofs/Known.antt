@@ -10,7 +10,7 @@ use Rattle.ipc_terms.specs.declared.rule.Rule.{Rule}
 use Rattle.ipc_terms.specs.declared.ids.Uid.{Uid}
 use Rattle.ipc_terms.specs.declared.ids.Family.{Family}
 use Rattle.ipc_terms.specs.declared.ids.Family.TheVariants.{Mq, Sem}
-use Rattle.ipc_terms.specs.declared.call.Call.TheVariants.{Umask, MqOpen, MqUnlink}
+use Rattle.ipc_terms.specs.declared.call.Call.TheVariants.{Umask, MqOpen, MqUnlink, SemOpen, SemUnlink}
 use Rattle.ipc_terms.specs.declared.record.Event.{Event}
 use Rattle.ipc_terms.specs.declared.record.Event.TheVariants.{Hello, Do, Hangup}
 use Rattle.ipc_access.specs.Users.{cred_of}
@@ -18,7 +18,7 @@ use Rattle.ipc_policy.specs.declared.config.Config.{Config}
 use Rattle.ipc_terms.specs.declared.object.Object.{Object}
 use Rattle.ipc_policy.specs.History.{History, newest, kept, unended, how_many}
 use Rattle.ipc_policy.specs.Sessions.{hellos, is_hello, begins, hangs_up, user, live, cred, mask, sets_mask}
-use Rattle.ipc_policy.specs.Names.{queue_opening, Opening, opening, asks_name, unlinks, is_bound, leaves_bound, creation, creations, binds, bound, creating}
+use Rattle.ipc_policy.specs.Names.{queue_opening, semaphore_opening, Opening, opening, asks_name, unlinks, is_bound, leaves_bound, creation, creations, binds, bound, creating}
 use Rattle.ipc_policy.specs.Objects.{creation_of, makes, sets_first, object, facts}
 use Rattle.ipc_policy.specs.Descriptions.{opens}
 use Rattle.ipc_policy.specs.Verdict.{verdict, Legal, answers, after_event, after_events, all_answers}
@@ -81,6 +81,8 @@ iff_more h f name known e (Some rule) = known
 iff_more h f name known (Hello found) None = known ∙ sym (ap is_some (kept_all (bound_so_far h f name)))
 iff_more h f name known (Do sid (MqOpen given)) None = open_iff (queue_opening sid given) f name (creations h) (newest (leaves_bound f name) h) (bound_so_far h f name) known (has_create given.flags) (asks_name (queue_opening sid given) f name) (is_bound h Mq given.name) refl (asks_same h (queue_opening sid given) f name)
 iff_more h f name known (Do sid (MqUnlink given)) None = unlinked_iff (unlinks f name (Do sid (MqUnlink given))) (newest (leaves_bound f name) h) (bound_so_far h f name) known
+iff_more h f name known (Do sid (SemOpen given)) None = open_iff (semaphore_opening sid given) f name (creations h) (newest (leaves_bound f name) h) (bound_so_far h f name) known (has_create given.flags) (asks_name (semaphore_opening sid given) f name) (is_bound h Sem given.name) refl (asks_same h (semaphore_opening sid given) f name)
+iff_more h f name known (Do sid (SemUnlink given)) None = unlinked_iff (unlinks f name (Do sid (SemUnlink given))) (newest (leaves_bound f name) h) (bound_so_far h f name) known
 iff_more h f name known (Do sid call) None = known ∙ sym (ap is_some (kept_all (bound_so_far h f name)))
 iff_more h f name known (Hangup sid) None = known ∙ sym (ap is_some (kept_all (bound_so_far h f name)))
 

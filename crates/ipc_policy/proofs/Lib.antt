@@ -14,11 +14,14 @@ pub mod Keeping
 pub mod InsidePlaces
 pub mod EntryOrder
 pub mod ActsOf
+pub mod Waits
 pub mod CallsListed
 pub mod Lengths
 pub mod QueueBounds
 pub mod ParkedSessions
 pub mod ParkedSteps
+pub mod SemaphoreBounds
+pub mod ValueCounts
 pub mod Outboxes
 pub mod Worked
 pub mod Sent
@@ -28,3 +31,5 @@ pub mod Creating
 pub mod Listing
 pub mod Refused
 pub mod Bindings
+pub mod WaitSteps
+pub mod OpenAccepted

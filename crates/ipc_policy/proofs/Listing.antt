@@ -6,16 +6,14 @@ use Rattle.std.proofs.lemmas.Slice.Eq.{bytes_eq-Decides}
 use Rattle.ipc_terms.specs.Flags.{has_create}
 use Rattle.ipc_terms.specs.Names.{same_family, same_name}
 use Rattle.ipc_terms.specs.declared.binding.Binding.{Binding}
-use Rattle.ipc_terms.specs.declared.ids.Sid.{Sid}
 use Rattle.ipc_terms.specs.declared.ids.Family.{Family}
 use Rattle.ipc_terms.specs.declared.ids.Family.TheVariants.{Mq, Sem}
 use Rattle.ipc_terms.specs.declared.rule.Rule.{Rule}
-use Rattle.ipc_terms.specs.declared.call.QueueOpen.{QueueOpen}
-use Rattle.ipc_terms.specs.declared.call.Call.TheVariants.{Umask, MqOpen, MqClose, MqSend, MqReceive, MqGetattr, MqSetattr, MqUnlink, ListNames, StatName, Interrupt}
+use Rattle.ipc_terms.specs.declared.call.Call.TheVariants.{Umask, MqOpen, MqClose, MqSend, MqReceive, MqGetattr, MqSetattr, MqUnlink, SemOpen, SemClose, SemUnlink, SemPost, SemWait, SemTryWait, SemGetvalue, ListNames, StatName, Interrupt}
 use Rattle.ipc_terms.specs.declared.record.Event.{Event}
 use Rattle.ipc_terms.specs.declared.record.Event.TheVariants.{Hello, Do, Hangup}
 use Rattle.ipc_policy.specs.History.{History}
-use Rattle.ipc_policy.specs.Names.{queue_opening, is_bound, creations, bound}
+use Rattle.ipc_policy.specs.Names.{queue_opening, semaphore_opening, is_bound, creations, bound}
 use Rattle.ipc_policy.specs.Life.{named, bindings}
 use Rattle.ipc_policy.specs.Grow.{is_new, bound_after, bindings_after}
 use Rattle.ipc_policy.proofs.Gathering.{find_kept, find_dropped}
@@ -55,9 +53,11 @@ filter_true : (xs : List Binding) → filter (λ (x : Binding). true) xs ≡ xs
 filter_true [] = refl
 filter_true (x ∷ xs) = ap (λ l. x ∷ l) (filter_true xs)
 
-found_unlinked : (h : History) (f : Family) (name given : List ℕ) → found (bindings h f) name ≡ bound h f name → found (filter (λ (x : Binding). not (same_family Mq f && same_name x.name given)) (bindings h f)) name ≡ cond (same_family Mq f && same_name name given) None (bound h f name)
-found_unlinked h Mq name given known = found_without (bindings h Mq) name given (bound h Mq name) (same_name name given) refl known
-found_unlinked h Sem name given known = ap (λ xs. found xs name) (filter_true (bindings h Sem)) ∙ known
+found_unlinked : (h : History) (u f : Family) (name given : List ℕ) → found (bindings h f) name ≡ bound h f name → found (filter (λ (x : Binding). not (same_family u f && same_name x.name given)) (bindings h f)) name ≡ cond (same_family u f && same_name name given) None (bound h f name)
+found_unlinked h Mq Mq name given known = found_without (bindings h Mq) name given (bound h Mq name) (same_name name given) refl known
+found_unlinked h Sem Sem name given known = found_without (bindings h Sem) name given (bound h Sem name) (same_name name given) refl known
+found_unlinked h Mq Sem name given known = ap (λ xs. found xs name) (filter_true (bindings h Sem)) ∙ known
+found_unlinked h Sem Mq name given known = ap (λ xs. found xs name) (filter_true (bindings h Mq)) ∙ known
 
 -- a name that is made anew was not bound
 unbound_new : (b u : Bool) (w : Option ℕ) → u ≡ is_some w → (b && not u) ≡ true → w ≡ None
@@ -66,24 +66,36 @@ unbound_new true false None is e = refl
 unbound_new true false (Some x) is e = absurd cc
 unbound_new false u w is e = absurd cc
 
-found_created : (h : History) (sid : Sid) (asked : QueueOpen) (f : Family) (name : List ℕ) (b : Bool) → is_new (queue_opening sid asked) (is_bound h) ≡ b → found (bindings h f) name ≡ bound h f name → found (cond (b && same_family Mq f) (bindings h f ++ record { name = asked.name; object = creations h } ∷ []) (bindings h f)) name ≡ cond (b && (same_family Mq f && same_name asked.name name)) (Some (creations h)) (bound h f name)
-found_created h sid asked f name false e known = known
-found_created h sid asked Sem name true e known = known
-found_created h sid asked Mq name true e known = found_more (bindings h Mq) name (record { name = asked.name; object = creations h }) (bound h Mq name) (same_name asked.name name) refl known (λ same.
-    let at : asked.name ≡ name = (bytes_eq-Decides asked.name name).0 same in
-    let none : bound h Mq asked.name ≡ None = unbound_new (has_create asked.flags) (is_bound h Mq asked.name) (bound h Mq asked.name) (bound_iff h Mq asked.name) e in
+found_new : (h : History) (f : Family) (given name : List ℕ) (create : Bool) → (create && not (is_bound h f given)) ≡ true → found (bindings h f) name ≡ bound h f name → found (bindings h f ++ record { name = given; object = creations h } ∷ []) name ≡ cond (same_name given name) (Some (creations h)) (bound h f name)
+found_new h f given name create e known = found_more (bindings h f) name (record { name = given; object = creations h }) (bound h f name) (same_name given name) refl known (λ same.
+    let at : given ≡ name = (bytes_eq-Decides given name).0 same in
+    let none : bound h f given ≡ None = unbound_new create (is_bound h f given) (bound h f given) (bound_iff h f given) e in
     rw (← at) none)
+
+found_created : (h : History) (u f : Family) (given name : List ℕ) (create b : Bool) → (create && not (is_bound h u given)) ≡ b → found (bindings h f) name ≡ bound h f name → found (cond (b && same_family u f) (bindings h f ++ record { name = given; object = creations h } ∷ []) (bindings h f)) name ≡ cond (b && (same_family u f && same_name given name)) (Some (creations h)) (bound h f name)
+found_created h u f given name create false e known = known
+found_created h Mq Sem given name create true e known = known
+found_created h Sem Mq given name create true e known = known
+found_created h Mq Mq given name create true e known = found_new h Mq given name create e known
+found_created h Sem Sem given name create true e known = found_new h Sem given name create e known
 
 listed_more : (h : History) (f : Family) (name : List ℕ) → found (bindings h f) name ≡ bound h f name → (e : Event) → found (bindings_after f e (is_bound h) (creations h) (bindings h f)) name ≡ bound_after f name e (is_bound h) (creations h) (bound h f name)
 listed_more h f name known (Hello uid) = known
 listed_more h f name known (Do sid (Umask mode)) = known
-listed_more h f name known (Do sid (MqOpen asked)) = found_created h sid asked f name (is_new (queue_opening sid asked) (is_bound h)) refl known
+listed_more h f name known (Do sid (MqOpen asked)) = found_created h Mq f asked.name name (has_create asked.flags) (is_new (queue_opening sid asked) (is_bound h)) refl known
+listed_more h f name known (Do sid (SemOpen asked)) = found_created h Sem f asked.name name (has_create asked.flags) (is_new (semaphore_opening sid asked) (is_bound h)) refl known
 listed_more h f name known (Do sid (MqClose desc)) = known
 listed_more h f name known (Do sid (MqSend desc priority bytes)) = known
 listed_more h f name known (Do sid (MqReceive desc room)) = known
 listed_more h f name known (Do sid (MqGetattr desc)) = known
 listed_more h f name known (Do sid (MqSetattr desc nonblock)) = known
-listed_more h f name known (Do sid (MqUnlink given)) = found_unlinked h f name given known
+listed_more h f name known (Do sid (MqUnlink given)) = found_unlinked h Mq f name given known
+listed_more h f name known (Do sid (SemUnlink given)) = found_unlinked h Sem f name given known
+listed_more h f name known (Do sid (SemClose desc)) = known
+listed_more h f name known (Do sid (SemPost desc)) = known
+listed_more h f name known (Do sid (SemWait desc)) = known
+listed_more h f name known (Do sid (SemTryWait desc)) = known
+listed_more h f name known (Do sid (SemGetvalue desc)) = known
 listed_more h f name known (Do sid (ListNames family start count)) = known
 listed_more h f name known (Do sid (StatName target)) = known
 listed_more h f name known (Do sid Interrupt) = known

@@ -8,7 +8,7 @@ use Rattle.ipc_terms.specs.declared.rule.Rule.{Rule}
 use Rattle.ipc_terms.specs.declared.ids.Sid.{Sid}
 use Rattle.ipc_terms.specs.declared.ids.Desc.{Desc}
 use Rattle.ipc_terms.specs.declared.call.Call.{Call}
-use Rattle.ipc_terms.specs.declared.call.Call.TheVariants.{MqOpen, MqClose, MqSend, MqReceive}
+use Rattle.ipc_terms.specs.declared.call.Call.TheVariants.{MqOpen, MqClose, MqSend, MqReceive, SemOpen, SemClose, SemWait}
 use Rattle.ipc_terms.specs.declared.record.Event.{Event}
 use Rattle.ipc_terms.specs.declared.record.Event.TheVariants.{Hello, Do, Hangup}
 use Rattle.ipc_policy.specs.declared.config.Config.{Config}
@@ -16,15 +16,15 @@ use Rattle.ipc_policy.specs.declared.config.Held.{Held}
 use Rattle.ipc_terms.specs.declared.object.Object.{Object}
 use Rattle.ipc_policy.specs.History.{History, kept, there_is, any_below}
 use Rattle.ipc_policy.specs.Sessions.{hellos, live}
-use Rattle.ipc_policy.specs.Names.{queue_opening, is_bound, creations, bound}
+use Rattle.ipc_policy.specs.Names.{queue_opening, semaphore_opening, is_bound, creations, bound}
 use Rattle.ipc_policy.specs.Objects.{object, made_by}
 use Rattle.ipc_policy.specs.Sessions.{cred}
 use Rattle.ipc_policy.specs.Descriptions.{opens, if_of, held, holds, ends_held}
 use Rattle.ipc_policy.specs.Life.{named, alive, gives_object}
 use Rattle.ipc_policy.specs.Queues.{Send, Wait, Withdraws, Queue, queue_after, queue, senders, receivers, is_full, is_empty}
-use Rattle.ipc_policy.specs.Parking.{ParkedKind, Sending, Receiving, Parked, parks, parked_on, serves, is_longest, ends_call, ends_parked, parked}
+use Rattle.ipc_policy.specs.Semaphores.{Cancels, semaphore, semaphore_after, waiters, is_zero}
+use Rattle.ipc_policy.specs.Parking.{ParkedKind, Sending, Receiving, Waiting, Parked, parks, parked_on, serves, is_longest, ends_call, ends_parked, parked}
 use Rattle.ipc_policy.specs.Readings.{Each, Rising}
-use Rattle.ipc_policy.specs.Rules.{queue_named}
 use Rattle.ipc_policy.specs.Grow.{live_after, held_after, made_after, is_new}
 use Rattle.ipc_policy.specs.Verdict.{verdict, Legal}
 use Rattle.ipc_policy.specs.Laws.{IsParked}
@@ -35,11 +35,12 @@ use Rattle.ipc_policy.proofs.Growing.{live_grows}
 use Rattle.ipc_policy.proofs.Grown.{grows}
 use Rattle.ipc_policy.proofs.EachItem.{each_map}
 use Rattle.ipc_policy.proofs.Unforbidden.{caller_live}
-use Rattle.ipc_policy.proofs.ActsOf.{held_queue, queue_is_object}
+use Rattle.ipc_policy.proofs.ActsOf.{held_queue, queue_is_object, held_semaphore, semaphore_is_object}
+use Rattle.ipc_policy.proofs.Waits.{or_left}
 use Rattle.ipc_policy.proofs.ParkedPlaces.{parked_by_place}
 use Rattle.ipc_policy.proofs.CallsListed.{another_call, parked_cases, calls_listed}
 
--- what parks is a send or a receive of this session, by a description that it holds
+-- what parks is a send, a receive or a wait of this session, by a description that it holds
 pub record ParksBy (c : Config) (h : History) (e : Event) (s : ℕ) (p : Parked) : Type 0 where
   pub sid : Sid
   pub call : Call
@@ -57,9 +58,9 @@ on_object test kind place x p e = at (test x.object) e where
   at true k = let same : record { object = x.object; place = place; kind = kind } ≡ p = cc in ap (λ (y : Parked). y.object) same
   at false k = absurd cc
 
--- a call by a description that gives a queue, where the test says so of the queue
-parks_there : (c : Config) (h : History) (sid : Sid) (call : Call) (desc : Desc) (test : ℕ → Bool) (kind : ParkedKind) (s : ℕ) (p : Parked) → queue_named call ≡ Some desc → cond (eqb sid.0 s) (option_and_then (parked_on test kind (length h)) (holds h sid.0 desc.0)) None ≡ Some p → ParksBy c h (Do sid call) s p
-parks_there c h sid call desc test kind s p named k = mine (eqb sid.0 s) refl k where
+-- a call by a description, where the test says so of what it gives, and an accepted call is given an object
+parks_there : (c : Config) (h : History) (sid : Sid) (call : Call) (desc : Desc) (test : ℕ → Bool) (kind : ParkedKind) (s : ℕ) (p : Parked) → ((x : Held) → None ≡ verdict c h (Do sid call) → holds h sid.0 desc.0 ≡ Some x → is_some (object c h x.object) ≡ true) → cond (eqb sid.0 s) (option_and_then (parked_on test kind (length h)) (holds h sid.0 desc.0)) None ≡ Some p → ParksBy c h (Do sid call) s p
+parks_there c h sid call desc test kind s p there k = mine (eqb sid.0 s) refl k where
   given : sid.0 ≡ s → (y : Option Held) → holds h sid.0 desc.0 ≡ y → option_and_then (parked_on test kind (length h)) y ≡ Some p → ParksBy c h (Do sid call) s p
   given same None q j = absurd cc
   given same (Some x) q j =
@@ -73,7 +74,7 @@ parks_there c h sid call desc test kind s p named k = mine (eqb sid.0 s) refl k 
         session = same;
         held = subst (λ (n : ℕ). holds h n desc.0 ≡ Some x) same q;
         gives = on;
-        made = λ legal. subst (λ (n : ℕ). is_some (object c h n) ≡ true) on (queue_is_object c h x.object (held_queue c h sid call desc x legal named q));
+        made = λ legal. subst (λ (n : ℕ). is_some (object c h n) ≡ true) on (there x legal q);
       }
 
   mine : (b : Bool) → eqb sid.0 s ≡ b → cond b (option_and_then (parked_on test kind (length h)) (holds h sid.0 desc.0)) None ≡ Some p → ParksBy c h (Do sid call) s p
@@ -81,8 +82,9 @@ parks_there c h sid call desc test kind s p named k = mine (eqb sid.0 s) refl k 
   mine false q j = absurd cc
 
 pub parks_by_call : (c : Config) (h : History) (e : Event) (s : ℕ) (p : Parked) → parks c s e h ≡ Some p → ParksBy c h e s p
-parks_by_call c h (Do sid (MqSend desc priority bytes)) s p k = parks_there c h sid (MqSend desc priority bytes) desc (is_full c h) Sending s p refl k
-parks_by_call c h (Do sid (MqReceive desc length')) s p k = parks_there c h sid (MqReceive desc length') desc (is_empty c h) Receiving s p refl k
+parks_by_call c h (Do sid (MqSend desc priority bytes)) s p k = parks_there c h sid (MqSend desc priority bytes) desc (is_full c h) Sending s p (λ x legal q. queue_is_object c h x.object (held_queue c h sid (MqSend desc priority bytes) desc x legal refl q)) k
+parks_by_call c h (Do sid (MqReceive desc length')) s p k = parks_there c h sid (MqReceive desc length') desc (is_empty c h) Receiving s p (λ x legal q. queue_is_object c h x.object (held_queue c h sid (MqReceive desc length') desc x legal refl q)) k
+parks_by_call c h (Do sid (SemWait desc)) s p k = parks_there c h sid (SemWait desc) desc (is_zero c h) Waiting s p (λ x legal q. semaphore_is_object c h x.object (held_semaphore c h sid (SemWait desc) desc x legal refl q)) k
 parks_by_call c h (Do sid call) s p k = absurd cc
 parks_by_call c h (Hello found) s p k = absurd cc
 parks_by_call c h (Hangup sid) s p k = absurd cc
@@ -93,10 +95,6 @@ parks_live c h e s p legal k =
     let by = parks_by_call c h e s p k in
     let now : live h s ≡ true = subst (λ (n : ℕ). live h n ≡ true) by.session (caller_live c h by.sid by.call (sym (subst (λ (d : Event). None ≡ verdict c h d) by.event legal))) in
     subst (λ (d : Event). live_after s d (hellos h) (live h s) ≡ true) (sym by.event) now
-
-pub or_left : (a b : Bool) → (a || b) ≡ false → a ≡ false
-or_left true b e = absurd cc
-or_left false b e = refl
 
 or_true : (a b : Bool) → b ≡ true → (a || b) ≡ true
 or_true true b e = refl
@@ -130,6 +128,10 @@ held_on h d x (Do sid (MqOpen asked)) now keeps =
     let below : d < opens h = held_below h d (ap is_some now) in
     let other : eqb (opens h) d ≡ false = ne_eqb _ _ (λ (q : opens h ≡ d). absurd (omega arith)) in
     rw (other, now) refl
+held_on h d x (Do sid (SemOpen asked)) now keeps =
+    let below : d < opens h = held_below h d (ap is_some now) in
+    let other : eqb (opens h) d ≡ false = ne_eqb _ _ (λ (q : opens h ≡ d). absurd (omega arith)) in
+    rw (other, now) refl
 held_on h d x (Do sid call) now keeps = ap (kept (λ y. ends_held d y (Do sid call))) now ∙ kept_one (λ y. ends_held d y (Do sid call)) x keeps
 held_on h d x (Hello found) now keeps = ap (kept (λ y. ends_held d y (Hello found))) now ∙ kept_one (λ y. ends_held d y (Hello found)) x keeps
 held_on h d x (Hangup sid) now keeps = ap (kept (λ y. ends_held d y (Hangup sid))) now ∙ kept_one (λ y. ends_held d y (Hangup sid)) x keeps
@@ -142,6 +144,10 @@ holds_on h s d x e now keeps = ap (option_and_then (if_of s)) (held_grows h e d 
 not_closed : (c : Config) (h : History) (e : Event) (s d : ℕ) (x : Held) (p : Parked) → None ≡ verdict c h e → parked c h s ≡ Some p → ends_parked c s p e h ≡ false → x.session.0 ≡ s → ends_held d x e ≡ false
 not_closed c h (Do sid (MqClose desc)) s d x p legal k keeps mine =
     let other : eqb sid.0 s ≡ false = another_call c h sid (MqClose desc) s legal refl (ap is_some k) in
+    let other' : eqb sid.0 x.session.0 ≡ false = subst (λ (n : ℕ). eqb sid.0 n ≡ false) (sym mine) other in
+    rw other' refl
+not_closed c h (Do sid (SemClose desc)) s d x p legal k keeps mine =
+    let other : eqb sid.0 s ≡ false = another_call c h sid (SemClose desc) s legal refl (ap is_some k) in
     let other' : eqb sid.0 x.session.0 ≡ false = subst (λ (n : ℕ). eqb sid.0 n ≡ false) (sym mine) other in
     rw other' refl
 not_closed c h (Do sid call) s d x p legal k keeps mine = refl
@@ -158,6 +164,14 @@ made_on c h o (Do sid (MqOpen asked)) was there = at (is_new (queue_opening sid 
   at : (b : Bool) → is_some (cond b (option_or (option_map (made_by c (queue_opening sid asked)) (cred c h sid.0)) was) was) ≡ true
   at true = either (option_map (made_by c (queue_opening sid asked)) (cred c h sid.0)) was there
   at false = there
+made_on c h o (Do sid (SemOpen asked)) was there = at (is_new (semaphore_opening sid asked) (is_bound h) && eqb (creations h) o) where
+  either : (a b : Option Object) → is_some b ≡ true → is_some (option_or a b) ≡ true
+  either None b e = e
+  either (Some x) b e = refl
+
+  at : (b : Bool) → is_some (cond b (option_or (option_map (made_by c (semaphore_opening sid asked)) (cred c h sid.0)) was) was) ≡ true
+  at true = either (option_map (made_by c (semaphore_opening sid asked)) (cred c h sid.0)) was there
+  at false = there
 made_on c h o (Do sid call) was there = there
 made_on c h o (Hello found) was there = there
 made_on c h o (Hangup sid) was there = there
@@ -169,6 +183,7 @@ made_stays c h o e there = subst (λ (x : Option Object). is_some x ≡ true) (s
 
 not_a_close : (sid : Sid) (call : Call) (d : ℕ) (x : Held) (c : Config) (h : History) (s : ℕ) (p : Parked) → parks c s (Do sid call) h ≡ Some p → ends_held d x (Do sid call) ≡ false
 not_a_close sid (MqClose desc) d x c h s p k = absurd cc
+not_a_close sid (SemClose desc) d x c h s p k = absurd cc
 not_a_close sid call d x c h s p k = refl
 
 begins_parked : (c : Config) (h : History) (e : Event) (s : ℕ) (p : Parked) → None ≡ verdict c h e → parks c s e h ≡ Some p → IsParked c (record { event = e; rule = None } ∷ h) s p
@@ -234,6 +249,12 @@ dead_has_no_receivers c h legal o dead = at (receivers c h o) ((calls_listed c h
   at [] all = refl
   at (w ∷ ws) all = absurd (let lives = parked_alive c h legal w.session (record { object = o; place = w.place; kind = Receiving }) all.0 in let wrong : true ≡ false = sym lives ∙ dead in cc)
 
+pub dead_has_no_waiters : (c : Config) (h : History) → Legal c h → (o : ℕ) → alive h o ≡ false → waiters h o ≡ []
+dead_has_no_waiters c h legal o dead = at (waiters h o) ((calls_listed c h legal).each_wait o) where
+  at : (ws : List Wait) → Each (λ w. parked c h w.session ≡ Some (record { object = o; place = w.place; kind = Waiting })) ws → ws ≡ []
+  at [] all = refl
+  at (w ∷ ws) all = absurd (let lives = parked_alive c h legal w.session (record { object = o; place = w.place; kind = Waiting }) all.0 in let wrong : true ≡ false = sym lives ∙ dead in cc)
+
 -- no two items have the same number
 abbrev pub Different : {A : Type 0} → (A → ℕ) → List A → Type 0
 Different number [] = Unit {0}
@@ -262,6 +283,9 @@ senders_differ c h legal o = all_differ (λ (m : Send). m.place) (λ m. m.sessio
 pub receivers_differ : (c : Config) (h : History) → Legal c h → (o : ℕ) → Different (λ w. w.session) (receivers c h o)
 receivers_differ c h legal o = all_differ (λ (w : Wait). w.place) (λ w. w.session) (parked c h) (λ w. record { object = o; place = w.place; kind = Receiving }) (λ w. refl) 0 (receivers c h o) (length h) (parked_by_place c h o).receives_rise ((calls_listed c h legal).each_receive o)
 
+pub waiters_differ : (c : Config) (h : History) → Legal c h → (o : ℕ) → Different (λ w. w.session) (waiters h o)
+waiters_differ c h legal o = all_differ (λ (w : Wait). w.place) (λ w. w.session) (parked c h) (λ w. record { object = o; place = w.place; kind = Waiting }) (λ w. refl) 0 (waiters h o) (length h) (parked_by_place c h o).waits_rise ((calls_listed c h legal).each_wait o)
+
 -- and only in the lists of the object on which it is parked
 filter_others : {A : Type 0} (session : A → ℕ) (s : ℕ) (xs : List A) → Each (λ x. eqb (session x) s ≡ false) xs → filter (λ x. not (eqb (session x) s)) xs ≡ xs
 filter_others session s [] all = refl
@@ -283,3 +307,10 @@ withdrawn_elsewhere c h legal n s o away =
     filter_others (λ (w : Wait). w.session) s (receivers c h o) (each_map (λ (w : Wait). parked c h w.session ≡ Some (record { object = o; place = w.place; kind = Receiving })) (λ w. eqb w.session s ≡ false) (receivers c h o) (λ w k. not_on (parked c h) s w.session o (record { object = o; place = w.place; kind = Receiving }) k refl away) (known.each_receive o)) in
     ap (λ ms. record { contents = (queue c h o).contents; senders = ms; receivers = filter (λ (w : Wait). not (eqb w.session s)) (receivers c h o) }) sending
     ∙ ap (λ ws. record { contents = (queue c h o).contents; senders = senders c h o; receivers = ws }) receiving
+
+pub cancelled_elsewhere : (c : Config) (h : History) → Legal c h → (s o : ℕ) → there_is (λ x. eqb x.object o) (parked c h s) ≡ false → semaphore_after (Cancels s) (semaphore h o) ≡ semaphore h o
+cancelled_elsewhere c h legal s o away =
+    let known = calls_listed c h legal in
+    let waiting : filter (λ w. not (eqb w.session s)) (waiters h o) ≡ waiters h o =
+    filter_others (λ (w : Wait). w.session) s (waiters h o) (each_map (λ (w : Wait). parked c h w.session ≡ Some (record { object = o; place = w.place; kind = Waiting })) (λ w. eqb w.session s ≡ false) (waiters h o) (λ w k. not_on (parked c h) s w.session o (record { object = o; place = w.place; kind = Waiting }) k refl away) (known.each_wait o)) in
+    ap (λ ws. record { value = (semaphore h o).value; waiters = ws }) waiting

@@ -6,7 +6,7 @@ use Rattle.std.proofs.lemmas.Bool.{eqb-true, eqb-false, eq-eqb, ne_eqb}
 use Rattle.ipc_terms.specs.Lists.{first}
 use Rattle.ipc_terms.specs.declared.ids.Sid.{Sid}
 use Rattle.ipc_terms.specs.declared.ids.Desc.{Desc}
-use Rattle.ipc_terms.specs.declared.call.Call.TheVariants.{MqSend, MqReceive, Interrupt}
+use Rattle.ipc_terms.specs.declared.call.Call.TheVariants.{MqSend, MqReceive, SemPost, SemWait, SemTryWait, Interrupt}
 use Rattle.ipc_terms.specs.declared.record.Event.{Event}
 use Rattle.ipc_terms.specs.declared.record.Event.TheVariants.{Hello, Do, Hangup}
 use Rattle.ipc_policy.specs.declared.config.Config.{Config}
@@ -15,18 +15,19 @@ use Rattle.ipc_policy.specs.History.{History, kept, there_is}
 use Rattle.ipc_policy.specs.Descriptions.{holds}
 use Rattle.ipc_policy.specs.Life.{gives_object}
 use Rattle.ipc_policy.specs.Queues.{Send, Wait, Act, Sends, Receives, Withdraws, Rests, Queue, queue_after, maxmsg, queue, senders, receivers, is_full, is_empty}
-use Rattle.ipc_policy.specs.Parking.{ParkedKind, Sending, Receiving, Parked, stands_at, serves, is_longest, ends_call, parked, parked_on}
+use Rattle.ipc_policy.specs.Semaphores.{semaphore}
+use Rattle.ipc_policy.specs.Parking.{ParkedKind, Sending, Receiving, Waiting, Parked, stands_at, serves, is_longest, ends_call, parked, parked_on}
 use Rattle.ipc_policy.specs.Readings.{Each, Rising}
 use Rattle.ipc_policy.specs.Verdict.{Legal}
 use Rattle.ipc_policy.specs.Laws.{IsListed, place_listed}
 use Rattle.ipc_policy.proofs.ParkedPlaces.{parked_by_place}
 use Rattle.ipc_policy.proofs.CallsListed.{calls_listed}
 
-kept_same : {A : Type 0} (p : A → Bool) (w : Option A) → ((x : A) → w ≡ Some x → p x ≡ false) → kept p w ≡ w
+pub kept_same : {A : Type 0} (p : A → Bool) (w : Option A) → ((x : A) → w ≡ Some x → p x ≡ false) → kept p w ≡ w
 kept_same p None h = refl
 kept_same p (Some x) h = rw (h x refl) refl
 
-kept_if : {A : Type 0} (p : A → Bool) (w : Option A) (b : Bool) → ((x : A) → w ≡ Some x → p x ≡ b) → kept p w ≡ cond b None w
+pub kept_if : {A : Type 0} (p : A → Bool) (w : Option A) (b : Bool) → ((x : A) → w ≡ Some x → p x ≡ b) → kept p w ≡ cond b None w
 kept_if p None true h = refl
 kept_if p None false h = refl
 kept_if p (Some x) b h = ap (λ d. cond d None (Some x)) (h x refl)
@@ -37,6 +38,7 @@ rests_end s p q = at p.kind where
   at : (kind : ParkedKind) → ends_call s (record { object = p.object; place = p.place; kind = kind }) Rests q ≡ false
   at Sending = refl
   at Receiving = refl
+  at Waiting = refl
 
 -- a withdrawal ends the calls of its session
 pub withdrawal_ends : (s t : ℕ) (p : Parked) (q : Queue) → ends_call s p (Withdraws t) q ≡ eqb s t
@@ -46,9 +48,11 @@ withdrawal_ends s t p q = at p.kind (eqb s t) where
   at Sending false = refl
   at Receiving true = refl
   at Receiving false = refl
+  at Waiting true = refl
+  at Waiting false = refl
 
 -- the longest parked of a list is found by its session exactly where it is found by its place
-longest_is : {A : Type 0} (place session : A → ℕ) (f : ℕ → Option Parked) (call : A → Parked) → ((y : A) → (call y).place ≡ place y) → (s : ℕ) (p : Parked) → f s ≡ Some p → (xs : List A) (hi : ℕ) → Rising place 0 xs hi → Each (λ y. f (session y) ≡ Some (call y)) xs → option_map place (find (λ y. eqb (session y) s) xs) ≡ Some p.place → stands_at place p.place (first xs) ≡ there_is (λ y. eqb (session y) s) (first xs)
+pub longest_is : {A : Type 0} (place session : A → ℕ) (f : ℕ → Option Parked) (call : A → Parked) → ((y : A) → (call y).place ≡ place y) → (s : ℕ) (p : Parked) → f s ≡ Some p → (xs : List A) (hi : ℕ) → Rising place 0 xs hi → Each (λ y. f (session y) ≡ Some (call y)) xs → option_map place (find (λ y. eqb (session y) s) xs) ≡ Some p.place → stands_at place p.place (first xs) ≡ there_is (λ y. eqb (session y) s) (first xs)
 longest_is place session f call placed s p here [] hi r all listed = refl
 longest_is {A = A} place session f call placed s p here (x ∷ xs) hi r all listed = at (eqb (session x) s) refl listed where
   below : (lo : ℕ) (ys : List A) → place x < lo → Rising place lo ys hi → option_map place (find (λ y. eqb (session y) s) ys) ≡ Some p.place → place x < p.place
@@ -63,7 +67,7 @@ longest_is {A = A} place session f call placed s p here (x ∷ xs) hi r all list
   at false e k = ne_eqb _ _ (λ (q : place x ≡ p.place). let less = below (place x + 1) xs (omega arith) r.1 k in absurd (omega arith)) ∙ sym e
 
 -- the longest parked receive on an object is not of a session that is parked elsewhere or otherwise
-not_first : {A : Type 0} (session : A → ℕ) (f : ℕ → Option Parked) (call : A → Parked) (s : ℕ) (p : Parked) → f s ≡ Some p → (xs : List A) → Each (λ y. f (session y) ≡ Some (call y)) xs → ((y : A) → call y ≡ p → ⊥) → there_is (λ y. eqb (session y) s) (first xs) ≡ false
+pub not_first : {A : Type 0} (session : A → ℕ) (f : ℕ → Option Parked) (call : A → Parked) (s : ℕ) (p : Parked) → f s ≡ Some p → (xs : List A) → Each (λ y. f (session y) ≡ Some (call y)) xs → ((y : A) → call y ≡ p → ⊥) → there_is (λ y. eqb (session y) s) (first xs) ≡ false
 not_first session f call s p here [] all other = refl
 not_first session f call s p here (x ∷ xs) all other = ne_eqb _ _ (λ (e : session x ≡ s).
     let both : Some (call x) ≡ Some p = sym all.0 ∙ ap f e ∙ here in
@@ -81,10 +85,11 @@ send_ends c h o s m p legal k = at (eqb o p.object) refl where
 
   same_object : (kind : ParkedKind) → p.kind ≡ kind → o ≡ p.object → ends_call s (record { object = p.object; place = p.place; kind = kind }) (Sends m) (queue c h p.object) ≡ there_is (λ w. eqb w.session s) (first (receivers c h o))
   same_object Sending e on = sym (away (λ w q. let wrong : Receiving ≡ Sending = ap (λ (y : Parked). y.kind) q ∙ e in cc))
+  same_object Waiting e on = sym (away (λ w q. let wrong : Receiving ≡ Waiting = ap (λ (y : Parked). y.kind) q ∙ e in cc))
   same_object Receiving e on =
       subst (λ (n : ℕ). stands_at (λ (w : Wait). w.place) p.place (first (receivers c h p.object)) ≡ there_is (λ (w : Wait). eqb w.session s) (first (receivers c h n))) (sym on)
       (longest_is (λ (w : Wait). w.place) (λ w. w.session) (parked c h) (λ w. record { object = p.object; place = w.place; kind = Receiving }) (λ w. refl) s p k (receivers c h p.object) (length h) (parked_by_place c h p.object).receives_rise (known.each_receive p.object)
-      (subst (λ (z : ParkedKind). place_listed z s (queue c h p.object) ≡ Some p.place) e (known.each_parked s p k)))
+      (subst (λ (z : ParkedKind). place_listed z s (queue c h p.object) (semaphore h p.object) ≡ Some p.place) e (known.each_parked s p k)))
 
   at : (b : Bool) → eqb o p.object ≡ b → ends_call s p (cond b (Sends m) Rests) (queue c h p.object) ≡ there_is (λ w. eqb w.session s) (first (receivers c h o))
   at true e = same_object p.kind refl (eqb-true _ _ e)
@@ -101,16 +106,17 @@ receive_ends c h o s w p legal k = at (eqb o p.object) refl where
 
   same_object : (kind : ParkedKind) → p.kind ≡ kind → o ≡ p.object → ends_call s (record { object = p.object; place = p.place; kind = kind }) (Receives w) (queue c h p.object) ≡ there_is (λ m. eqb m.session s) (first (senders c h o))
   same_object Receiving e on = sym (away (λ m q. let wrong : Sending ≡ Receiving = ap (λ (y : Parked). y.kind) q ∙ e in cc))
+  same_object Waiting e on = sym (away (λ m q. let wrong : Sending ≡ Waiting = ap (λ (y : Parked). y.kind) q ∙ e in cc))
   same_object Sending e on =
       subst (λ (n : ℕ). stands_at (λ (m : Send). m.place) p.place (first (senders c h p.object)) ≡ there_is (λ (m : Send). eqb m.session s) (first (senders c h n))) (sym on)
       (longest_is (λ (m : Send). m.place) (λ m. m.session) (parked c h) (λ m. record { object = p.object; place = m.place; kind = Sending }) (λ m. refl) s p k (senders c h p.object) (length h) (parked_by_place c h p.object).sends_rise (known.each_send p.object)
-      (subst (λ (z : ParkedKind). place_listed z s (queue c h p.object) ≡ Some p.place) e (known.each_parked s p k)))
+      (subst (λ (z : ParkedKind). place_listed z s (queue c h p.object) (semaphore h p.object) ≡ Some p.place) e (known.each_parked s p k)))
 
   at : (b : Bool) → eqb o p.object ≡ b → ends_call s p (cond b (Receives w) Rests) (queue c h p.object) ≡ there_is (λ m. eqb m.session s) (first (senders c h o))
   at true e = same_object p.kind refl (eqb-true _ _ e)
   at false e = rests_end s p (queue c h p.object) ∙ sym (away (λ m q. eqb-false _ _ e (ap (λ (y : Parked). y.object) q)))
 
-or_here : (b f : Bool) (p : Parked) (w : Option Parked) → option_or (cond b (cond f (Some p) None) None) w ≡ cond (b && f) (Some p) w
+pub or_here : (b f : Bool) (p : Parked) (w : Option Parked) → option_or (cond b (cond f (Some p) None) None) w ≡ cond (b && f) (Some p) w
 or_here true true p w = refl
 or_here true false p w = refl
 or_here false f p w = refl
@@ -144,10 +150,13 @@ pub parked_by_hangup : (c : Config) (h : History) (sid : Sid) (s : ℕ) → park
 unfolding parked
 parked_by_hangup c h sid s = kept_if (λ p. ends_call s p (Withdraws sid.0) (queue c h p.object)) (parked c h s) (eqb s sid.0) (λ p is. withdrawal_ends s sid.0 p (queue c h p.object))
 
--- whether an event can change a queue or a parked call
+-- whether an event can change a queue, a semaphore that is made, or a parked call
 abbrev pub moves : Event → Bool
 moves (Do sid (MqSend desc priority bytes)) = true
 moves (Do sid (MqReceive desc length')) = true
+moves (Do sid (SemPost desc)) = true
+moves (Do sid (SemWait desc)) = true
+moves (Do sid (SemTryWait desc)) = true
 moves (Do sid Interrupt) = true
 moves (Hangup sid) = true
 moves _ = false
@@ -157,6 +166,9 @@ pub parked_by_others : (c : Config) (h : History) (e : Event) (s : ℕ) → move
 unfolding parked
 parked_by_others c h (Do sid (MqSend desc priority bytes)) s still = absurd cc
 parked_by_others c h (Do sid (MqReceive desc length')) s still = absurd cc
+parked_by_others c h (Do sid (SemPost desc)) s still = absurd cc
+parked_by_others c h (Do sid (SemWait desc)) s still = absurd cc
+parked_by_others c h (Do sid (SemTryWait desc)) s still = absurd cc
 parked_by_others c h (Do sid Interrupt) s still = absurd cc
 parked_by_others c h (Hangup sid) s still = absurd cc
 parked_by_others c h (Do sid call) s still = kept_same (λ p. ends_call s p Rests (queue c h p.object)) (parked c h s) (λ p is. rests_end s p (queue c h p.object))
@@ -166,6 +178,9 @@ pub queue_by_others : (c : Config) (h : History) (e : Event) (o : ℕ) → moves
 unfolding queue
 queue_by_others c h (Do sid (MqSend desc priority bytes)) o still = absurd cc
 queue_by_others c h (Do sid (MqReceive desc length')) o still = absurd cc
+queue_by_others c h (Do sid (SemPost desc)) o still = absurd cc
+queue_by_others c h (Do sid (SemWait desc)) o still = absurd cc
+queue_by_others c h (Do sid (SemTryWait desc)) o still = absurd cc
 queue_by_others c h (Do sid Interrupt) o still = absurd cc
 queue_by_others c h (Hangup sid) o still = absurd cc
 queue_by_others c h (Do sid call) o still = refl

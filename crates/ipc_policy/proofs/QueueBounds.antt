@@ -10,7 +10,8 @@ use Rattle.ipc_terms.specs.declared.rule.Rule.{Rule}
 use Rattle.ipc_terms.specs.declared.ids.Sid.{Sid}
 use Rattle.ipc_terms.specs.declared.call.Attributes.{Attributes}
 use Rattle.ipc_terms.specs.declared.call.QueueOpen.{QueueOpen}
-use Rattle.ipc_terms.specs.declared.call.Call.TheVariants.{MqOpen, MqReceive}
+use Rattle.ipc_terms.specs.declared.call.SemaphoreOpen.{SemaphoreOpen}
+use Rattle.ipc_terms.specs.declared.call.Call.TheVariants.{MqOpen, MqReceive, SemOpen}
 use Rattle.ipc_terms.specs.declared.record.Event.{Event}
 use Rattle.ipc_terms.specs.declared.record.Event.TheVariants.{Hello, Do, Hangup}
 use Rattle.ipc_access.specs.declared.class.Cred.{Cred}
@@ -18,7 +19,7 @@ use Rattle.ipc_policy.specs.declared.config.Config.{Config}
 use Rattle.ipc_terms.specs.declared.object.Object.{Object}
 use Rattle.ipc_policy.specs.History.{History, listed}
 use Rattle.ipc_policy.specs.Sessions.{cred}
-use Rattle.ipc_policy.specs.Names.{queue_opening, is_bound, creations}
+use Rattle.ipc_policy.specs.Names.{queue_opening, semaphore_opening, is_bound, creations}
 use Rattle.ipc_policy.specs.Objects.{object, made_by, attributes_of}
 use Rattle.ipc_policy.specs.Queues.{Send, Wait, Act, Sends, Receives, Withdraws, Rests, Queue, empty_queue, has_none, has_all, next, others, queue_after, act, queue, room, attributes, maxmsg}
 use Rattle.ipc_policy.specs.Rules.{out_of_range}
@@ -32,7 +33,7 @@ use Rattle.ipc_policy.proofs.Grown.{grows}
 use Rattle.ipc_policy.proofs.Creating.{not_created_empty, empty_after}
 use Rattle.ipc_policy.proofs.Unforbidden.{open_in_range}
 use Rattle.ipc_policy.proofs.ActsOf.{act_receives, held_queue}
-use Rattle.ipc_policy.proofs.ParkedSessions.{or_left}
+use Rattle.ipc_policy.proofs.Waits.{or_left}
 
 pub empty_bounded : (n : ℕ) → IsBounded n empty_queue
 empty_bounded n = record { within = omega arith; receivers_wait = λ e. refl; senders_wait = λ e. absurd cc }
@@ -129,6 +130,10 @@ new_room : (c : Config) (sid : Sid) (asked : QueueOpen) (who : Option Cred) (was
 new_room c sid asked None was most fits known = known
 new_room c sid asked (Some who) was most fits known = made_room c who asked.attributes most fits
 
+no_queue : (c : Config) (sid : Sid) (asked : SemaphoreOpen) (who : Option Cred) (was : Option Object) → HasRoom (as_queue was) → HasRoom (as_queue (option_or (option_map (made_by c (semaphore_opening sid asked)) who) was))
+no_queue c sid asked None was known = known
+no_queue c sid asked (Some who) was known = tt
+
 -- attributes out of range are refused
 opens_in_range : (c : Config) (h : History) (sid : Sid) (asked : QueueOpen) → None ≡ verdict c h (Do sid (MqOpen asked)) → is_new (queue_opening sid asked) (is_bound h) ≡ true → out_of_range c (cred c h sid.0) asked.attributes ≡ false
 opens_in_range c h sid asked legal new = ap (λ b. b && out_of_range c (cred c h sid.0) asked.attributes) (sym new) ∙ open_in_range c h sid asked (sym legal)
@@ -139,6 +144,10 @@ room_more c h o most known (Do sid (MqOpen asked)) legal = at (is_new (queue_ope
   at true e true = new_room c sid asked (cred c h sid.0) (object c h o) most (opens_in_range c h sid asked legal e) known
   at true e false = known
   at false e d = known
+room_more c h o most known (Do sid (SemOpen asked)) legal = at (is_new (semaphore_opening sid asked) (is_bound h) && eqb (creations h) o) where
+  at : (b : Bool) → HasRoom (as_queue (cond b (option_or (option_map (made_by c (semaphore_opening sid asked)) (cred c h sid.0)) (object c h o)) (object c h o)))
+  at true = no_queue c sid asked (cred c h sid.0) (object c h o) known
+  at false = known
 room_more c h o most known (Do sid call) legal = known
 room_more c h o most known (Hello found) legal = known
 room_more c h o most known (Hangup sid) legal = known
@@ -175,6 +184,11 @@ same_or_new : (c : Config) (h : History) (o : ℕ) (e : Event) (q : Queue) → I
 same_or_new c h o (Do sid (MqOpen asked)) q known new = at (is_new (queue_opening sid asked) (is_bound h)) (eqb (creations h) o) refl where
   at : (b d : Bool) → eqb (creations h) o ≡ d → IsBounded (room (as_queue (cond (b && d) (option_or (option_map (made_by c (queue_opening sid asked)) (cred c h sid.0)) (object c h o)) (object c h o)))) q
   at true true e = let same : creations h ≡ o = eqb-true _ _ e in subst (λ (z : Queue). IsBounded (room (as_queue (option_or (option_map (made_by c (queue_opening sid asked)) (cred c h sid.0)) (object c h o)))) z) (sym (new (omega arith))) (empty_bounded _)
+  at true false e = known
+  at false d e = known
+same_or_new c h o (Do sid (SemOpen asked)) q known new = at (is_new (semaphore_opening sid asked) (is_bound h)) (eqb (creations h) o) refl where
+  at : (b d : Bool) → eqb (creations h) o ≡ d → IsBounded (room (as_queue (cond (b && d) (option_or (option_map (made_by c (semaphore_opening sid asked)) (cred c h sid.0)) (object c h o)) (object c h o)))) q
+  at true true e = let same : creations h ≡ o = eqb-true _ _ e in subst (λ (z : Queue). IsBounded (room (as_queue (option_or (option_map (made_by c (semaphore_opening sid asked)) (cred c h sid.0)) (object c h o)))) z) (sym (new (omega arith))) (empty_bounded _)
   at true false e = known
   at false d e = known
 same_or_new c h o (Do sid call) q known new = known

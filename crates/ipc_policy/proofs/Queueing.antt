@@ -1,5 +1,7 @@
--- What one accepted event does to a queue, to a session's parked call, and to its answers.
-use Rattle.std.proofs.Common.{◌≡◌, ℕ, ◌++◌, ◌∷◌, [], length, cond, Some, None, refl, ap}
+-- What one accepted event does to a queue, to a semaphore, to a session's parked call, and to its answers.
+use Rattle.std.proofs.Common.{◌≡◌, ℕ, ◌++◌, ◌∷◌, [], length, cond, Option, Some, None, refl, sym, ap, ◌∙◌}
+use Rattle.std.specs.Option.{option_or}
+use Rattle.ipc_terms.specs.Objects.{value_asked}
 use Rattle.ipc_terms.specs.declared.rule.Rule.{Rule}
 use Rattle.ipc_terms.specs.declared.call.Answer.TheVariants.{Refused}
 use Rattle.ipc_terms.specs.declared.record.Event.{Event}
@@ -8,16 +10,33 @@ use Rattle.ipc_policy.specs.History.{History}
 use Rattle.ipc_policy.specs.Sessions.{hellos, live}
 use Rattle.ipc_policy.specs.Descriptions.{holds}
 use Rattle.ipc_policy.specs.Queues.{act_by, queue, queue_after, room, attributes, is_full, is_empty}
+use Rattle.ipc_policy.specs.Names.{is_bound, creations}
+use Rattle.ipc_policy.specs.Semaphores.{semaphore_act, semaphore_act_by, gives_value, with_first, semaphore_after, semaphore, is_zero}
 use Rattle.ipc_policy.specs.Parking.{parked}
-use Rattle.ipc_policy.specs.Grow.{live_after, parked_after}
+use Rattle.ipc_policy.specs.Grow.{live_after, first_value, parked_after}
 use Rattle.ipc_policy.specs.Verdict.{verdict, caller, answers, answers_at, for_session, outbox}
-use Rattle.ipc_policy.proofs.Growing.{live_grows}
+use Rattle.ipc_policy.proofs.Growing.{live_grows, made_grows}
 
 pub queue_grows : (c : Config) (h : History) (e : Event) (o : ℕ) → queue c (record { event = e; rule = None } ∷ h) o ≡ queue_after (room (attributes c h o)) (act_by (length h) (holds h) o e) (queue c h o)
 unfolding queue
 queue_grows c h e o = refl
 
-pub parked_grows : (c : Config) (h : History) (e : Event) (s : ℕ) → parked c (record { event = e; rule = None } ∷ h) s ≡ parked_after s e (length h) (holds h) (is_full c h) (is_empty c h) (queue c h) (parked c h s)
+or_nothing : {A : Type 0} (w : Option A) → option_or w None ≡ w
+or_nothing None = refl
+or_nothing (Some x) = refl
+
+pub first_value_is : (h : History) (e : Event) (o : ℕ) → gives_value o e h ≡ first_value o e (is_bound h) (creations h)
+first_value_is h e o = sym (or_nothing (gives_value o e h)) ∙ made_grows h e o (λ asked. value_asked asked.kind) None
+
+pub semaphore_grows : (h : History) (e : Event) (o : ℕ) → semaphore (record { event = e; rule = None } ∷ h) o ≡ with_first (first_value o e (is_bound h) (creations h)) (semaphore_after (semaphore_act_by (length h) (holds h) o e) (semaphore h o))
+unfolding semaphore
+semaphore_grows h e o = ap (λ v. with_first v (semaphore_after (semaphore_act o e h) (semaphore h o))) (first_value_is h e o)
+
+pub refused_semaphore : (h : History) (e : Event) (rule : Rule) (o : ℕ) → semaphore (record { event = e; rule = Some rule } ∷ h) o ≡ semaphore h o
+unfolding semaphore
+refused_semaphore h e rule o = refl
+
+pub parked_grows : (c : Config) (h : History) (e : Event) (s : ℕ) → parked c (record { event = e; rule = None } ∷ h) s ≡ parked_after s e (length h) (holds h) (is_full c h) (is_empty c h) (is_zero c h) (queue c h) (semaphore h) (parked c h s)
 unfolding parked
 parked_grows c h e s = refl
 

@@ -2,7 +2,7 @@
 use Rattle.std.proofs.Common.{◌≡◌, refl}
 use Rattle.ipc_terms.specs.declared.rule.Rule.{Rule}
 use Rattle.ipc_terms.specs.declared.ids.Target.TheVariants.{Dir, Name}
-use Rattle.ipc_terms.specs.declared.call.Call.TheVariants.{Umask, MqOpen, MqClose, MqSend, MqReceive, MqGetattr, MqSetattr, MqUnlink, ListNames, StatName, Interrupt}
+use Rattle.ipc_terms.specs.declared.call.Call.TheVariants.{Umask, MqOpen, MqClose, MqSend, MqReceive, MqGetattr, MqSetattr, MqUnlink, SemOpen, SemClose, SemUnlink, SemPost, SemWait, SemTryWait, SemGetvalue, ListNames, StatName, Interrupt}
 use Rattle.ipc_terms.specs.declared.record.Event.{Event}
 use Rattle.ipc_terms.specs.declared.record.Event.TheVariants.{Hello, Do, Hangup}
 use Rattle.ipc_policy.specs.declared.config.Config.{Config}
@@ -13,13 +13,14 @@ use Rattle.ipc_policy.specs.Objects.{object, owner, group, mode, facts, director
 use Rattle.ipc_policy.specs.Descriptions.{opens, held, holds, held_count, is_nonblock}
 use Rattle.ipc_policy.specs.Life.{named, bindings, names, alive}
 use Rattle.ipc_policy.specs.Queues.{queue}
+use Rattle.ipc_policy.specs.Semaphores.{semaphore}
 use Rattle.ipc_policy.specs.Parking.{parked}
-use Rattle.ipc_policy.specs.Rules.{forbids, no_session, in_call, not_in_call, name_form, name_long, bad_descr, not_for_write, not_for_read, dir_search, dir_read, absent, present, mode_denied, dir_write, sticky, attr_range, descr_limit, prio_range, message_long, buffer_short, would_block, bad_key}
+use Rattle.ipc_policy.specs.Rules.{forbids, no_session, in_call, not_in_call, name_form, name_long, bad_descr, not_for_write, not_for_read, dir_search, dir_read, absent, present, mode_denied, dir_write, sticky, attr_range, value_range, descr_limit, prio_range, message_long, buffer_short, would_block, overflow, bad_key}
 use Rattle.ipc_policy.specs.Verdict.{verdict}
 use Rattle.ipc_policy.specs.Laws.{SameValues}
 
 same_verdict : (c : Config) (h : History) (e' : Event) (rule : Rule) (e : Event) → verdict c (after_refused h e' rule) e ≡ verdict c h e
-unfolding user live cred is_bound creating creations bound object owner group mode facts directory_owner directory_group directory_mode directory opens held holds held_count is_nonblock queue parked verdict forbids no_session in_call not_in_call name_form name_long bad_descr not_for_write not_for_read dir_search dir_read absent present mode_denied dir_write sticky attr_range descr_limit prio_range message_long buffer_short would_block bad_key
+unfolding user live cred is_bound creating creations bound object owner group mode facts directory_owner directory_group directory_mode directory opens held holds held_count is_nonblock queue semaphore parked verdict forbids no_session in_call not_in_call name_form name_long bad_descr not_for_write not_for_read dir_search dir_read absent present mode_denied dir_write sticky attr_range value_range descr_limit prio_range message_long buffer_short would_block overflow bad_key
 same_verdict c h e' rule (Hello found) = refl
 same_verdict c h e' rule (Do sid (Umask mode')) = refl
 same_verdict c h e' rule (Do sid (MqOpen asked)) = refl
@@ -29,6 +30,13 @@ same_verdict c h e' rule (Do sid (MqReceive desc length')) = refl
 same_verdict c h e' rule (Do sid (MqGetattr desc)) = refl
 same_verdict c h e' rule (Do sid (MqSetattr desc nonblock)) = refl
 same_verdict c h e' rule (Do sid (MqUnlink name)) = refl
+same_verdict c h e' rule (Do sid (SemOpen asked)) = refl
+same_verdict c h e' rule (Do sid (SemClose desc)) = refl
+same_verdict c h e' rule (Do sid (SemUnlink name)) = refl
+same_verdict c h e' rule (Do sid (SemPost desc)) = refl
+same_verdict c h e' rule (Do sid (SemWait desc)) = refl
+same_verdict c h e' rule (Do sid (SemTryWait desc)) = refl
+same_verdict c h e' rule (Do sid (SemGetvalue desc)) = refl
 same_verdict c h e' rule (Do sid (ListNames family start count)) = refl
 same_verdict c h e' rule (Do sid (StatName (Dir family))) = refl
 same_verdict c h e' rule (Do sid (StatName (Name family name))) = refl
@@ -36,7 +44,7 @@ same_verdict c h e' rule (Do sid Interrupt) = refl
 same_verdict c h e' rule (Hangup sid) = refl
 
 pub same_values : (c : Config) (h : History) (e : Event) (rule : Rule) → SameValues c (after_refused h e rule) h
-unfolding hellos user live cred mask is_bound bound creations object owner group mode facts directory_owner directory_group directory_mode directory opens held holds held_count is_nonblock named bindings names alive queue parked
+unfolding hellos user live cred mask is_bound bound creations object owner group mode facts directory_owner directory_group directory_mode directory opens held holds held_count is_nonblock named bindings names alive queue semaphore parked
 same_values c h e rule = record {
   hellos = refl;
   user = λ s. refl;
@@ -62,6 +70,7 @@ same_values c h e rule = record {
   names = λ f. refl;
   alive = λ o. refl;
   queue = λ o. refl;
+  semaphore = λ o. refl;
   parked = λ s. refl;
   verdict = same_verdict c h e rule;
 }

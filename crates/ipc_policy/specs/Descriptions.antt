@@ -1,14 +1,14 @@
 -- Open descriptions.
 use Rattle.std.specs.Prelude.{Bool, false, ℕ, ◌&&◌, ◌==◌, List, Option, Some, None, is_some, if◌then◌else◌, unwrap_or, option_and_then}
 use Rattle.std.specs.Option.{option_or, option_map}
-use Rattle.ipc_terms.specs.Flags.{has_create, has_nonblock}
+use Rattle.ipc_terms.specs.Flags.{has_create}
 use Rattle.ipc_terms.specs.declared.ids.Family.{Family}
-use Rattle.ipc_terms.specs.declared.call.Call.TheVariants.{MqClose, MqSetattr}
+use Rattle.ipc_terms.specs.declared.call.Call.TheVariants.{MqClose, MqSetattr, SemClose}
 use Rattle.ipc_terms.specs.declared.record.Event.{Event}
 use Rattle.ipc_terms.specs.declared.record.Event.TheVariants.{Do, Hangup}
 use Rattle.ipc_policy.specs.declared.config.Held.{Held}
 use Rattle.ipc_policy.specs.History.{History, newest, unended_from, how_many, how_many_below}
-use Rattle.ipc_policy.specs.Names.{Opening, opening, bound, creations}
+use Rattle.ipc_policy.specs.Names.{Opening, opening, nonblock_asked, bound, creations}
 
 -- how many opens were accepted
 unfoldable pub opens : History → ℕ
@@ -37,6 +37,7 @@ gives d e before was = given_by (opening e) where
 -- it ends when its session closes it or hangs up
 abbrev pub ends_held : ℕ → Held → Event → Bool
 ends_held d held (Do sid (MqClose desc)) = (sid.0 == held.session.0) && (desc.0 == d)
+ends_held d held (Do sid (SemClose desc)) = (sid.0 == held.session.0) && (desc.0 == d)
 ends_held d held (Hangup sid) = sid.0 == held.session.0
 ends_held d held _ = false
 
@@ -62,7 +63,7 @@ sets_nonblock s d (Do sid (MqSetattr desc nonblock)) before = if (sid.0 == s) &&
 sets_nonblock s d e before = set_by (opening e) where
   set_by : Option Opening → Option Bool
   set_by None = None
-  set_by (Some asked) = if (asked.session.0 == s) && (opens before == d) then Some (has_nonblock asked.flags) else None
+  set_by (Some asked) = if (asked.session.0 == s) && (opens before == d) then Some (nonblock_asked asked.kind asked.flags) else None
 
 -- whether the calls of session s by description d are refused where they would wait
 unfoldable pub is_nonblock : History → ℕ → ℕ → Bool

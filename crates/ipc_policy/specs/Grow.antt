@@ -1,25 +1,28 @@
 -- What one accepted event does to each value, by the values before it alone.
 use Rattle.std.specs.Prelude.{◌≡◌, Bool, false, ℕ, ◌+◌, ◌-◌, ◌%◌, ◌&&◌, ◌||◌, ◌==◌, not, List, [], ◌∷◌, ◌++◌, length, filter, Option, Some, None, is_some, if◌then◌else◌}
 use Rattle.std.specs.Option.{option_or, option_map}
-use Rattle.ipc_terms.specs.Flags.{has_create, has_nonblock}
+use Rattle.ipc_terms.specs.Flags.{has_create}
 use Rattle.ipc_terms.specs.Names.{same_family, same_name}
+use Rattle.ipc_terms.specs.Objects.{value_asked}
 use Rattle.ipc_terms.specs.declared.binding.Binding.{Binding}
 use Rattle.ipc_terms.specs.declared.ids.Uid.{Uid}
 use Rattle.ipc_terms.specs.declared.ids.Family.{Family}
-use Rattle.ipc_terms.specs.declared.call.Call.TheVariants.{Umask, MqClose, MqSetattr}
+use Rattle.ipc_terms.specs.declared.call.Call.TheVariants.{Umask, MqClose, MqSetattr, SemClose}
 use Rattle.ipc_terms.specs.declared.record.Event.{Event}
 use Rattle.ipc_terms.specs.declared.record.Event.TheVariants.{Hello, Do, Hangup}
 use Rattle.ipc_policy.specs.declared.config.Config.{Config}
 use Rattle.ipc_policy.specs.declared.config.Held.{Held}
 use Rattle.ipc_policy.specs.History.{History, after_accepted, kept, any_below}
 use Rattle.ipc_policy.specs.Sessions.{hellos, user, live, cred, mask}
-use Rattle.ipc_policy.specs.Names.{Opening, Naming, opening, unlinking, unlinks, asks_name, is_bound, creations, bound}
+use Rattle.ipc_policy.specs.Names.{Opening, Naming, opening, nonblock_asked, unlinking, unlinks, asks_name, is_bound, creations, bound}
 use Rattle.ipc_policy.specs.Objects.{without_mask, object, owner, group, mode, facts, directory, made_by, first_facts}
 use Rattle.ipc_policy.specs.Descriptions.{opened_by, held_as, opens, held, holds, held_count, is_nonblock, ends_held}
 use Rattle.ipc_policy.specs.Life.{named, bindings, names, alive, gives_object}
 pub use Rattle.ipc_policy.specs.Queues.{act_by}
 use Rattle.ipc_policy.specs.Queues.{Queue, queue, queue_after, room, attributes, is_full, is_empty}
-use Rattle.ipc_policy.specs.Parking.{Parked, parks_by, ends_call, parked}
+pub use Rattle.ipc_policy.specs.Semaphores.{semaphore_act_by}
+use Rattle.ipc_policy.specs.Semaphores.{Semaphore, semaphore, semaphore_after, with_first, is_zero}
+use Rattle.ipc_policy.specs.Parking.{Parked, parks_by, is_posted, ends_call, parked}
 use Rattle.ipc_policy.specs.Verdict.{answers, for_session, outbox}
 
 abbrev pub hellos_after : Event → ℕ → ℕ
@@ -83,6 +86,7 @@ held_after d e opens bound creations was = by_open (opening e) where
 -- a close of what is held leaves one less, and a hang-up none
 abbrev pub held_count_left : ℕ → Event → (ℕ → ℕ → Option Held) → ℕ → ℕ
 held_count_left s (Do sid (MqClose desc)) holds was = if (sid.0 == s) && is_some (holds s desc.0) then was - 1 else was
+held_count_left s (Do sid (SemClose desc)) holds was = if (sid.0 == s) && is_some (holds s desc.0) then was - 1 else was
 held_count_left s (Hangup sid) holds was = if sid.0 == s then 0 else was
 held_count_left s _ holds was = was
 
@@ -97,7 +101,7 @@ nonblock_after s d (Do sid (MqSetattr desc nonblock)) opens was = if (sid.0 == s
 nonblock_after s d e opens was = by_open (opening e) where
   by_open : Option Opening → Bool
   by_open None = was
-  by_open (Some asked) = if (asked.session.0 == s) && (opens == d) then has_nonblock asked.flags else was
+  by_open (Some asked) = if (asked.session.0 == s) && (opens == d) then nonblock_asked asked.kind asked.flags else was
 
 abbrev pub named_after : ℕ → Event → (Family → List ℕ → Bool) → ℕ → Option Opening → Option Opening
 named_after o e is_bound creations was = by_open (opening e) where
@@ -129,10 +133,14 @@ names_after f e is_bound was = by_open (opening e) where
 abbrev pub alive_after : ℕ → Option Opening → (ℕ → Option Held) → ℕ → Bool
 alive_after o named held opens = is_some named || any_below (λ d. gives_object o (held d)) opens
 
+-- the first value, where the event creates object o and asks for a semaphore
+abbrev pub first_value : ℕ → Event → (Family → List ℕ → Bool) → ℕ → Option ℕ
+first_value o e is_bound creations = made_after o e is_bound creations (λ asked. value_asked asked.kind) None
+
 -- the call of session s that parks, or else the one that was parked, unless the event ends it
-abbrev pub parked_after : ℕ → Event → ℕ → (ℕ → ℕ → Option Held) → (ℕ → Bool) → (ℕ → Bool) → (ℕ → Queue) → Option Parked → Option Parked
-parked_after s e place holds full empty queue was =
-    option_or (parks_by place holds full empty s e) (kept (λ p. ends_call s p (act_by place holds p.object e) (queue p.object)) was)
+abbrev pub parked_after : ℕ → Event → ℕ → (ℕ → ℕ → Option Held) → (ℕ → Bool) → (ℕ → Bool) → (ℕ → Bool) → (ℕ → Queue) → (ℕ → Semaphore) → Option Parked → Option Parked
+parked_after s e place holds full empty zero queue semaphore was =
+    option_or (parks_by place holds full empty zero s e) (kept (λ p. is_posted (semaphore_act_by place holds p.object e) p.kind p.place (semaphore p.object) || ends_call s p (act_by place holds p.object e) (queue p.object)) was)
 
 -- each value after an accepted event, by the values before it
 pub record Grows (c : Config) (h k : History) (e : Event) : Type 0 where
@@ -154,7 +162,8 @@ pub record Grows (c : Config) (h k : History) (e : Event) : Type 0 where
   pub count_of : (s : ℕ) → held_count k s ≡ held_count_after s e (bound h) (creations h) (holds h) (held_count h s)
   pub nonblock_of : (s d : ℕ) → is_nonblock k s d ≡ nonblock_after s d e (opens h) (is_nonblock h s d)
   pub queue_of : (o : ℕ) → queue c k o ≡ queue_after (room (attributes c h o)) (act_by (length h) (holds h) o e) (queue c h o)
-  pub parked_in : (s : ℕ) → parked c k s ≡ parked_after s e (length h) (holds h) (is_full c h) (is_empty c h) (queue c h) (parked c h s)
+  pub semaphore_of : (o : ℕ) → semaphore k o ≡ with_first (first_value o e (is_bound h) (creations h)) (semaphore_after (semaphore_act_by (length h) (holds h) o e) (semaphore h o))
+  pub parked_in : (s : ℕ) → parked c k s ≡ parked_after s e (length h) (holds h) (is_full c h) (is_empty c h) (is_zero c h) (queue c h) (semaphore h) (parked c h s)
   pub named_by : (o : ℕ) → named k o ≡ named_after o e (is_bound h) (creations h) (named h o)
   pub bindings_of : (f : Family) → bindings k f ≡ bindings_after f e (is_bound h) (creations h) (bindings h f)
   pub names_of : (f : Family) → names k f ≡ names_after f e (is_bound h) (names h f)

@@ -1,8 +1,9 @@
 -- Laws that hold of every history, or of every legal one where they say so.
-use Rattle.std.specs.Prelude.{◌≡◌, ℕ, ◌≤◌, ◌==◌, true, false, length, IsTrue, List, [], ◌∷◌, ◌++◌, find, Option, Some, is_some, MatchOption, if◌then◌else◌}
+use Rattle.std.specs.Prelude.{◌≡◌, ℕ, ◌+◌, ◌≤◌, ◌==◌, true, false, length, IsTrue, List, [], ◌∷◌, ◌++◌, find, Option, Some, is_some, MatchOption, if◌then◌else◌}
 use Rattle.std.specs.Option.{option_map}
 use Rattle.ipc_terms.specs.Names.{same_name}
 use Rattle.ipc_terms.specs.Rules.{number_of}
+use Rattle.ipc_terms.specs.declared.object.TheConstants.{SEM_VALUE_MAX}
 use Rattle.ipc_terms.specs.declared.rule.Rule.{Rule}
 use Rattle.ipc_terms.specs.declared.ids.Family.{Family}
 use Rattle.ipc_terms.specs.declared.record.Event.{Event}
@@ -16,8 +17,9 @@ use Rattle.ipc_policy.specs.Objects.{object, owner, group, mode, facts, director
 use Rattle.ipc_policy.specs.Descriptions.{opens, held, holds, held_count, is_nonblock}
 use Rattle.ipc_policy.specs.Life.{named, bindings, names, alive}
 use Rattle.ipc_policy.specs.Queues.{Queue, has_none, queue, maxmsg, senders, receivers}
-use Rattle.ipc_policy.specs.Parking.{ParkedKind, Sending, Receiving, Parked, parked}
-use Rattle.ipc_policy.specs.Readings.{Each}
+use Rattle.ipc_policy.specs.Semaphores.{Semaphore, semaphore, value, waiters}
+use Rattle.ipc_policy.specs.Parking.{ParkedKind, Sending, Receiving, Waiting, Parked, parked}
+use Rattle.ipc_policy.specs.Readings.{Each, posts, passes, given_value}
 use Rattle.ipc_policy.specs.Rules.{forbids}
 use Rattle.ipc_policy.specs.Verdict.{verdict, caller, Legal, for_session, outbox}
 
@@ -58,6 +60,7 @@ pub record SameValues (c : Config) (h k : History) : Type 0 where
   pub names : (f : Family) → names h f ≡ names k f
   pub alive : (o : ℕ) → alive h o ≡ alive k o
   pub queue : (o : ℕ) → queue c h o ≡ queue c k o
+  pub semaphore : (o : ℕ) → semaphore h o ≡ semaphore k o
   pub parked : (s : ℕ) → parked c h s ≡ parked c k s
   pub verdict : (e : Event) → verdict c h e ≡ verdict c k e
 
@@ -87,16 +90,18 @@ BoundIsMade =
     IsTrue (is_some (object c h o)) × IsTrue (is_some (facts c h o))
 
 -- the place of the call of session s in the list of its kind
-abbrev pub place_listed : ParkedKind → ℕ → Queue → Option ℕ
-place_listed Sending s q = option_map (λ m. m.place) (find (λ m. m.session == s) q.senders)
-place_listed Receiving s q = option_map (λ w. w.place) (find (λ w. w.session == s) q.receivers)
+abbrev pub place_listed : ParkedKind → ℕ → Queue → Semaphore → Option ℕ
+place_listed Sending s q u = option_map (λ m. m.place) (find (λ m. m.session == s) q.senders)
+place_listed Receiving s q u = option_map (λ w. w.place) (find (λ w. w.session == s) q.receivers)
+place_listed Waiting s q u = option_map (λ w. w.place) (find (λ w. w.session == s) u.waiters)
 
 -- each call that an object lists is the one in which its session is parked, and the call in which a session is parked
 -- is listed by its object: so a session stands in at most one list, and there once, as the places in a list differ
 pub record IsListed (c : Config) (h : History) : Type 0 where
   pub each_send : (o : ℕ) → Each (λ m. parked c h m.session ≡ Some (record { object = o; place = m.place; kind = Sending })) (senders c h o)
   pub each_receive : (o : ℕ) → Each (λ w. parked c h w.session ≡ Some (record { object = o; place = w.place; kind = Receiving })) (receivers c h o)
-  pub each_parked : (s : ℕ) (p : Parked) → parked c h s ≡ Some p → place_listed p.kind s (queue c h p.object) ≡ Some p.place
+  pub each_wait : (o : ℕ) → Each (λ w. parked c h w.session ≡ Some (record { object = o; place = w.place; kind = Waiting })) (waiters h o)
+  pub each_parked : (s : ℕ) (p : Parked) → parked c h s ≡ Some p → place_listed p.kind s (queue c h p.object) (semaphore h p.object) ≡ Some p.place
 
 -- in a legal history a session is parked on an object exactly if the object lists its call
 abbrev pub ParkedIsListed : Type 0
@@ -111,6 +116,24 @@ pub record IsBounded (maxmsg : ℕ) (q : Queue) : Type 0 where
 -- in a legal history each queue is so, where the limits let a queue have a message at all
 abbrev pub EachIsBounded : Type 0
 EachIsBounded = (c : Config) (h : History) (o : ℕ) → 1 ≤ c.limits.msg_max → Legal c h → IsBounded (maxmsg c h o) (queue c h o)
+
+-- a semaphore's value is at most 2,147,483,647, and a wait is parked on it only while it is 0
+pub record IsInRange (q : Semaphore) : Type 0 where
+  pub within : q.value ≤ SEM_VALUE_MAX
+  pub waiters_wait : has_none q.waiters ≡ false → q.value ≡ 0
+
+-- in a legal history each semaphore is so
+abbrev pub EachIsInRange : Type 0
+EachIsInRange = (c : Config) (h : History) (o : ℕ) → Legal c h → IsInRange (semaphore h o)
+
+-- in a legal history a session is parked in a wait only while the semaphore is at 0
+abbrev pub WaitsAtZero : Type 0
+WaitsAtZero = (c : Config) (h : History) → Legal c h → (s : ℕ) (p : Parked) → parked c h s ≡ Some p → p.kind ≡ Waiting → value h p.object ≡ 0
+
+-- in a legal history the value is the first value and the posts, without the trywaits, the waits that did not park, and
+-- those that a post served
+abbrev pub EachValueIsCounted : Type 0
+EachValueIsCounted = (c : Config) (h : History) (o : ℕ) → Legal c h → value h o + passes h o ≡ given_value h o + posts h o
 
 -- a description that session s holds gives object o
 pub record HoldsFor (h : History) (s o : ℕ) : Type 0 where

@@ -5,6 +5,7 @@ pub mod Objects
 pub mod Descriptions
 pub mod Life
 pub mod Queues
+pub mod Semaphores
 pub mod Parking
 pub mod Rules
 pub mod Verdict

@@ -1,18 +1,20 @@
 -- Opens and unlinks, the names that they bind and unbind, and the objects that opens create.
 use Rattle.std.specs.Prelude.{Bool, true, false, ℕ, ◌&&◌, not, List, Option, Some, None, if◌then◌else◌, unwrap_or, is_some}
-use Rattle.ipc_terms.specs.Flags.{has_create}
+use Rattle.ipc_terms.specs.Flags.{has_create, has_nonblock}
 use Rattle.ipc_terms.specs.Names.{same_family, same_name}
 use Rattle.ipc_terms.specs.declared.ids.Sid.{Sid}
 use Rattle.ipc_terms.specs.declared.ids.Mode.{Mode}
 use Rattle.ipc_terms.specs.declared.ids.Family.{Family}
-use Rattle.ipc_terms.specs.declared.ids.Family.TheVariants.{Mq}
+use Rattle.ipc_terms.specs.declared.ids.Family.TheVariants.{Mq, Sem}
 use Rattle.ipc_terms.specs.declared.ids.Target.TheVariants.{Name}
 use Rattle.ipc_terms.specs.declared.flags.OpenFlags.{OpenFlags}
 use Rattle.ipc_terms.specs.declared.call.Access.{Access}
+use Rattle.ipc_terms.specs.declared.call.Access.TheVariants.{Both}
 use Rattle.ipc_terms.specs.declared.call.QueueOpen.{QueueOpen}
-use Rattle.ipc_terms.specs.declared.call.Call.TheVariants.{MqOpen, MqUnlink, StatName}
+use Rattle.ipc_terms.specs.declared.call.SemaphoreOpen.{SemaphoreOpen}
+use Rattle.ipc_terms.specs.declared.call.Call.TheVariants.{MqOpen, MqUnlink, SemOpen, SemUnlink, StatName}
 use Rattle.ipc_terms.specs.declared.object.Asked.{Asked}
-use Rattle.ipc_terms.specs.declared.object.Asked.TheVariants.{Queue}
+use Rattle.ipc_terms.specs.declared.object.Asked.TheVariants.{Queue, Semaphore}
 use Rattle.ipc_terms.specs.declared.record.Event.{Event}
 use Rattle.ipc_terms.specs.declared.record.Event.TheVariants.{Do}
 use Rattle.ipc_policy.specs.History.{History, newest, unended, how_many}
@@ -31,10 +33,20 @@ pub record Opening : Type 0 where
 abbrev pub queue_opening : Sid → QueueOpen → Opening
 queue_opening sid asked = record { session = sid; family = Mq; name = asked.name; flags = asked.flags; access = asked.access; mode = asked.mode; kind = Queue asked.attributes }
 
+-- what a semaphore's open asks for: a semaphore is always opened for reading and writing
+abbrev pub semaphore_opening : Sid → SemaphoreOpen → Opening
+semaphore_opening sid asked = record { session = sid; family = Sem; name = asked.name; flags = asked.flags; access = Both; mode = asked.mode; kind = Semaphore asked.value }
+
 -- the open that an event is, if it is one
 abbrev pub opening : Event → Option Opening
 opening (Do sid (MqOpen asked)) = Some (queue_opening sid asked)
+opening (Do sid (SemOpen asked)) = Some (semaphore_opening sid asked)
 opening _ = None
+
+-- NONBLOCK means something to an open of a queue alone
+abbrev pub nonblock_asked : Asked → OpenFlags → Bool
+nonblock_asked (Queue given) flags = has_nonblock flags
+nonblock_asked (Semaphore value) flags = false
 
 -- whose call it is, and the name of which family it names
 pub record Naming : Type 0 where
@@ -45,12 +57,15 @@ pub record Naming : Type 0 where
 -- what an unlink names, if the event is one
 abbrev pub unlinking : Event → Option Naming
 unlinking (Do sid (MqUnlink name)) = Some (record { session = sid; family = Mq; name = name })
+unlinking (Do sid (SemUnlink name)) = Some (record { session = sid; family = Sem; name = name })
 unlinking _ = None
 
 -- what a named call names, if the event is one: an open, an unlink, or a stat of a name
 abbrev pub naming : Event → Option Naming
 naming (Do sid (MqOpen asked)) = Some (record { session = sid; family = Mq; name = asked.name })
 naming (Do sid (MqUnlink name)) = Some (record { session = sid; family = Mq; name = name })
+naming (Do sid (SemOpen asked)) = Some (record { session = sid; family = Sem; name = asked.name })
+naming (Do sid (SemUnlink name)) = Some (record { session = sid; family = Sem; name = name })
 naming (Do sid (StatName (Name family name))) = Some (record { session = sid; family = family; name = name })
 naming _ = None
 

@@ -8,9 +8,9 @@ use Rattle.ipc_terms.specs.declared.ids.Family.{Family}
 use Rattle.ipc_terms.specs.declared.call.Attributes.{Attributes}
 use Rattle.ipc_terms.specs.declared.object.Object.{Object}
 use Rattle.ipc_terms.specs.declared.object.Kind.{Kind}
-use Rattle.ipc_terms.specs.declared.object.Kind.TheVariants.{Queue}
+use Rattle.ipc_terms.specs.declared.object.Kind.TheVariants.{Queue, Semaphore}
 use Rattle.ipc_terms.specs.declared.object.Asked.{Asked}
-use Rattle.ipc_terms.specs.declared.object.Asked.TheVariants.{Queue as AskedQueue}
+use Rattle.ipc_terms.specs.declared.object.Asked.TheVariants.{Queue as AskedQueue, Semaphore as AskedSemaphore}
 use Rattle.ipc_terms.specs.declared.record.Event.{Event}
 use Rattle.ipc_access.specs.declared.class.Cred.{Cred}
 use Rattle.ipc_policy.specs.declared.config.Config.{Config}
@@ -31,6 +31,7 @@ attributes_of c (Some given) = given
 -- what an open makes of what it asks
 abbrev pub kind_of : Config → Asked → Kind
 kind_of c (AskedQueue given) = Queue (attributes_of c given)
+kind_of c (AskedSemaphore value) = Semaphore value
 
 -- what an open fixes of the object that it creates: its creator, and what it is
 abbrev pub made_by : Config → Opening → Cred → Object

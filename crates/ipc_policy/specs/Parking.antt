@@ -1,20 +1,23 @@
--- Which call a session is parked in: a send to a full queue or a receive from an empty one, until another session's
--- call serves it, or its session interrupts it or hangs up.
+-- Which call a session is parked in: a send to a full queue, a receive from an empty one, or a wait for a semaphore at
+-- 0, until another session's call serves it, or its session interrupts it or hangs up.
 use Rattle.std.specs.Prelude.{Bool, true, false, ℕ, ◌&&◌, ◌||◌, ◌==◌, length, Option, Some, None, if◌then◌else◌, option_and_then}
 use Rattle.ipc_terms.specs.Lists.{first}
-use Rattle.ipc_terms.specs.declared.call.Call.TheVariants.{MqSend, MqReceive}
+use Rattle.ipc_terms.specs.declared.call.Call.TheVariants.{MqSend, MqReceive, SemWait}
 use Rattle.ipc_terms.specs.declared.record.Event.{Event}
 use Rattle.ipc_terms.specs.declared.record.Event.TheVariants.{Do}
 use Rattle.ipc_policy.specs.declared.config.Config.{Config}
 use Rattle.ipc_policy.specs.declared.config.Held.{Held}
 use Rattle.ipc_policy.specs.History.{History, unended, there_is}
 use Rattle.ipc_policy.specs.Descriptions.{holds}
+use Rattle.ipc_policy.specs.Semaphores.{SemaphoreAct, Posts, Semaphore, semaphore_act, semaphore, is_zero}
 use Rattle.ipc_policy.specs.Queues.{Act, Sends, Receives, Withdraws, Queue, act, queue, is_full, is_empty}
 
--- what a parked call waits for: a send for room in a full queue, a receive for a message in an empty one
+-- what a parked call waits for: a send for room in a full queue, a receive for a message in an empty one, a wait for a
+-- post
 pub data ParkedKind : Type 0 where
   Sending : ParkedKind
   Receiving : ParkedKind
+  Waiting : ParkedKind
 
 -- the call that a session is parked in: on which object, at which place of the history, and of which kind
 pub record Parked : Type 0 where
@@ -26,18 +29,20 @@ pub record Parked : Type 0 where
 abbrev pub parked_on : (ℕ → Bool) → ParkedKind → ℕ → Held → Option Parked
 parked_on test kind place x = if test x.object then Some (record { object = x.object; place = place; kind = kind }) else None
 
--- a send to a full queue parks, and a receive from an empty one; by the event's place, what each session holds, and
--- which objects are full and which empty
-abbrev pub parks_by : ℕ → (ℕ → ℕ → Option Held) → (ℕ → Bool) → (ℕ → Bool) → ℕ → Event → Option Parked
-parks_by place holds full empty s (Do sid (MqSend desc priority bytes)) =
+-- a send to a full queue parks, a receive from an empty one, and a wait at 0; by the event's place, what each session
+-- holds, and which objects are full, which empty, and which at 0
+abbrev pub parks_by : ℕ → (ℕ → ℕ → Option Held) → (ℕ → Bool) → (ℕ → Bool) → (ℕ → Bool) → ℕ → Event → Option Parked
+parks_by place holds full empty zero s (Do sid (MqSend desc priority bytes)) =
     if sid.0 == s then option_and_then (parked_on full Sending place) (holds sid.0 desc.0) else None
-parks_by place holds full empty s (Do sid (MqReceive desc length')) =
+parks_by place holds full empty zero s (Do sid (MqReceive desc length')) =
     if sid.0 == s then option_and_then (parked_on empty Receiving place) (holds sid.0 desc.0) else None
-parks_by place holds full empty s _ = None
+parks_by place holds full empty zero s (Do sid (SemWait desc)) =
+    if sid.0 == s then option_and_then (parked_on zero Waiting place) (holds sid.0 desc.0) else None
+parks_by place holds full empty zero s _ = None
 
 -- the call of session s that parks
 abbrev pub parks : Config → ℕ → Event → History → Option Parked
-parks c s e before = parks_by (length before) (holds before) (is_full c before) (is_empty c before) s e
+parks c s e before = parks_by (length before) (holds before) (is_full c before) (is_empty c before) (is_zero c before) s e
 
 -- there is one, and this is its place
 abbrev pub stands_at : {A : Type 0} → (A → ℕ) → ℕ → Option A → Bool
@@ -47,6 +52,7 @@ stands_at place i x = there_is (λ y. place y == i) x
 abbrev pub is_longest : ParkedKind → ℕ → Queue → Bool
 is_longest Sending i q = stands_at (λ m. m.place) i (first q.senders)
 is_longest Receiving i q = stands_at (λ w. w.place) i (first q.receivers)
+is_longest Waiting i q = false
 
 -- a receive serves sends, and a send serves receives
 abbrev pub serves : ParkedKind → Act → Bool
@@ -63,9 +69,16 @@ withdraws s _ = false
 abbrev pub ends_call : ℕ → Parked → Act → Queue → Bool
 ends_call s p a q = withdraws s a || (serves p.kind a && is_longest p.kind p.place q)
 
+-- a post ends the longest parked wait
+abbrev pub is_posted : SemaphoreAct → ParkedKind → ℕ → Semaphore → Bool
+is_posted Posts Waiting i q = stands_at (λ w. w.place) i (first q.waiters)
+is_posted _ _ _ _ = false
+
 -- what ends the parked call of session s
 abbrev pub ends_parked : Config → ℕ → Parked → Event → History → Bool
-ends_parked c s p e before = ends_call s p (act p.object e before) (queue c before p.object)
+ends_parked c s p e before =
+    is_posted (semaphore_act p.object e before) p.kind p.place (semaphore before p.object)
+    || ends_call s p (act p.object e before) (queue c before p.object)
 
 -- the call that session s is parked in
 unfoldable pub parked : Config → History → ℕ → Option Parked

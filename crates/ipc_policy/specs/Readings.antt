@@ -1,10 +1,12 @@
 -- Parked calls and contents, read place by place: which record parks a call and which ends it, at which record a
--- message enters and at which it is taken. What the lists of a queue are is stated here without `queue_after`.
-use Rattle.std.specs.Prelude.{◌≡◌, Bool, false, ℕ, ◌+◌, ◌<◌, ◌≤◌, ◌&&◌, ◌==◌, not, find, List, [], ◌∷◌, ◌++◌, length, Option, Some, None, is_some, unwrap_or, if◌then◌else◌, MatchOption}
+-- message enters and at which it is taken; and the value of a semaphore, by how many posts and waits there were. What
+-- the lists of a queue and a semaphore's are is stated here without `queue_after` and `semaphore_after`.
+use Rattle.std.specs.Prelude.{◌≡◌, Bool, true, false, ℕ, ◌+◌, ◌<◌, ◌≤◌, ◌&&◌, ◌==◌, not, find, List, [], ◌∷◌, ◌++◌, length, Option, Some, None, is_some, unwrap_or, if◌then◌else◌, MatchOption}
 use Rattle.ipc_terms.specs.Lists.{first}
 use Rattle.ipc_policy.specs.declared.config.Config.{Config}
-use Rattle.ipc_policy.specs.History.{History, newest, kept, unended}
+use Rattle.ipc_policy.specs.History.{History, newest, kept, unended, how_many}
 use Rattle.ipc_policy.specs.Queues.{Send, Wait, Act, Sends, Receives, Withdraws, Queue, has_all, has_none, next, act, queue, maxmsg, contents, senders, receivers}
+use Rattle.ipc_policy.specs.Semaphores.{SemaphoreAct, Posts, Waits, Tries, Cancels, Semaphore, semaphore_act, semaphore, waiters, gives_value}
 use Rattle.ipc_policy.specs.Parking.{stands_at}
 
 -- the send of place i to a full queue parks
@@ -28,6 +30,17 @@ abbrev pub ends_receive : Wait → Act → Queue → Bool
 ends_receive w (Withdraws s) q = w.session == s
 ends_receive w (Sends m) q = stands_at (λ n. n.place) w.place (first q.receivers)
 ends_receive w _ q = false
+
+-- the wait of place i at 0 parks
+abbrev pub parks_wait : ℕ → SemaphoreAct → Semaphore → Option Wait
+parks_wait i (Waits w) q = if (q.value == 0) && (w.place == i) then Some w else None
+parks_wait i _ q = None
+
+-- an interrupt or a hang-up of its session ends a parked wait, and so does a post, if it is the longest parked
+abbrev pub ends_wait : Wait → SemaphoreAct → Semaphore → Bool
+ends_wait w (Cancels s) q = w.session == s
+ends_wait w Posts q = stands_at (λ n. n.place) w.place (first q.waiters)
+ends_wait w _ q = false
 
 -- the send, if it was made at place i
 abbrev pub entering : ℕ → Option Send → Option Send
@@ -63,8 +76,10 @@ Rising place lo (x ∷ xs) hi = (lo ≤ place x) × Rising place (place x + 1) x
 pub record ParkedByPlace (c : Config) (h : History) (o : ℕ) : Type 0 where
   pub sends : (i : ℕ) → of_place (λ m. m.place) i (senders c h o) ≡ unended (λ e before. parks_send (maxmsg c before o) i (act o e before) (queue c before o)) (λ m e before. ends_send m (act o e before) (queue c before o)) h
   pub receives : (i : ℕ) → of_place (λ w. w.place) i (receivers c h o) ≡ unended (λ e before. parks_receive i (act o e before) (queue c before o)) (λ w e before. ends_receive w (act o e before) (queue c before o)) h
+  pub waits : (i : ℕ) → of_place (λ w. w.place) i (waiters h o) ≡ unended (λ e before. parks_wait i (semaphore_act o e before) (semaphore before o)) (λ w e before. ends_wait w (semaphore_act o e before) (semaphore before o)) h
   pub sends_rise : Rising (λ m. m.place) 0 (senders c h o) (length h)
   pub receives_rise : Rising (λ w. w.place) 0 (receivers c h o) (length h)
+  pub waits_rise : Rising (λ w. w.place) 0 (waiters h o) (length h)
 
 -- so in every history, for every object
 abbrev pub EachParkedByPlace : Type 0
@@ -82,6 +97,30 @@ entered c h o i = unwrap_or (newest (λ e before. if is_some (enters (maxmsg c b
 -- the contents stand in the order in which they entered, and no two entered at one record
 abbrev pub EachInsideInOrder : Type 0
 EachInsideInOrder = (c : Config) (h : History) (o : ℕ) → Rising (λ m. entered c h o m.place) 0 (contents c h o) (length h)
+
+-- a post to semaphore o
+abbrev pub is_post : SemaphoreAct → Bool
+is_post Posts = true
+is_post _ = false
+
+-- a trywait, a wait that does not park, or a post that serves a parked wait: by each of them one call gets what it wants
+abbrev pub is_pass : SemaphoreAct → Semaphore → Bool
+is_pass Tries q = true
+is_pass (Waits w) q = not (q.value == 0)
+is_pass Posts q = not (has_none q.waiters)
+is_pass _ q = false
+
+-- how many posts to semaphore o were accepted
+abbrev pub posts : History → ℕ → ℕ
+posts h o = how_many (λ e before. is_post (semaphore_act o e before)) h
+
+-- how many calls got what they want of semaphore o
+abbrev pub passes : History → ℕ → ℕ
+passes h o = how_many (λ e before. is_pass (semaphore_act o e before) (semaphore before o)) h
+
+-- the value that the creation of semaphore o gave it
+abbrev pub given_value : History → ℕ → ℕ
+given_value h o = unwrap_or (newest (gives_value o) h) 0
 
 -- it holds of each item
 abbrev pub Each : {A : Type 0} → (A → Type 0) → List A → Type 0

@@ -2,27 +2,28 @@
 -- where there is one, but for the rules 8 and 31.
 use Rattle.std.specs.Prelude.{Bool, true, false, ℕ, ◌&&◌, ◌||◌, ◌==◌, not, nat_lt, nat_le, length, Option, Some, None, is_some, is_none, if◌then◌else◌, option_and_then}
 use Rattle.ipc_terms.specs.Flags.{has_create, has_exclusive}
-use Rattle.ipc_terms.specs.Objects.{family_of, as_queue, attributes_asked}
+use Rattle.ipc_terms.specs.Objects.{family_of, as_queue, attributes_asked, value_asked}
 use Rattle.ipc_terms.specs.Names.{same_family, has_name_form, is_long_name}
 use Rattle.ipc_terms.specs.declared.rule.Rule.{Rule}
-use Rattle.ipc_terms.specs.declared.rule.Rule.TheVariants.{NoSession, InCall, NotInCall, NameForm, NameLong, BadDescr, NotForWrite, NotForRead, DirSearch, DirRead, Absent, Present, ModeDenied, DirWrite, Sticky, AttrRange, DescrLimit, PrioRange, MessageLong, BufferShort, WouldBlock, BadKey}
-use Rattle.ipc_terms.specs.declared.ids.Desc.{Desc}
+use Rattle.ipc_terms.specs.declared.rule.Rule.TheVariants.{NoSession, InCall, NotInCall, NameForm, NameLong, BadDescr, NotForWrite, NotForRead, DirSearch, DirRead, Absent, Present, ModeDenied, DirWrite, Sticky, AttrRange, ValueRange, DescrLimit, PrioRange, MessageLong, BufferShort, WouldBlock, Overflow, BadKey}
 use Rattle.ipc_terms.specs.declared.ids.Family.{Family}
-use Rattle.ipc_terms.specs.declared.ids.Family.TheVariants.{Mq}
+use Rattle.ipc_terms.specs.declared.ids.Family.TheVariants.{Mq, Sem}
 use Rattle.ipc_terms.specs.declared.call.Access.{Access}
 use Rattle.ipc_terms.specs.declared.call.Access.TheVariants.{Read, Write, Both}
 use Rattle.ipc_terms.specs.declared.call.Attributes.{Attributes}
 use Rattle.ipc_terms.specs.declared.call.Call.{Call}
-use Rattle.ipc_terms.specs.declared.call.Call.TheVariants.{MqClose, MqSend, MqReceive, MqGetattr, MqSetattr, ListNames, Interrupt}
+use Rattle.ipc_terms.specs.declared.call.Call.TheVariants.{MqClose, MqSend, MqReceive, MqGetattr, MqSetattr, SemClose, SemPost, SemWait, SemTryWait, SemGetvalue, ListNames, Interrupt}
 use Rattle.ipc_terms.specs.declared.record.Event.{Event}
 use Rattle.ipc_terms.specs.declared.record.Event.TheVariants.{Hello, Do, Hangup}
 use Rattle.ipc_access.specs.declared.class.Cred.{Cred}
 use Rattle.ipc_access.specs.Class.{granted}
 use Rattle.ipc_access.specs.Sticky.{lets_remove}
 use Rattle.ipc_access.specs.Users.{cred_of}
+pub use Rattle.ipc_policy.specs.declared.asking.Described.{Described}
 use Rattle.ipc_policy.specs.declared.config.Config.{Config}
 use Rattle.ipc_terms.specs.declared.facts.Facts.{Facts}
 use Rattle.ipc_terms.specs.declared.object.Object.{Object}
+use Rattle.ipc_terms.specs.declared.object.TheConstants.{SEM_VALUE_MAX}
 use Rattle.ipc_policy.specs.declared.config.TheConstants.{DESCRIPTIONS_MAX, MQ_PRIO_MAX, HARD_MSG_MAX, HARD_MSGSIZE_MAX}
 use Rattle.ipc_policy.specs.History.{History}
 pub use Rattle.ipc_policy.specs.History.{there_is}
@@ -31,6 +32,7 @@ use Rattle.ipc_policy.specs.Names.{opening, unlinking, naming, is_bound, creatin
 use Rattle.ipc_policy.specs.Objects.{object, facts, directory}
 use Rattle.ipc_policy.specs.Descriptions.{holds, held_count, is_nonblock}
 pub use Rattle.ipc_policy.specs.Queues.{is_full, is_empty}
+pub use Rattle.ipc_policy.specs.Semaphores.{is_zero, is_greatest}
 use Rattle.ipc_policy.specs.Parking.{parked}
 
 -- there is a user, and what has these facts does not grant it what is wanted: read is 4, write 2, search 1
@@ -79,14 +81,19 @@ attributes_held c h s d = as_queue (object_held c h s d)
 abbrev pub not_held : Config → History → ℕ → Family → ℕ → Bool
 not_held c h s family d = not (is_of_family family (object_held c h s d))
 
--- the queue's description that a call names, if it names one
-abbrev pub queue_named : Call → Option Desc
-queue_named (MqClose desc) = Some desc
-queue_named (MqSend desc priority bytes) = Some desc
-queue_named (MqReceive desc length') = Some desc
-queue_named (MqGetattr desc) = Some desc
-queue_named (MqSetattr desc nonblock) = Some desc
-queue_named _ = None
+-- the description that a call names, if it names one
+abbrev pub described : Call → Option Described
+described (MqClose desc) = Some (record { family = Mq; desc = desc })
+described (MqSend desc priority bytes) = Some (record { family = Mq; desc = desc })
+described (MqReceive desc length') = Some (record { family = Mq; desc = desc })
+described (MqGetattr desc) = Some (record { family = Mq; desc = desc })
+described (MqSetattr desc nonblock) = Some (record { family = Mq; desc = desc })
+described (SemClose desc) = Some (record { family = Sem; desc = desc })
+described (SemPost desc) = Some (record { family = Sem; desc = desc })
+described (SemWait desc) = Some (record { family = Sem; desc = desc })
+described (SemTryWait desc) = Some (record { family = Sem; desc = desc })
+described (SemGetvalue desc) = Some (record { family = Sem; desc = desc })
+described _ = None
 
 -- the access does not let send
 abbrev pub reads_only : Access → Bool
@@ -127,9 +134,9 @@ name_form c h e = there_is (λ what. not (has_name_form what.name)) (naming e)
 unfoldable pub name_long : Config → History → Event → Bool
 name_long c h e = there_is (λ what. is_long_name what.family what.name) (naming e)
 
--- 8: a call that names a queue's description, and the session does not hold it, or it gives an object of the other family
+-- 8: a call that names a description, and the session does not hold it, or it gives an object of the other family
 unfoldable pub bad_descr : Config → History → Event → Bool
-bad_descr c h (Do sid call) = there_is (λ desc. not_held c h sid.0 Mq desc.0) (queue_named call)
+bad_descr c h (Do sid call) = there_is (λ named. not_held c h sid.0 named.family named.desc.0) (described call)
 bad_descr c h _ = false
 
 -- 9: a send by a description that was opened for reading alone
@@ -181,6 +188,10 @@ sticky c h e = there_is (λ what. removal_denied (cred c h what.session.0) (dire
 unfoldable pub attr_range : Config → History → Event → Bool
 attr_range c h e = there_is (λ asked. creating h asked && out_of_range c (cred c h asked.session.0) (attributes_asked asked.kind)) (opening e)
 
+-- 21: a creating open of a semaphore with a first value above 2,147,483,647
+unfoldable pub value_range : Config → History → Event → Bool
+value_range c h e = there_is (λ asked. creating h asked && there_is (nat_lt SEM_VALUE_MAX) (value_asked asked.kind)) (opening e)
+
 -- 24: an open while the session holds 1,024 descriptions
 unfoldable pub descr_limit : Config → History → Event → Bool
 descr_limit c h e = there_is (λ asked. nat_le DESCRIPTIONS_MAX (held_count h asked.session.0)) (opening e)
@@ -200,11 +211,17 @@ unfoldable pub buffer_short : Config → History → Event → Bool
 buffer_short c h (Do sid (MqReceive desc length')) = there_is (λ x. nat_lt length' x.msgsize) (attributes_held c h sid.0 desc.0)
 buffer_short c h _ = false
 
--- 29: a send to a full queue, or a receive from an empty one, by a description with NONBLOCK
+-- 29: a send to a full queue, or a receive from an empty one, by a description with NONBLOCK; a trywait at 0
 unfoldable pub would_block : Config → History → Event → Bool
 would_block c h (Do sid (MqSend desc priority bytes)) = is_nonblock h sid.0 desc.0 && there_is (λ x. is_full c h x.object) (holds h sid.0 desc.0)
 would_block c h (Do sid (MqReceive desc length')) = is_nonblock h sid.0 desc.0 && there_is (λ x. is_empty c h x.object) (holds h sid.0 desc.0)
+would_block c h (Do sid (SemTryWait desc)) = there_is (λ x. is_zero c h x.object) (holds h sid.0 desc.0)
 would_block c h _ = false
+
+-- 30: a post at 2,147,483,647
+unfoldable pub overflow : Config → History → Event → Bool
+overflow c h (Do sid (SemPost desc)) = there_is (λ x. is_greatest c h x.object) (holds h sid.0 desc.0)
+overflow c h _ = false
 
 -- 31: a hello for no user of the file
 unfoldable pub bad_key : Config → History → Event → Bool
@@ -229,10 +246,12 @@ forbids ModeDenied = mode_denied
 forbids DirWrite = dir_write
 forbids Sticky = sticky
 forbids AttrRange = attr_range
+forbids ValueRange = value_range
 forbids DescrLimit = descr_limit
 forbids PrioRange = prio_range
 forbids MessageLong = message_long
 forbids BufferShort = buffer_short
 forbids WouldBlock = would_block
+forbids Overflow = overflow
 forbids BadKey = bad_key
 forbids _ = λ c h e. false

@@ -10,8 +10,8 @@ use Rattle.ipc_terms.specs.declared.ids.Target.{Target}
 use Rattle.ipc_terms.specs.declared.ids.Target.TheVariants.{Dir, Name}
 use Rattle.ipc_terms.specs.declared.facts.Facts.{Facts}
 use Rattle.ipc_terms.specs.declared.call.Answer.{Answer}
-use Rattle.ipc_terms.specs.declared.call.Answer.TheVariants.{Started, Done, Opened, Mask, Sent, Received, Attrs, Names, Stat, Refused, Interrupted}
-use Rattle.ipc_terms.specs.declared.call.Call.TheVariants.{Umask, MqOpen, MqClose, MqSend, MqReceive, MqGetattr, MqSetattr, MqUnlink, ListNames, StatName, Interrupt}
+use Rattle.ipc_terms.specs.declared.call.Answer.TheVariants.{Started, Done, Opened, Mask, Sent, Received, Attrs, Value, Names, Stat, Refused, Interrupted}
+use Rattle.ipc_terms.specs.declared.call.Call.TheVariants.{Umask, MqOpen, MqClose, MqSend, MqReceive, MqGetattr, MqSetattr, MqUnlink, SemOpen, SemClose, SemUnlink, SemPost, SemWait, SemTryWait, SemGetvalue, ListNames, StatName, Interrupt}
 use Rattle.ipc_terms.specs.declared.record.Event.{Event}
 use Rattle.ipc_terms.specs.declared.record.Event.TheVariants.{Hello, Do, Hangup}
 use Rattle.ipc_policy.specs.declared.config.Config.{Config}
@@ -23,6 +23,7 @@ use Rattle.ipc_terms.specs.declared.call.Attributes.{Attributes}
 use Rattle.ipc_policy.specs.Objects.{facts, directory}
 use Rattle.ipc_policy.specs.Descriptions.{opens, holds, is_nonblock}
 use Rattle.ipc_policy.specs.Queues.{Send, Wait, attributes, next, contents, senders, receivers, is_full}
+use Rattle.ipc_policy.specs.Semaphores.{value, waiters, is_zero}
 use Rattle.ipc_policy.specs.Life.{names}
 use Rattle.ipc_policy.specs.Rules.{forbids}
 
@@ -80,6 +81,23 @@ attributes_told c h sid d = by_held (holds h sid.0 d) where
   by_held None = []
   by_held (Some x) = by_queue x.object (attributes c h x.object)
 
+-- a session whose wait was parked is told that it is over, where there is one
+abbrev pub let_through : Option Wait → List (Sid × Answer)
+let_through None = []
+let_through (Some w) = (record { 0 = w.session }, Done) ∷ []
+
+-- a post is answered, and then the longest parked wait
+abbrev pub post_answers : History → Sid → ℕ → List (Sid × Answer)
+post_answers h sid o = (sid, Done) ∷ let_through (first (waiters h o))
+
+-- a wait that parks is not answered yet
+abbrev pub wait_answers : Config → History → Sid → ℕ → List (Sid × Answer)
+wait_answers c h sid o = if is_zero c h o then [] else (sid, Done) ∷ []
+
+-- a session is told the value of a semaphore
+abbrev pub value_told : History → Sid → ℕ → List (Sid × Answer)
+value_told h sid o = (sid, Value (value h o)) ∷ []
+
 -- to whom an accepted event is answered, and what
 abbrev pub accepted_answers : Config → History → Event → List (Sid × Answer)
 accepted_answers c h (Hello found) = (record { 0 = hellos h }, Started (record { 0 = hellos h })) ∷ []
@@ -91,6 +109,13 @@ accepted_answers c h (Do sid (MqReceive desc length')) = answers_of (holds h sid
 accepted_answers c h (Do sid (MqGetattr desc)) = attributes_told c h sid desc.0
 accepted_answers c h (Do sid (MqSetattr desc nonblock)) = attributes_told c h sid desc.0
 accepted_answers c h (Do sid (MqUnlink name)) = (sid, Done) ∷ []
+accepted_answers c h (Do sid (SemOpen asked)) = (sid, Opened (record { 0 = opens h })) ∷ []
+accepted_answers c h (Do sid (SemClose desc)) = (sid, Done) ∷ []
+accepted_answers c h (Do sid (SemUnlink name)) = (sid, Done) ∷ []
+accepted_answers c h (Do sid (SemPost desc)) = answers_of (holds h sid.0 desc.0) (post_answers h sid)
+accepted_answers c h (Do sid (SemWait desc)) = answers_of (holds h sid.0 desc.0) (wait_answers c h sid)
+accepted_answers c h (Do sid (SemTryWait desc)) = (sid, Done) ∷ []
+accepted_answers c h (Do sid (SemGetvalue desc)) = answers_of (holds h sid.0 desc.0) (value_told h sid)
 accepted_answers c h (Do sid (ListNames family start count)) = (sid, Names (page start count (names h family))) ∷ []
 accepted_answers c h (Do sid (StatName target)) = told sid (facts_meant c h target)
 accepted_answers c h (Do sid Interrupt) = (sid, Interrupted) ∷ (sid, Done) ∷ []

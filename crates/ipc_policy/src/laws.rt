@@ -1,7 +1,7 @@
-//! Laws of the policy, over every history; `bound`, `parked_listed`, `parked_alive` and `bounded` are
-//! over the legal ones. These functions do nothing: what they ensure is what is proved.
+//! Laws of the policy, over every history; `bound`, `parked_listed`, `parked_alive`, `bounded`, `in_range` and
+//! `counted` are over the legal ones. These functions do nothing: what they ensure is what is proved.
 
-ghost use Rattle.ipc_policy.specs.Laws.{VerdictIsLeast, RefusedIsQuiet, RefusedIsAnswered, ListedIsBound, BoundIsMade, ParkedIsListed, ParkedIsAlive, EachIsBounded};
+ghost use Rattle.ipc_policy.specs.Laws.{VerdictIsLeast, RefusedIsQuiet, RefusedIsAnswered, ListedIsBound, BoundIsMade, ParkedIsListed, ParkedIsAlive, EachIsBounded, EachIsInRange, WaitsAtZero, EachValueIsCounted};
 ghost use Rattle.ipc_policy.specs.Grow.{AcceptedGrows};
 ghost use Rattle.ipc_policy.specs.Readings.{EachParkedByPlace, EachInsideByPlace, EachInsideInOrder, EachNextIsGreatest};
 
@@ -63,4 +63,17 @@ pub fn parked_alive()
 /// 1 or more, as in each configuration that is in range.
 pub fn bounded()
     ensures { EachIsBounded }
+{}
+
+/// In a legal history a semaphore's value is at most 2,147,483,647, and a session is parked on it only while the value
+/// is 0.
+pub fn in_range()
+    ensures range { EachIsInRange }
+    ensures waits { WaitsAtZero }
+{}
+
+/// In a legal history a semaphore's value is its first value and the accepted posts, without the accepted trywaits and
+/// the accepted waits that did not park or that a post served.
+pub fn counted()
+    ensures { EachValueIsCounted }
 {}

@@ -2,15 +2,17 @@
 //! stands in `specs/`; the laws hold of every history, some of every legal one.
 #![tactic(auto)]
 
+mod asking;
 mod config;
 mod laws;
 
+pub use asking::{Described, Naming, Opening, description_of, naming_of, opening_of, unlinking_of};
 pub use config::{
     Config, DESCRIPTIONS_MAX, HARD_MSG_MAX, HARD_MSGSIZE_MAX, HARD_QUEUES_MAX, Held, Limits,
     MQ_PRIO_MAX,
 };
 pub use ipc_terms::{Kind, Object};
 pub use laws::{
-    bound, bounded, grow, in_order, inside_by_place, least, listed, parked_alive, parked_by_place,
-    parked_listed, quiet,
+    bound, bounded, counted, grow, in_order, in_range, inside_by_place, least, listed,
+    parked_alive, parked_by_place, parked_listed, quiet,
 };

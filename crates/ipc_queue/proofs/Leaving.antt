@@ -3,9 +3,10 @@ use Rattle.std.proofs.Common.{◌≡◌, ◌+◌, eq-eqb, true, List, [], ◌∷
 use Rattle.std.specs.List.{list_any}
 use Rattle.ipc_queue.specs.declared.queue.Ticket.{Ticket}
 use Rattle.ipc_queue.specs.declared.queue.ParkedSend.{ParkedSend}
-use Rattle.ipc_queue.specs.Tickets.{Tickets, IsQueue, is_ticket, without_first, next_ticket}
+use Rattle.ipc_terms.specs.Lists.{without_first}
+use Rattle.ipc_queue.specs.Tickets.{Tickets, IsQueue, is_ticket, next_ticket}
 use Rattle.ipc_queue.proofs.Greatest.{first_passes, no_first}
-use Rattle.ipc_queue.proofs.Removing.{one_less}
+use Rattle.ipc_terms.proofs.Removing.{one_less}
 
 itself : (ticket : Ticket) → is_ticket ticket ticket ≡ true
 itself ticket = rw (eq-eqb ticket.place ticket.place refl, eq-eqb ticket.priority ticket.priority refl) refl

@@ -1,12 +1,13 @@
 //! The queue.
 
-ghost use Rattle.std.specs.Prelude.{◌≡◌, ◌<◌, ◌≤◌, ◌^◌, [], Bool, true, length, vec_len, vec_capacity, OnOk, OnErr, IfOk, IsOk};
+ghost use Rattle.std.specs.Prelude.{◌≡◌, ◌<◌, ◌≤◌, ◌^◌, [], true, length, vec_len, vec_capacity, OnOk, OnErr, IfOk, IsOk};
 ghost use Rattle.std.specs.List.{list_any, position};
 ghost use Rattle.std.specs.Option.{option_map};
-ghost use Rattle.ipc_terms.specs.Lists.{first};
-ghost use Rattle.ipc_queue.specs.Tickets.{IsQueue, without_first, is_ticket, is_session, is_sender, next_ticket, next_place, is_full_of, send_outcome, sent, receive_outcome, received, is_parked, withdrawn};
+ghost use Rattle.ipc_terms.specs.Events.{is_session};
+ghost use Rattle.ipc_terms.specs.Lists.{first, without_first};
+ghost use Rattle.ipc_queue.specs.Tickets.{IsQueue, is_ticket, is_sender, next_ticket, next_place, is_full_of, send_outcome, sent, receive_outcome, received, is_parked, withdrawn};
 
-use ipc_terms::{NoMemory, Sid, push_within};
+use ipc_terms::{NoMemory, Sid, push_within, remove_first, remove_session};
 use std::alloc::Global;
 use std::collections::VecDeque;
 use std::marker::Model;
@@ -153,9 +154,8 @@ impl Queue {
         ensures rest { self.new ≡ withdrawn sid self.old }
     {
         let sender = sender_index(&self.senders, sid);
-        let receiver = receiver_index(&self.receivers, sid);
         let sends = remove_first(&mut self.senders, sender);
-        let receives = remove_first(&mut self.receivers, receiver);
+        let receives = remove_session(&mut self.receivers, sid);
         sends || receives
     }
 
@@ -243,21 +243,4 @@ fn sender_index(senders: &VecDeque<ParkedSend>, sid: Sid) -> Option<usize>
     ensures { result ≡ position (is_sender sid) senders.now.items }
 {
     senders.iter().position(|sender| sender.session == sid)
-}
-
-/// Takes out the item of this index, the first that passes some test, and says whether there was one.
-fn remove_first<T: Drop>(items: &mut VecDeque<T>, index: Option<usize>) -> bool
-    ensures found { (test : T → Bool) → index ≡ position test items.old.items → result ≡ list_any test items.old.items }
-    ensures rest { (test : T → Bool) → index ≡ position test items.old.items → items.new.items ≡ without_first test items.old.items }
-{
-    match index {
-        Some(index) => items.remove(index).is_some(),
-        None => false,
-    }
-}
-
-fn receiver_index(receivers: &VecDeque<Sid>, sid: Sid) -> Option<usize>
-    ensures { result ≡ position (is_session sid) receivers.now.items }
-{
-    receivers.iter().position(|receiver| *receiver == sid)
 }

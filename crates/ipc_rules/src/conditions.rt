@@ -3,12 +3,13 @@
 ghost use Rattle.std.specs.Prelude.{◌≡◌, nat_lt, is_some, option_and_then};
 ghost use Rattle.std.specs.Option.{option_copied};
 ghost use Rattle.ipc_access.specs.Users.{cred_of};
-ghost use Rattle.ipc_terms.specs.Objects.{as_queue};
+ghost use Rattle.ipc_terms.specs.Objects.{as_queue, attributes_asked, value_asked};
+ghost use Rattle.ipc_terms.specs.declared.object.TheConstants.{SEM_VALUE_MAX};
 ghost use Rattle.ipc_policy.specs.Rules.{there_is, is_of_family, denied, denied_at, removal_denied, reads_only, writes_only, bits_wanted, out_of_range};
 
 use ipc_access::{Cred, grants, may_remove};
 use ipc_policy::{Config, HARD_MSG_MAX, HARD_MSGSIZE_MAX, Held};
-use ipc_terms::{Access, Attributes, Facts, Family, Kind, Object, Uid};
+use ipc_terms::{Access, Asked, Attributes, Facts, Family, Kind, Object, SEM_VALUE_MAX, Uid};
 
 pub fn is_known(config: &Config, found: Option<Uid>) -> bool
     ensures { result ≡ is_some (option_and_then (cred_of config.now.users) found) }
@@ -42,6 +43,27 @@ pub fn as_queue(object: Option<Object>) -> Option<Attributes>
 {
     match object?.kind {
         Kind::Queue(attributes) => Some(attributes),
+        Kind::Semaphore(_) => None,
+    }
+}
+
+/// The attributes that an open asks for, if it gives any.
+pub fn attributes_asked(kind: Asked) -> Option<Attributes>
+    ensures { result ≡ attributes_asked kind }
+{
+    match kind {
+        Asked::Queue(given) => given,
+        Asked::Semaphore(_) => None,
+    }
+}
+
+/// Whether an open asks for a first value above the greatest.
+pub fn is_too_great(kind: Asked) -> bool
+    ensures { result ≡ there_is (nat_lt SEM_VALUE_MAX) (value_asked kind) }
+{
+    match kind {
+        Asked::Queue(_) => false,
+        Asked::Semaphore(value) => SEM_VALUE_MAX < value,
     }
 }
 

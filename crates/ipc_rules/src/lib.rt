@@ -1,7 +1,6 @@
 //! The rules: each is one function with the name of its definition, and the verdict is the first that forbids.
 #![tactic(auto)]
 
-mod asking;
 mod conditions;
 mod rules;
 

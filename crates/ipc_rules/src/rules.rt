@@ -2,18 +2,20 @@
 
 ghost use Rattle.std.specs.Prelude.{◌≡◌};
 ghost use Rattle.ipc_policy.specs.Names.{creating};
-ghost use Rattle.ipc_policy.specs.Rules.{forbids, no_session, in_call, not_in_call, name_form, name_long, bad_descr, not_for_write, not_for_read, dir_search, dir_read, absent, present, mode_denied, dir_write, sticky, attr_range, descr_limit, prio_range, message_long, buffer_short, would_block, bad_key};
+ghost use Rattle.ipc_policy.specs.Rules.{forbids, no_session, in_call, not_in_call, name_form, name_long, bad_descr, not_for_write, not_for_read, dir_search, dir_read, absent, present, mode_denied, dir_write, sticky, attr_range, value_range, descr_limit, prio_range, message_long, buffer_short, would_block, overflow, bad_key};
 ghost use Rattle.ipc_policy.specs.Verdict.{verdict};
 
-use crate::asking::{Opening, naming_of, opening_of, queue_named, unlinking_of};
 use crate::conditions::{
-    as_queue, bits_of, is_denied, is_denied_at, is_known, is_of_family, is_out_of_range,
-    is_read_only, is_removal_denied, is_too_long, is_too_short, is_write_only,
+    as_queue, attributes_asked, bits_of, is_denied, is_denied_at, is_known, is_of_family,
+    is_out_of_range, is_read_only, is_removal_denied, is_too_great, is_too_long, is_too_short,
+    is_write_only,
 };
 use ipc_names::{has_form, is_long};
-use ipc_policy::{DESCRIPTIONS_MAX, MQ_PRIO_MAX};
+use ipc_policy::{
+    DESCRIPTIONS_MAX, MQ_PRIO_MAX, Opening, description_of, naming_of, opening_of, unlinking_of,
+};
 use ipc_state::State;
-use ipc_terms::{Asked, Call, Event, Family, Rule};
+use ipc_terms::{Call, Event, Rule};
 
 /// Every rule, in the order of their numbers.
 pub const EVERY_RULE: [Rule; 31] = [
@@ -83,21 +85,21 @@ pub fn forbids(state: &State, rule: Rule, event: &Event) -> bool
         Rule::DirWrite => dir_write(state, event),
         Rule::Sticky => sticky(state, event),
         Rule::AttrRange => attr_range(state, event),
+        Rule::ValueRange => value_range(state, event),
         Rule::DescrLimit => descr_limit(state, event),
         Rule::PrioRange => prio_range(state, event),
         Rule::MessageLong => message_long(state, event),
         Rule::BufferShort => buffer_short(state, event),
         Rule::WouldBlock => would_block(state, event),
+        Rule::Overflow => overflow(state, event),
         Rule::BadKey => bad_key(state, event),
         Rule::NotAdmin
         | Rule::NoUser
         | Rule::NotOwner
         | Rule::ChownDenied
-        | Rule::ValueRange
         | Rule::QueueCount
         | Rule::ByteLimit
-        | Rule::NotifyTaken
-        | Rule::Overflow => false,
+        | Rule::NotifyTaken => false,
     }
 }
 
@@ -163,8 +165,8 @@ fn name_long(state: &State, event: &Event) -> bool
     }
 }
 
-/// A call that names a queue's description, and the session does not hold it, or it gives an
-/// object of the other family.
+/// A call that names a description, and the session does not hold it, or it gives an object of the
+/// other family.
 #[tactic(auto, unfolding(ipc_policy::specs::Rules::bad_descr))]
 fn bad_descr(state: &State, event: &Event) -> bool
     ensures { result ≡ bad_descr state.now.config state.now.history event.now }
@@ -172,8 +174,8 @@ fn bad_descr(state: &State, event: &Event) -> bool
     let Event::Do { sid, call } = event else {
         return false;
     };
-    match queue_named(call) {
-        Some(desc) => !is_of_family(Family::Mq, state.object_held(*sid, desc)),
+    match description_of(call) {
+        Some(named) => !is_of_family(named.family, state.object_held(*sid, named.desc)),
         None => false,
     }
 }
@@ -313,10 +315,21 @@ fn attr_range(state: &State, event: &Event) -> bool
 {
     match opening_of(event) {
         Some(asked) => {
-            let Asked::Queue(given) = asked.kind;
+            let given = attributes_asked(asked.kind);
             is_creating(state, &asked)
                 && is_out_of_range(state.config(), state.cred(asked.session), given)
         }
+        None => false,
+    }
+}
+
+/// A creating open of a semaphore with a first value above 2,147,483,647.
+#[tactic(auto, unfolding(ipc_policy::specs::Rules::value_range))]
+fn value_range(state: &State, event: &Event) -> bool
+    ensures { result ≡ value_range state.now.config state.now.history event.now }
+{
+    match opening_of(event) {
+        Some(asked) => is_creating(state, &asked) && is_too_great(asked.kind),
         None => false,
     }
 }
@@ -379,7 +392,8 @@ fn buffer_short(state: &State, event: &Event) -> bool
     }
 }
 
-/// A send to a full queue, or a receive from an empty one, by a description with NONBLOCK.
+/// A send to a full queue, or a receive from an empty one, by a description with NONBLOCK; a trywait
+/// at 0.
 #[tactic(auto, unfolding(ipc_policy::specs::Rules::would_block))]
 fn would_block(state: &State, event: &Event) -> bool
     ensures { result ≡ would_block state.now.config state.now.history event.now }
@@ -391,6 +405,21 @@ fn would_block(state: &State, event: &Event) -> bool
         Call::MqSend { desc, .. } => state.is_full(*sid, *desc) && state.is_nonblock(*sid, *desc),
         Call::MqReceive { desc, .. } => state.is_empty(*sid, *desc)
             && state.is_nonblock(*sid, *desc),
+        Call::SemTryWait(desc) => state.is_zero(*sid, *desc),
+        _ => false,
+    }
+}
+
+/// A post at 2,147,483,647.
+#[tactic(auto, unfolding(ipc_policy::specs::Rules::overflow))]
+fn overflow(state: &State, event: &Event) -> bool
+    ensures { result ≡ overflow state.now.config state.now.history event.now }
+{
+    match event {
+        Event::Do {
+            sid,
+            call: Call::SemPost(desc),
+        } => state.is_greatest(*sid, *desc),
         _ => false,
     }
 }

@@ -2,3 +2,5 @@ pub mod Lines
 pub mod Faults
 pub mod Labels
 pub mod Steps
+pub mod Statuses
+pub mod Arguments

@@ -4,7 +4,9 @@
 mod fault;
 mod labels;
 mod lines;
+mod program;
 mod script;
 
 pub use fault::ScriptFault;
+pub use program::ProgramFault;
 pub use script::run_script;

@@ -44,33 +44,40 @@ pub fn run_script<R: Read + Drop, W: Write + Drop>(
     ensures { IfErr result (λ fault. is_users_memory fault ≡ false) }
 {
     let mut lines = Lines::new(alloc, reader)?;
-    let users = read_users(alloc, &mut lines)?;
-    let core = Core::new(alloc, Config { users, limits })?;
-    let mut script = Script {
-        alloc,
-        core,
-        labels: Labels::new(alloc),
-        writer: BufWriter::new(alloc, writer).map_err(fault_of_writer)?,
-        line: String::new(alloc),
-    };
-    let outcome = script.run(lines);
-    // What wasn't written was answered before the run ended.
-    script.flush()?;
-    outcome
+    let core = read_core(alloc, limits, &mut lines)?;
+    let mut script = Script::new(alloc, core, writer)?;
+    script.run_to_end(lines)
 }
 
-/// The users of the lines up to a line `.`.
-fn read_users<R: Read + Drop>(alloc: Global, lines: &mut Lines<R>) -> Result<Users, ScriptFault>
+/// A core with the users of the lines up to a line `.`.
+fn read_core<R: Read + Drop>(
+    alloc: Global,
+    limits: Limits,
+    lines: &mut Lines<R>,
+) -> Result<Core, ScriptFault>
     ensures { IfErr result (λ fault. is_users_memory fault ≡ false) }
 {
-    let mut bytes = Vec::new(alloc);
+    let mut file = Vec::new(alloc);
+    read_user_file(lines, &mut file)?;
+    let users = Users::read(alloc, &file)?;
+    let core = Core::new(alloc, Config { users, limits })?;
+    Ok(core)
+}
+
+/// Adds the lines up to a line `.` to the file, each with a line end.
+fn read_user_file<R: Read + Drop>(
+    lines: &mut Lines<R>,
+    file: &mut Vec<u8>,
+) -> Result<(), ScriptFault>
+    ensures { IfErr result (λ fault. is_users_memory fault ≡ false) }
+{
     for _ in 0..u64::MAX {
         match lines.next_line()? {
-            Some(".") => return Ok(Users::read(alloc, &bytes)?),
-            Some(line) => bytes.extend_from_slice(line.as_bytes())?,
+            Some(".") => return Ok(()),
+            Some(line) => file.extend_from_slice(line.as_bytes())?,
             None => break,
         }
-        bytes.push(b'\n')?;
+        file.push(b'\n')?;
     }
     Err(ScriptFault::Line(lines.next_number()))
 }
@@ -106,6 +113,30 @@ fn lay_line(line: &mut String, label: &str, text: &str) -> Result<(), AllocError
 }
 
 impl<W: Write + Drop> Script<W> {
+    fn new(alloc: Global, core: Core, writer: W) -> Result<Self, ScriptFault>
+        ensures { IfErr result (λ fault. is_users_memory fault ≡ false) }
+    {
+        match BufWriter::new(alloc, writer) {
+            Ok(writer) => Ok(Script {
+                alloc,
+                core,
+                labels: Labels::new(alloc),
+                writer,
+                line: String::new(alloc),
+            }),
+            Err(error) => Err(fault_of_writer(error)),
+        }
+    }
+
+    /// Takes all lines, and writes what was answered before the run ended, however it ended.
+    fn run_to_end<R: Read + Drop>(&mut self, lines: Lines<R>) -> Result<(), ScriptFault>
+        ensures { IfErr result (λ fault. is_users_memory fault ≡ false) }
+    {
+        let outcome = self.run(lines);
+        self.flush()?;
+        outcome
+    }
+
     /// Takes line after line. Before input is waited for all answers are written.
     fn run<R: Read + Drop>(&mut self, mut lines: Lines<R>) -> Result<(), ScriptFault>
         ensures { IfErr result (λ fault. is_users_memory fault ≡ false) }

@@ -1,40 +1,47 @@
 -- What the tables have for a call that is accepted.
-use Rattle.std.proofs.Common.{◌≡◌, ℕ, ◌<◌, Bool, true, false, not, ◌&&◌, ◌||◌, eqb, cond, List, length, slice_get, Option, Some, None, is_some, refl, sym, ap, ◌∙◌, arith}
-use Rattle.std.specs.Prelude.{option_and_then, min}
+use Rattle.std.proofs.Common.{◌≡◌, ℕ, ◌<◌, Bool, true, false, not, ◌&&◌, ◌||◌, eqb, cond, List, length, slice_get, Option, Some, None, is_some, refl, sym, ap, subst, ◌∙◌, arith}
+use Rattle.std.specs.Prelude.{option_and_then, min, nat_lt}
 use Rattle.std.specs.Option.{option_map}
 use Rattle.std.proofs.lemmas.Option.{slice_get_within}
 use Rattle.std.proofs.lemmas.Bool.Decides.{nat_tests}
 use Rattle.ipc_terms.specs.Flags.{has_create}
 use Rattle.ipc_terms.specs.declared.ids.Sid.{Sid}
-use Rattle.ipc_terms.specs.declared.ids.Family.TheVariants.{Mq}
-use Rattle.ipc_terms.specs.declared.call.QueueOpen.{QueueOpen}
+use Rattle.ipc_terms.specs.Names.{same_family}
+use Rattle.ipc_terms.specs.declared.ids.Family.{Family}
+use Rattle.ipc_terms.specs.declared.ids.Family.TheVariants.{Mq, Sem}
+use Rattle.ipc_terms.specs.declared.object.Asked.{Asked}
+use Rattle.ipc_terms.specs.declared.object.Asked.TheVariants.{Queue as AskedQueue, Semaphore as AskedSemaphore}
+use Rattle.ipc_terms.specs.declared.object.TheConstants.{SEM_VALUE_MAX}
+use Rattle.ipc_terms.specs.declared.record.Event.{Event}
 use Rattle.ipc_terms.specs.declared.call.Attributes.{Attributes}
 use Rattle.ipc_terms.specs.declared.call.Call.{Call}
-use Rattle.ipc_terms.specs.declared.call.Call.TheVariants.{MqOpen}
-use Rattle.ipc_terms.specs.declared.record.Event.TheVariants.{Do, Hangup}
+use Rattle.ipc_terms.specs.declared.call.Call.TheVariants.{MqOpen, SemOpen}
+use Rattle.ipc_terms.specs.declared.record.Event.TheVariants.{Hello, Do, Hangup}
 use Rattle.ipc_access.specs.declared.class.Cred.{Cred}
 use Rattle.ipc_access.specs.Users.{cred_of}
 use Rattle.ipc_policy.specs.declared.config.Config.{Config}
 use Rattle.ipc_policy.specs.declared.config.Held.{Held}
 use Rattle.ipc_terms.specs.declared.object.Object.{Object}
 use Rattle.ipc_policy.specs.History.{History}
-use Rattle.ipc_policy.specs.Sessions.{user, cred}
-use Rattle.ipc_policy.specs.Names.{is_bound, bound}
-use Rattle.ipc_policy.specs.Objects.{object, attributes_of}
+use Rattle.ipc_policy.specs.Sessions.{user, live, cred}
+use Rattle.ipc_policy.specs.Names.{Opening, opening, queue_opening, semaphore_opening, is_bound, bound}
+use Rattle.ipc_policy.specs.Grow.{is_new}
+use Rattle.ipc_policy.specs.Objects.{object, attributes_of, kind_of}
 use Rattle.ipc_policy.specs.Descriptions.{holds}
-use Rattle.ipc_policy.specs.Queues.{attributes}
-use Rattle.ipc_policy.specs.Rules.{is_of_family, not_held, out_of_range}
+use Rattle.ipc_policy.specs.Rules.{there_is, is_of_family, not_held, out_of_range}
 use Rattle.ipc_policy.specs.Verdict.{verdict}
 use Rattle.ipc_policy.proofs.Known.{bound_iff}
 use Rattle.ipc_tables.specs.declared.rows.Session.{Session}
-use Rattle.ipc_terms.specs.Objects.{of_queue, as_queue}
+use Rattle.ipc_terms.specs.Objects.{family_of, of_queue, as_queue, of_semaphore, as_semaphore, attributes_asked, value_asked}
 use Rattle.ipc_terms.specs.declared.object.Kind.{Kind}
-use Rattle.ipc_terms.specs.declared.object.Kind.TheVariants.{Queue as QueueKind}
+use Rattle.ipc_terms.specs.declared.object.Kind.TheVariants.{Queue as QueueKind, Semaphore as SemaphoreKind}
+use Rattle.ipc_tables.specs.Objects.{HasRoom}
 use Rattle.ipc_tables.specs.Kept.{Kept, is_live_row, live_at}
 use Rattle.ipc_state.specs.Agrees.{Agrees, SessionsAgree}
 use Rattle.ipc_state.specs.Ranges.{first_bad}
 use Rattle.ipc_state.specs.declared.limits.Field.TheVariants.{MsgMax, MsgsizeMax}
-use Rattle.ipc_policy.proofs.Unforbidden.{off, caller_live, leaver_live, open_there, open_in_range}
+use Rattle.ipc_policy.proofs.Unforbidden.{off, caller_live, leaver_live}
+use Rattle.ipc_policy.proofs.OpenAccepted.{open_there, open_in_range, open_value_in_range}
 
 pub within_live : (xs : List Session) (s : ℕ) → live_at xs s ≡ true → s < length xs
 within_live xs s k = at (slice_get xs s) refl k where
@@ -58,22 +65,33 @@ new_at false true k l = absurd cc
 new_at false false k l = absurd cc
 
 -- what is held and gives an object of the family
-there_held : (c : Config) (h : History) (w : Option Held) → is_of_family Mq (option_and_then (λ x. object c h x.object) w) ≡ true → is_some w ≡ true
-there_held c h None e = absurd cc
-there_held c h (Some x) e = refl
+there_held : (c : Config) (h : History) (family : Family) (w : Option Held) → is_of_family family (option_and_then (λ x. object c h x.object) w) ≡ true → is_some w ≡ true
+there_held c h family None e = absurd cc
+there_held c h family (Some x) e = refl
 
 there_queue : (w : Option Object) → is_of_family Mq w ≡ true → is_some (as_queue w) ≡ true
 there_queue None e = absurd cc
-there_queue (Some x) e = at x.kind where
-  at : (kind : Kind) → is_some (of_queue kind) ≡ true
-  at (QueueKind given) = refl
+there_queue (Some x) e = at x.kind e where
+  at : (kind : Kind) → same_family (family_of kind) Mq ≡ true → is_some (of_queue kind) ≡ true
+  at (QueueKind given) k = refl
+  at (SemaphoreKind value) k = absurd cc
 
--- a description is held, and a queue is there, where the description is not refused
-pub not_bad_held : (c : Config) (h : History) (s d : ℕ) → not_held c h s Mq d ≡ false → is_some (holds h s d) ≡ true
-not_bad_held c h s d e = there_held c h (holds h s d) (off _ e)
+there_semaphore : (w : Option Object) → is_of_family Sem w ≡ true → is_some (as_semaphore w) ≡ true
+there_semaphore None e = absurd cc
+there_semaphore (Some x) e = at x.kind e where
+  at : (kind : Kind) → same_family (family_of kind) Sem ≡ true → is_some (of_semaphore kind) ≡ true
+  at (QueueKind given) k = absurd cc
+  at (SemaphoreKind value) k = refl
 
-pub not_bad_queue : (c : Config) (h : History) (s d : ℕ) (x : Held) → not_held c h s Mq d ≡ false → holds h s d ≡ Some x → is_some (attributes c h x.object) ≡ true
+-- a description is held, and gives an object of the family, where the description is not refused
+pub not_bad_held : (c : Config) (h : History) (s : ℕ) (family : Family) (d : ℕ) → not_held c h s family d ≡ false → is_some (holds h s d) ≡ true
+not_bad_held c h s family d e = there_held c h family (holds h s d) (off _ e)
+
+pub not_bad_queue : (c : Config) (h : History) (s d : ℕ) (x : Held) → not_held c h s Mq d ≡ false → holds h s d ≡ Some x → is_some (as_queue (object c h x.object)) ≡ true
 not_bad_queue c h s d x e k = there_queue (object c h x.object) (rw k at (off _ e))
+
+pub not_bad_semaphore : (c : Config) (h : History) (s d : ℕ) (x : Held) → not_held c h s Sem d ≡ false → holds h s d ≡ Some x → is_some (as_semaphore (object c h x.object)) ≡ true
+not_bad_semaphore c h s d x e k = there_semaphore (object c h x.object) (rw k at (off _ e))
 
 -- what an accepted open of an unbound name asks for, or is given without asking, is some
 or_off : (a b : Bool) → (a || b) ≡ false → (a ≡ false) × (b ≡ false)
@@ -109,17 +127,30 @@ attributes_some c who (Some given) e k =
 pub caller_within : (c : Config) (h : History) (t : Kept) (sid : Sid) (call : Call) → Agrees c h t → verdict c h (Do sid call) ≡ None → sid.0 < length t.sessions
 caller_within c h t sid call a e = within_live t.sessions sid.0 (a.sessions.lives sid.0 ∙ caller_live c h sid call e)
 
+pub opener_live : (c : Config) (h : History) (e : Event) (asked : Opening) → opening e ≡ Some asked → verdict c h e ≡ None → live h asked.session.0 ≡ true
+opener_live c h (Do sid (MqOpen given)) asked k accepted = let same : queue_opening sid given ≡ asked = cc in subst (λ (a : Opening). live h a.session.0 ≡ true) same (caller_live c h sid (MqOpen given) accepted)
+opener_live c h (Do sid (SemOpen given)) asked k accepted = let same : semaphore_opening sid given ≡ asked = cc in subst (λ (a : Opening). live h a.session.0 ≡ true) same (caller_live c h sid (SemOpen given) accepted)
+opener_live c h (Do sid call) asked k accepted = absurd cc
+opener_live c h (Hello found) asked k accepted = absurd cc
+opener_live c h (Hangup sid) asked k accepted = absurd cc
+
 pub leaver_within : (c : Config) (h : History) (t : Kept) (sid : Sid) → Agrees c h t → verdict c h (Hangup sid) ≡ None → sid.0 < length t.sessions
 leaver_within c h t sid a e = within_live t.sessions sid.0 (a.sessions.lives sid.0 ∙ leaver_live c h sid e)
 
--- an accepted open of an unbound name creates, and what it creates has room for a message of a byte
-unbound_is : (h : History) (name : List ℕ) → bound h Mq name ≡ None → is_bound h Mq name ≡ false
-unbound_is h name none = bound_iff h Mq name ∙ ap is_some none
+-- an accepted open of an unbound name creates, and what it creates has its room
+unbound_is : (h : History) (family : Family) (name : List ℕ) → bound h family name ≡ None → is_bound h family name ≡ false
+unbound_is h family name none = bound_iff h family name ∙ ap is_some none
 
-pub open_new : (c : Config) (h : History) (sid : Sid) (asked : QueueOpen) → verdict c h (Do sid (MqOpen asked)) ≡ None → bound h Mq asked.name ≡ None → (has_create asked.flags && not (is_bound h Mq asked.name)) ≡ true
-open_new c h sid asked e none = new_at (has_create asked.flags) (is_bound h Mq asked.name) (unbound_is h asked.name none) (ap (λ b. not (has_create asked.flags) && not b) (sym (unbound_is h asked.name none)) ∙ open_there c h sid asked e)
+pub open_new : (c : Config) (h : History) (e : Event) (asked : Opening) → opening e ≡ Some asked → verdict c h e ≡ None → bound h asked.family asked.name ≡ None → is_new asked (is_bound h) ≡ true
+open_new c h e asked is accepted none = new_at (has_create asked.flags) (is_bound h asked.family asked.name) (unbound_is h asked.family asked.name none) (ap (λ b. not (has_create asked.flags) && not b) (sym (unbound_is h asked.family asked.name none)) ∙ open_there c h e asked is accepted)
 
-pub open_some : (c : Config) (h : History) (sid : Sid) (asked : QueueOpen) (who : Cred) → first_bad c.limits ≡ None → verdict c h (Do sid (MqOpen asked)) ≡ None → bound h Mq asked.name ≡ None → cred c h sid.0 ≡ Some who → (0 < (attributes_of c asked.attributes).maxmsg) × (0 < (attributes_of c asked.attributes).msgsize)
-open_some c h sid asked who in_range e none is =
-    let within = ap (λ b. b && out_of_range c (cred c h sid.0) asked.attributes) (sym (open_new c h sid asked e none)) ∙ open_in_range c h sid asked e in
-    attributes_some c who asked.attributes in_range (ap (λ w. out_of_range c w asked.attributes) (sym is) ∙ within)
+room_at : (c : Config) (asked : Asked) (who : Cred) → first_bad c.limits ≡ None → out_of_range c (Some who) (attributes_asked asked) ≡ false → there_is (nat_lt SEM_VALUE_MAX) (value_asked asked) ≡ false → HasRoom (kind_of c asked)
+room_at c (AskedQueue given) who in_range one two = attributes_some c who given in_range one
+room_at c (AskedSemaphore value) who in_range one two = grind (arith, nat_tests)
+
+pub open_room : (c : Config) (h : History) (e : Event) (asked : Opening) (who : Cred) → first_bad c.limits ≡ None → opening e ≡ Some asked → verdict c h e ≡ None → bound h asked.family asked.name ≡ None → cred c h asked.session.0 ≡ Some who → HasRoom (kind_of c asked.kind)
+open_room c h e asked who in_range is accepted none known =
+    let new = open_new c h e asked is accepted none in
+    let one = ap (λ b. b && out_of_range c (cred c h asked.session.0) (attributes_asked asked.kind)) (sym new) ∙ open_in_range c h e asked is accepted in
+    let two = ap (λ b. b && there_is (nat_lt SEM_VALUE_MAX) (value_asked asked.kind)) (sym new) ∙ open_value_in_range c h e asked is accepted in
+    room_at c asked.kind who in_range (ap (λ w. out_of_range c w (attributes_asked asked.kind)) (sym known) ∙ one) two

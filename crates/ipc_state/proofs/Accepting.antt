@@ -1,10 +1,7 @@
 -- What each accepted event does to the tables keeps them the history's.
-use Rattle.std.proofs.Common.{◌≡◌, ℕ, ◌+◌, ◌%◌, ◌<◌, Bool, true, false, not, ◌&&◌, ◌||◌, eqb, cond, List, [], ◌∷◌, ◌++◌, length, filter, Option, Some, None, is_some, refl, sym, ap, subst, ◌∙◌, arith}
+use Rattle.std.proofs.Common.{◌≡◌, ℕ, ◌%◌, ◌<◌, Bool, true, false, not, eqb, cond, List, [], ◌∷◌, length, Option, Some, None, is_some, refl, sym, ap, subst, ◌∙◌}
 use Rattle.std.specs.Option.{option_map}
-use Rattle.std.proofs.lemmas.Bool.{eqb-true, eq-eqb, ne_eqb, and_parts}
-use Rattle.ipc_terms.specs.Flags.{has_create, has_nonblock}
-use Rattle.ipc_terms.specs.Names.{same_name}
-use Rattle.ipc_terms.specs.declared.binding.Binding.{Binding}
+use Rattle.std.proofs.lemmas.Bool.{eqb-true, ne_eqb}
 use Rattle.ipc_terms.specs.declared.rule.Rule.{Rule}
 use Rattle.ipc_terms.specs.declared.ids.Uid.{Uid}
 use Rattle.ipc_terms.specs.declared.ids.Sid.{Sid}
@@ -13,48 +10,52 @@ use Rattle.ipc_terms.specs.declared.ids.Mode.{Mode}
 use Rattle.ipc_terms.specs.declared.ids.Family.{Family}
 use Rattle.ipc_terms.specs.declared.ids.Family.TheVariants.{Mq, Sem}
 use Rattle.ipc_terms.specs.declared.ids.Target.{Target}
-use Rattle.ipc_terms.specs.declared.call.QueueOpen.{QueueOpen}
-use Rattle.ipc_terms.specs.declared.call.Call.TheVariants.{Umask, MqOpen, MqClose, MqSend, MqReceive, MqGetattr, MqSetattr, MqUnlink, ListNames, StatName, Interrupt}
+use Rattle.ipc_terms.specs.declared.call.Call.TheVariants.{Umask, MqSend, MqReceive, MqGetattr, MqSetattr, SemPost, SemWait, SemTryWait, SemGetvalue, ListNames, StatName, Interrupt}
+use Rattle.ipc_terms.specs.Objects.{of_queue, as_queue}
+use Rattle.ipc_terms.specs.declared.call.Attributes.{Attributes}
+use Rattle.ipc_terms.specs.declared.object.Kind.{Kind}
+use Rattle.ipc_terms.specs.declared.object.Kind.TheVariants.{Queue as QueueKind, Semaphore as SemaphoreKind}
 use Rattle.ipc_terms.specs.declared.record.Event.{Event}
 use Rattle.ipc_terms.specs.declared.record.Event.TheVariants.{Hello, Do, Hangup}
-use Rattle.ipc_access.specs.declared.class.Cred.{Cred}
 use Rattle.ipc_names.specs.Directory.{Directory, first_directory}
 use Rattle.ipc_policy.specs.declared.config.Config.{Config}
 use Rattle.ipc_policy.specs.declared.config.Held.{Held}
-use Rattle.ipc_policy.specs.History.{History, after_accepted, after_refused, kept, there_is, gathered_below, any_below}
+use Rattle.ipc_policy.specs.History.{History, after_accepted, kept, there_is, gathered_below}
 use Rattle.ipc_policy.specs.Sessions.{hellos, user, live, cred, mask}
-use Rattle.ipc_policy.specs.Names.{Opening, queue_opening, unlinks, is_bound, creations, bound}
+use Rattle.ipc_policy.specs.Names.{Opening, is_bound, creations, bound}
 use Rattle.ipc_policy.specs.Objects.{object, facts, directory, directory_owner, directory_group, directory_mode, made_by, first_facts}
-use Rattle.ipc_policy.specs.Descriptions.{opens, opened, held, holds, is_nonblock}
-use Rattle.ipc_policy.specs.Life.{named, bindings, gives_object, alive}
-use Rattle.ipc_policy.specs.Queues.{Queue, Withdraws, queue, queue_after, maxmsg}
+use Rattle.ipc_policy.specs.Descriptions.{opens, held, holds, is_nonblock}
+use Rattle.ipc_policy.specs.Life.{named, bindings, alive}
+use Rattle.ipc_policy.specs.Queues.{Withdraws, queue, queue_after, maxmsg}
+use Rattle.ipc_policy.specs.Semaphores.{Cancels, semaphore, semaphore_after, with_first}
 use Rattle.ipc_terms.specs.declared.object.Object.{Object}
 use Rattle.ipc_policy.specs.Parking.{Parked, parked}
 use Rattle.ipc_policy.specs.Laws.{SameValues}
-use Rattle.ipc_policy.specs.Grow.{Grows, is_new, hellos_after, user_after, live_after, mask_after, nonblock_after, named_after, held_after, opens_after, bindings_after, creations_after, made_after}
+use Rattle.ipc_policy.specs.Grow.{Grows, hellos_after, user_after, live_after, mask_after, nonblock_after, named_after, held_after, opens_after, bindings_after, creations_after, made_after, first_value}
 use Rattle.ipc_policy.specs.Verdict.{verdict, Legal}
 use Rattle.ipc_policy.proofs.Holding.{kept_all}
 use Rattle.ipc_policy.proofs.Grown.{grows}
-use Rattle.ipc_policy.proofs.Gathering.{gathered_more, filter_all}
-use Rattle.ipc_policy.proofs.Known.{bound_iff}
-use Rattle.ipc_policy.proofs.Creating.{not_created_empty}
 use Rattle.ipc_policy.proofs.Refused.{same_values}
-use Rattle.ipc_policy.proofs.ParkedSessions.{withdrawn_elsewhere}
+use Rattle.ipc_policy.proofs.ParkedSessions.{withdrawn_elsewhere, cancelled_elsewhere}
+use Rattle.ipc_policy.proofs.WaitSteps.{semaphore_by_others, semaphore_by_send, semaphore_by_receive, semaphore_by_post, semaphore_by_wait, semaphore_by_try, semaphore_by_interrupt, semaphore_by_hangup, queue_by_post, queue_by_wait, queue_by_try, parked_by_try}
 use Rattle.ipc_policy.proofs.ParkedSteps.{moves, parked_by_others, queue_by_others, queue_by_send, queue_by_receive, queue_by_interrupt, queue_by_hangup}
-use Rattle.ipc_queue.specs.Tickets.{sent, received, withdrawn}
+use Rattle.ipc_queue.specs.Tickets.{Tickets, sent, received}
+use Rattle.ipc_sem.specs.Counters.{Counter, posted, waited, tried}
+use Rattle.ipc_tables.specs.Objects.{with_body, with_counter, without_call}
+use Rattle.ipc_tables.specs.declared.rows.Body.TheVariants.{Queue as QueueBody, Semaphore as SemaphoreBody}
 use Rattle.ipc_tables.specs.declared.rows.ObjectRow.{ObjectRow}
 use Rattle.ipc_tables.specs.declared.rows.Session.{Session}
 use Rattle.ipc_terms.specs.Lists.{changed}
-use Rattle.ipc_descr.specs.Descriptions.{Descriptions, is_of, is_desc}
+use Rattle.ipc_descr.specs.Descriptions.{Descriptions, is_of}
 use Rattle.ipc_tables.specs.Kept.{Kept, parked_on_at}
-use Rattle.ipc_tables.specs.Steps.{hung_up, living, ended, after_hello, after_umask, after_found, after_created, after_send, after_receive, after_withdrawal, after_setattr, after_close, after_unlink, after_hangup}
+use Rattle.ipc_tables.specs.Steps.{hung_up, living, ended, after_hello, after_umask, after_send, after_receive, after_post, after_wait, after_try, after_withdrawal, after_setattr, after_hangup}
 use Rattle.ipc_state.specs.Ranges.{first_bad}
-use Rattle.ipc_state.specs.Agrees.{Agrees, IsCore, SessionsAgree, DirectoryAgrees, ObjectsAgree, DescriptionsAgree, row_with, tickets_of}
-use Rattle.ipc_state.proofs.Lookups.{bound_alive}
+use Rattle.ipc_state.specs.Agrees.{Agrees, IsCore, SessionsAgree, DirectoryAgrees, ObjectsAgree, DescriptionsAgree, row_with, tickets_of, counter_of, Inside, inside, body_of}
 use Rattle.ipc_state.proofs.SessionTables.{Columns, columns_of, columns_moved, sessions_parked, sessions_kept, sessions_begun, sessions_masked, sessions_ended}
-use Rattle.ipc_state.proofs.ParkedColumn.{parked_object, column_by_send, column_by_receive, column_by_interrupt, column_by_hangup}
-use Rattle.ipc_state.proofs.Serving.{IsHere, is_open, none_receives, none_sends, sessions_sent, sessions_received, queue_sent, queue_received, queue_withdrawn}
-use Rattle.ipc_state.proofs.ObjectTables.{directory_kept, rows_kept, objects_kept, alive_kept, alive_less, objects_left, objects_created, rows_changed, descriptions_kept, descriptions_dropped, descriptions_opened, descriptions_set, alive_opened}
+use Rattle.ipc_state.proofs.ParkedColumn.{parked_object, column_by_send, column_by_receive, column_by_post, column_by_wait, column_by_interrupt, column_by_hangup}
+use Rattle.ipc_state.proofs.Posting.{sessions_posted, sessions_waited, counter_posted, counter_waited, counter_tried, counter_cancelled}
+use Rattle.ipc_state.proofs.Serving.{IsHereQueue, IsHereSemaphore, is_open, none_receives, none_sends, sessions_sent, sessions_received, queue_sent, queue_received, queue_withdrawn}
+use Rattle.ipc_state.proofs.ObjectTables.{directory_kept, rows_kept, objects_kept, alive_kept, alive_less, objects_left, rows_changed, descriptions_kept, descriptions_dropped, descriptions_set}
 
 -- an event that says nothing of names, objects and descriptions
 pub record Untouched (c : Config) (h k : History) : Type 0 where
@@ -93,8 +94,15 @@ left_alone c h k t ss rows u n sessions' objects' a = record {
 }
 
 -- and the objects too, where it says nothing of what stands in them
-objects_same : (c : Config) (h k : History) (t : Kept) → Untouched c h k → ((o : ℕ) → queue c k o ≡ queue c h o) → Agrees c h t → ObjectsAgree c k t.objects t.created
+pub objects_same : (c : Config) (h k : History) (t : Kept) → Untouched c h k → ((o : ℕ) → inside c k o ≡ inside c h o) → Agrees c h t → ObjectsAgree c k t.objects t.created
 objects_same c h k t u q a = objects_kept c h k t.objects t.created (alive_same c h k u) u.object' u.facts' q u.creations' a.objects
+
+-- what stands in an object stays, where its queue and its semaphore do
+pub inside_same : (c : Config) (h k : History) (o : ℕ) → queue c k o ≡ queue c h o → semaphore k o ≡ semaphore h o → inside c k o ≡ inside c h o
+inside_same c h k o q u = rw (q, u) refl
+
+pub others_inside : (c : Config) (h : History) (e : Event) (o : ℕ) → moves e ≡ false → first_value o e (is_bound h) (creations h) ≡ None → inside c (after_accepted h e) o ≡ inside c h o
+others_inside c h e o still none = inside_same c h (after_accepted h e) o (queue_by_others c h e o still) (semaphore_by_others h e o still ∙ ap (λ v. with_first v (semaphore h o)) none)
 
 -- a refused event
 agrees_as : (c : Config) (h k : History) (t : Kept) → SameValues c k h → Agrees c h t → Agrees c k t
@@ -102,7 +110,7 @@ agrees_as c h k t q a =
     let u : Untouched c h k = record { named' = q.named; held' = q.held; opens' = q.opens; bindings' = q.bindings; directory' = q.directory; creations' = q.creations; object' = q.object; facts' = q.facts } in
     left_alone c h k t t.sessions t.objects u q.is_nonblock
     (record { users = λ s. a.sessions.users s ∙ sym (q.user s); masks = λ s row is. a.sessions.masks s row is ∙ sym (q.mask s); lives = λ s. a.sessions.lives s ∙ sym (q.live s); parks = λ s. a.sessions.parks s ∙ sym (ap (option_map (λ (p : Parked). p.object)) (q.parked s)); count = a.sessions.count ∙ sym q.hellos })
-    (objects_same c h k t u q.queue a) a
+    (objects_same c h k t u (λ o. inside_same c h k o (q.queue o) (q.semaphore o)) a) a
 
 -- an accepted hello
 pub agrees_begun : (c : Config) (h : History) (t : Kept) (uid : Uid) → IsCore c h t → Agrees c (after_accepted h (Hello (Some uid))) (after_hello t uid)
@@ -110,7 +118,7 @@ agrees_begun c h t uid k =
     let e = Hello (Some uid) in
     let g = grows c h e in
     let u = untouched c h _ e g (λ o. refl) (λ d. refl) refl (λ f. refl) refl (λ o. refl) (λ o. refl) in
-    left_alone c h _ t _ t.objects u g.nonblock_of (sessions_begun c h t.sessions uid k.legal g k.agrees.sessions) (objects_same c h _ t u (λ o. queue_by_others c h e o refl) k.agrees) k.agrees
+    left_alone c h _ t _ t.objects u g.nonblock_of (sessions_begun c h t.sessions uid k.legal g k.agrees.sessions) (objects_same c h _ t u (λ o. others_inside c h e o refl refl) k.agrees) k.agrees
 
 -- an accepted umask
 pub agrees_masked : (c : Config) (h : History) (t : Kept) (sid : Sid) (m : Mode) → Agrees c h t → Agrees c (after_accepted h (Do sid (Umask m))) (after_umask t sid.0 (record { 0 = m.0 % 512 }))
@@ -118,28 +126,45 @@ agrees_masked c h t sid m a =
     let e = Do sid (Umask m) in
     let g = grows c h e in
     let u = untouched c h _ e g (λ o. refl) (λ d. refl) refl (λ f. refl) refl (λ o. refl) (λ o. refl) in
-    left_alone c h _ t _ t.objects u g.nonblock_of (sessions_masked c h t.sessions sid m g a.sessions) (objects_same c h _ t u (λ o. queue_by_others c h e o refl) a) a
+    left_alone c h _ t _ t.objects u g.nonblock_of (sessions_masked c h t.sessions sid m g a.sessions) (objects_same c h _ t u (λ o. others_inside c h e o refl refl) a) a
 
 -- a question changes nothing
-asked : (c : Config) (h : History) (t : Kept) (e : Event) → Untouched c h (after_accepted h e) → moves e ≡ false → hellos_after e (hellos h) ≡ hellos h → ((s : ℕ) → user_after s e (hellos h) (user h s) ≡ user h s) → ((s : ℕ) → live_after s e (hellos h) (live h s) ≡ live h s) → ((s : ℕ) → mask_after s e (mask h s) ≡ mask h s) → ((s d : ℕ) → nonblock_after s d e (opens h) (is_nonblock h s d) ≡ is_nonblock h s d) → Agrees c h t → Agrees c (after_accepted h e) t
-asked c h t e u still n w l m b a =
+asked : (c : Config) (h : History) (t : Kept) (e : Event) → Untouched c h (after_accepted h e) → moves e ≡ false → ((o : ℕ) → first_value o e (is_bound h) (creations h) ≡ None) → hellos_after e (hellos h) ≡ hellos h → ((s : ℕ) → user_after s e (hellos h) (user h s) ≡ user h s) → ((s : ℕ) → live_after s e (hellos h) (live h s) ≡ live h s) → ((s : ℕ) → mask_after s e (mask h s) ≡ mask h s) → ((s d : ℕ) → nonblock_after s d e (opens h) (is_nonblock h s d) ≡ is_nonblock h s d) → Agrees c h t → Agrees c (after_accepted h e) t
+asked c h t e u still none n w l m b a =
     let g = grows c h e in
-    left_alone c h _ t t.sessions t.objects u (λ s d. g.nonblock_of s d ∙ b s d) (sessions_kept c h _ e t.sessions g n w l m (λ s. parked_by_others c h e s still) a.sessions) (objects_same c h _ t u (λ o. queue_by_others c h e o still) a) a
+    left_alone c h _ t t.sessions t.objects u (λ s d. g.nonblock_of s d ∙ b s d) (sessions_kept c h _ e t.sessions g n w l m (λ s. parked_by_others c h e s still) a.sessions) (objects_same c h _ t u (λ o. others_inside c h e o still (none o)) a) a
 
 pub agrees_listed : (c : Config) (h : History) (t : Kept) (sid : Sid) (family : Family) (start count : ℕ) → Agrees c h t → Agrees c (after_accepted h (Do sid (ListNames family start count))) t
 agrees_listed c h t sid family start count =
-    asked c h t (Do sid (ListNames family start count)) (untouched c h _ (Do sid (ListNames family start count)) (grows c h (Do sid (ListNames family start count))) (λ o. refl) (λ d. refl) refl (λ f. refl) refl (λ o. refl) (λ o. refl)) refl refl (λ s. refl) (λ s. refl) (λ s. refl) (λ s d. refl)
+    asked c h t (Do sid (ListNames family start count)) (untouched c h _ (Do sid (ListNames family start count)) (grows c h (Do sid (ListNames family start count))) (λ o. refl) (λ d. refl) refl (λ f. refl) refl (λ o. refl) (λ o. refl)) refl (λ o. refl) refl (λ s. refl) (λ s. refl) (λ s. refl) (λ s d. refl)
 
 pub agrees_told : (c : Config) (h : History) (t : Kept) (sid : Sid) (target : Target) → Agrees c h t → Agrees c (after_accepted h (Do sid (StatName target))) t
 agrees_told c h t sid target =
-    asked c h t (Do sid (StatName target)) (untouched c h _ (Do sid (StatName target)) (grows c h (Do sid (StatName target))) (λ o. refl) (λ d. refl) refl (λ f. refl) refl (λ o. refl) (λ o. refl)) refl refl (λ s. refl) (λ s. refl) (λ s. refl) (λ s d. refl)
+    asked c h t (Do sid (StatName target)) (untouched c h _ (Do sid (StatName target)) (grows c h (Do sid (StatName target))) (λ o. refl) (λ d. refl) refl (λ f. refl) refl (λ o. refl) (λ o. refl)) refl (λ o. refl) refl (λ s. refl) (λ s. refl) (λ s. refl) (λ s d. refl)
 
 pub agrees_asked : (c : Config) (h : History) (t : Kept) (sid : Sid) (desc : Desc) → Agrees c h t → Agrees c (after_accepted h (Do sid (MqGetattr desc))) t
 agrees_asked c h t sid desc =
-    asked c h t (Do sid (MqGetattr desc)) (untouched c h _ (Do sid (MqGetattr desc)) (grows c h (Do sid (MqGetattr desc))) (λ o. refl) (λ d. refl) refl (λ f. refl) refl (λ o. refl) (λ o. refl)) refl refl (λ s. refl) (λ s. refl) (λ s. refl) (λ s d. refl)
+    asked c h t (Do sid (MqGetattr desc)) (untouched c h _ (Do sid (MqGetattr desc)) (grows c h (Do sid (MqGetattr desc))) (λ o. refl) (λ d. refl) refl (λ f. refl) refl (λ o. refl) (λ o. refl)) refl (λ o. refl) refl (λ s. refl) (λ s. refl) (λ s. refl) (λ s d. refl)
+
+pub agrees_valued : (c : Config) (h : History) (t : Kept) (sid : Sid) (desc : Desc) → Agrees c h t → Agrees c (after_accepted h (Do sid (SemGetvalue desc))) t
+agrees_valued c h t sid desc =
+    asked c h t (Do sid (SemGetvalue desc)) (untouched c h _ (Do sid (SemGetvalue desc)) (grows c h (Do sid (SemGetvalue desc))) (λ o. refl) (λ d. refl) refl (λ f. refl) refl (λ o. refl) (λ o. refl)) refl (λ o. refl) refl (λ s. refl) (λ s. refl) (λ s. refl) (λ s d. refl)
+
+-- the body of an object changes as its queue does, or as its semaphore does
+queue_changed : (x : Object) (change : Tickets → Tickets) (m n : Inside) → ((z : Attributes) → of_queue x.kind ≡ Some z → tickets_of n.queue z ≡ change (tickets_of m.queue z)) → n.semaphore ≡ m.semaphore → body_of x.kind n ≡ with_body change (body_of x.kind m)
+queue_changed x change m n e same = at x.kind e where
+  at : (kind : Kind) → ((z : Attributes) → of_queue kind ≡ Some z → tickets_of n.queue z ≡ change (tickets_of m.queue z)) → body_of kind n ≡ with_body change (body_of kind m)
+  at (QueueKind given) known = ap QueueBody (known given refl)
+  at (SemaphoreKind value) known = ap (λ u. SemaphoreBody (counter_of u)) same
+
+semaphore_changed : (x : Object) (change : Counter → Counter) (m n : Inside) → counter_of n.semaphore ≡ change (counter_of m.semaphore) → n.queue ≡ m.queue → body_of x.kind n ≡ with_counter change (body_of x.kind m)
+semaphore_changed x change m n e same = at x.kind where
+  at : (kind : Kind) → body_of kind n ≡ with_counter change (body_of kind m)
+  at (QueueKind given) = ap (λ q. QueueBody (tickets_of q given)) same
+  at (SemaphoreKind value) = ap SemaphoreBody e
 
 -- an accepted send
-pub agrees_sent : (c : Config) (h : History) (t : Kept) (sid : Sid) (desc : Desc) (priority : ℕ) (bytes : List ℕ) (o : ℕ) → IsCore c h t → IsHere c h t sid.0 desc.0 o → Agrees c (after_accepted h (Do sid (MqSend desc priority bytes))) (after_send t o (record { place = length h; priority = priority }) sid)
+pub agrees_sent : (c : Config) (h : History) (t : Kept) (sid : Sid) (desc : Desc) (priority : ℕ) (bytes : List ℕ) (o : ℕ) → IsCore c h t → IsHereQueue c h t sid.0 desc.0 o → Agrees c (after_accepted h (Do sid (MqSend desc priority bytes))) (after_send t o (record { place = length h; priority = priority }) sid)
 agrees_sent c h t sid desc priority bytes o k here =
     let e = Do sid (MqSend desc priority bytes) in
     let g = grows c h e in
@@ -151,16 +176,18 @@ agrees_sent c h t sid desc priority bytes o k here =
     (λ s. column_by_send c h sid desc priority bytes here.x s k.legal here.held (none_receives c h here.x.object here.given open' here.made))
     (sessions_sent c h t here.x.object here.given sid k.legal k.agrees here.lives here.made here.within))
     (record {
-      rows = rows_changed c h (after_accepted h e) (queue c (after_accepted h e)) t.objects t.created here.x.object (sent (record { place = length h; priority = priority }) sid) (alive_same c h _ u) u.object' u.facts'
-          (λ i ne. queue_by_send c h sid desc priority bytes here.x i here.held ∙ rw (ne_eqb here.x.object i (λ q. ne (sym q))) refl)
-          (λ z is. queue_sent c h sid desc priority bytes here.x z (is_open c h t here.x.object z k is) here.held)
+      rows = rows_changed c h (after_accepted h e) (inside c (after_accepted h e)) t.objects t.created here.x.object (with_body (sent (record { place = length h; priority = priority }) sid)) (alive_same c h _ u) u.object' u.facts'
+          (λ i ne. inside_same c h (after_accepted h e) i (queue_by_send c h sid desc priority bytes here.x i here.held ∙ rw (ne_eqb here.x.object i (λ q. ne (sym q))) refl) (semaphore_by_send h sid desc priority bytes i))
+          (λ x is. queue_changed x (sent (record { place = length h; priority = priority }) sid) (inside c h here.x.object) (inside c (after_accepted h e) here.x.object)
+          (λ z given. queue_sent c h sid desc priority bytes here.x z (is_open c h t here.x.object z k (ap as_queue is ∙ given)) here.held)
+          (semaphore_by_send h sid desc priority bytes here.x.object))
           u.creations' k.agrees.objects;
       count = k.agrees.objects.count ∙ sym u.creations';
     })
     k.agrees)
 
 -- an accepted receive
-pub agrees_received : (c : Config) (h : History) (t : Kept) (sid : Sid) (desc : Desc) (room : ℕ) (o : ℕ) → IsCore c h t → IsHere c h t sid.0 desc.0 o → Agrees c (after_accepted h (Do sid (MqReceive desc room))) (after_receive t o sid)
+pub agrees_received : (c : Config) (h : History) (t : Kept) (sid : Sid) (desc : Desc) (room : ℕ) (o : ℕ) → IsCore c h t → IsHereQueue c h t sid.0 desc.0 o → Agrees c (after_accepted h (Do sid (MqReceive desc room))) (after_receive t o sid)
 agrees_received c h t sid desc room o k here =
     let e = Do sid (MqReceive desc room) in
     let g = grows c h e in
@@ -172,16 +199,76 @@ agrees_received c h t sid desc room o k here =
     (λ s. column_by_receive c h sid desc room here.x s k.legal here.held (none_sends c h here.x.object here.given open' here.made))
     (sessions_received c h t here.x.object here.given sid k.legal k.agrees here.lives here.made open' here.within))
     (record {
-      rows = rows_changed c h (after_accepted h e) (queue c (after_accepted h e)) t.objects t.created here.x.object (received sid) (alive_same c h _ u) u.object' u.facts'
-          (λ i ne. queue_by_receive c h sid desc room here.x i here.held ∙ rw (ne_eqb here.x.object i (λ q. ne (sym q))) refl)
-          (λ z is. queue_received c h sid desc room here.x z (is_open c h t here.x.object z k is) here.held)
+      rows = rows_changed c h (after_accepted h e) (inside c (after_accepted h e)) t.objects t.created here.x.object (with_body (received sid)) (alive_same c h _ u) u.object' u.facts'
+          (λ i ne. inside_same c h (after_accepted h e) i (queue_by_receive c h sid desc room here.x i here.held ∙ rw (ne_eqb here.x.object i (λ q. ne (sym q))) refl) (semaphore_by_receive h sid desc room i))
+          (λ x is. queue_changed x (received sid) (inside c h here.x.object) (inside c (after_accepted h e) here.x.object)
+          (λ z given. queue_received c h sid desc room here.x z (is_open c h t here.x.object z k (ap as_queue is ∙ given)) here.held)
+          (semaphore_by_receive h sid desc room here.x.object))
+          u.creations' k.agrees.objects;
+      count = k.agrees.objects.count ∙ sym u.creations';
+    })
+    k.agrees)
+
+-- an accepted post
+pub agrees_posted : (c : Config) (h : History) (t : Kept) (sid : Sid) (desc : Desc) (o : ℕ) → IsCore c h t → IsHereSemaphore c h t sid.0 desc.0 o → Agrees c (after_accepted h (Do sid (SemPost desc))) (after_post t o)
+agrees_posted c h t sid desc o k here =
+    let e = Do sid (SemPost desc) in
+    let g = grows c h e in
+    let u = untouched c h _ e g (λ i. refl) (λ d. refl) refl (λ f. refl) refl (λ i. refl) (λ i. refl) in
+    subst (λ (i : ℕ). Agrees c (after_accepted h e) (after_post t i)) here.same
+    (left_alone c h _ t _ _ u g.nonblock_of
+    (sessions_parked c h _ e _ _ g refl (λ s. refl) (λ s. refl) (λ s. refl)
+    (λ s. column_by_post c h sid desc here.x s k.legal here.held)
+    (sessions_posted c h t here.x.object here.given sid k.legal k.agrees here.lives here.made))
+    (record {
+      rows = rows_changed c h (after_accepted h e) (inside c (after_accepted h e)) t.objects t.created here.x.object (with_counter posted) (alive_same c h _ u) u.object' u.facts'
+          (λ i ne. inside_same c h (after_accepted h e) i (queue_by_post c h sid desc i) (semaphore_by_post h sid desc here.x i here.held ∙ rw (ne_eqb here.x.object i (λ q. ne (sym q))) refl))
+          (λ x is. semaphore_changed x posted (inside c h here.x.object) (inside c (after_accepted h e) here.x.object) (counter_posted h sid desc here.x here.held) (queue_by_post c h sid desc here.x.object))
+          u.creations' k.agrees.objects;
+      count = k.agrees.objects.count ∙ sym u.creations';
+    })
+    k.agrees)
+
+-- an accepted wait
+pub agrees_waited : (c : Config) (h : History) (t : Kept) (sid : Sid) (desc : Desc) (o : ℕ) → IsCore c h t → IsHereSemaphore c h t sid.0 desc.0 o → Agrees c (after_accepted h (Do sid (SemWait desc))) (after_wait t o sid)
+agrees_waited c h t sid desc o k here =
+    let e = Do sid (SemWait desc) in
+    let g = grows c h e in
+    let u = untouched c h _ e g (λ i. refl) (λ d. refl) refl (λ f. refl) refl (λ i. refl) (λ i. refl) in
+    subst (λ (i : ℕ). Agrees c (after_accepted h e) (after_wait t i sid)) here.same
+    (left_alone c h _ t _ _ u g.nonblock_of
+    (sessions_parked c h _ e _ _ g refl (λ s. refl) (λ s. refl) (λ s. refl)
+    (λ s. column_by_wait c h sid desc here.x s here.held)
+    (sessions_waited c h t here.x.object here.given sid k.agrees here.lives here.made here.within))
+    (record {
+      rows = rows_changed c h (after_accepted h e) (inside c (after_accepted h e)) t.objects t.created here.x.object (with_counter (waited sid)) (alive_same c h _ u) u.object' u.facts'
+          (λ i ne. inside_same c h (after_accepted h e) i (queue_by_wait c h sid desc i) (semaphore_by_wait h sid desc here.x i here.held ∙ rw (ne_eqb here.x.object i (λ q. ne (sym q))) refl))
+          (λ x is. semaphore_changed x (waited sid) (inside c h here.x.object) (inside c (after_accepted h e) here.x.object) (counter_waited h sid desc here.x here.held) (queue_by_wait c h sid desc here.x.object))
+          u.creations' k.agrees.objects;
+      count = k.agrees.objects.count ∙ sym u.creations';
+    })
+    k.agrees)
+
+-- an accepted trywait
+pub agrees_tried : (c : Config) (h : History) (t : Kept) (sid : Sid) (desc : Desc) (o : ℕ) → IsCore c h t → IsHereSemaphore c h t sid.0 desc.0 o → Agrees c (after_accepted h (Do sid (SemTryWait desc))) (after_try t o)
+agrees_tried c h t sid desc o k here =
+    let e = Do sid (SemTryWait desc) in
+    let g = grows c h e in
+    let u = untouched c h _ e g (λ i. refl) (λ d. refl) refl (λ f. refl) refl (λ i. refl) (λ i. refl) in
+    subst (λ (i : ℕ). Agrees c (after_accepted h e) (after_try t i)) here.same
+    (left_alone c h _ t t.sessions _ u g.nonblock_of
+    (sessions_kept c h _ e t.sessions g refl (λ s. refl) (λ s. refl) (λ s. refl) (λ s. parked_by_try c h sid desc s) k.agrees.sessions)
+    (record {
+      rows = rows_changed c h (after_accepted h e) (inside c (after_accepted h e)) t.objects t.created here.x.object (with_counter tried) (alive_same c h _ u) u.object' u.facts'
+          (λ i ne. inside_same c h (after_accepted h e) i (queue_by_try c h sid desc i) (semaphore_by_try h sid desc here.x i here.held ∙ rw (ne_eqb here.x.object i (λ q. ne (sym q))) refl))
+          (λ x is. semaphore_changed x tried (inside c h here.x.object) (inside c (after_accepted h e) here.x.object) (counter_tried h sid desc here.x here.held) (queue_by_try c h sid desc here.x.object))
           u.creations' k.agrees.objects;
       count = k.agrees.objects.count ∙ sym u.creations';
     })
     k.agrees)
 
 -- a withdrawal: the tables of sessions and of objects, where the session was parked on this object, if on one
-pub record IsWithdrawn (c : Config) (h : History) (t u : Kept) (sid : Sid) (q : ℕ → Queue) : Type 0 where
+pub record IsWithdrawn (c : Config) (h : History) (t u : Kept) (sid : Sid) (q : ℕ → Inside) : Type 0 where
   pub sessions : Columns u.sessions (hellos h) (user h) (mask h) (live h) (λ s. cond (eqb sid.0 s) None (parked_object c h s))
   pub rows : u.objects ≡ gathered_below (row_with c h q) (creations h)
   pub others : u ≡ record t { sessions = u.sessions; objects = u.objects }
@@ -192,39 +279,57 @@ unparked c h sid e s = at (eqb sid.0 s) refl where
   at true k = ap (parked_object c h) (sym (eqb-true _ _ k)) ∙ ap (option_map (λ (p : Parked). p.object)) e
   at false k = refl
 
-pub withdrawn_at : (c : Config) (h : History) (t : Kept) (sid : Sid) (q : ℕ → Queue) → IsCore c h t → ((o : ℕ) → q o ≡ queue_after (maxmsg c h o) (Withdraws sid.0) (queue c h o)) → sid.0 < length t.sessions → (w : Option Parked) → parked c h sid.0 ≡ w → IsWithdrawn c h t (after_withdrawal t sid) sid q
+-- what stands in an object without the call of the session
+abbrev pub without_calls : Config → History → Sid → ℕ → Inside
+without_calls c h sid o = record { queue = queue_after (maxmsg c h o) (Withdraws sid.0) (queue c h o); semaphore = semaphore_after (Cancels sid.0) (semaphore h o) }
+
+left_elsewhere : (c : Config) (h : History) (sid : Sid) (o : ℕ) → Legal c h → there_is (λ x. eqb x.object o) (parked c h sid.0) ≡ false → without_calls c h sid o ≡ inside c h o
+left_elsewhere c h sid o legal away = rw (withdrawn_elsewhere c h legal (maxmsg c h o) sid.0 o away, cancelled_elsewhere c h legal sid.0 o away) refl
+
+body_withdrawn : (c : Config) (h : History) (sid : Sid) (o : ℕ) (kind : Kind) → Legal c h → body_of kind (without_calls c h sid o) ≡ without_call sid (body_of kind (inside c h o))
+body_withdrawn c h sid o (QueueKind given) legal = ap QueueBody (queue_withdrawn c h sid o (maxmsg c h o) given legal)
+body_withdrawn c h sid o (SemaphoreKind value) legal = ap SemaphoreBody (counter_cancelled c h sid o legal)
+
+pub withdrawn_at : (c : Config) (h : History) (t : Kept) (sid : Sid) (q : ℕ → Inside) → IsCore c h t → ((o : ℕ) → q o ≡ without_calls c h sid o) → sid.0 < length t.sessions → (w : Option Parked) → parked c h sid.0 ≡ w → IsWithdrawn c h t (after_withdrawal t sid) sid q
 withdrawn_at c h t sid q k made lt None e =
     let none : parked_on_at t.sessions sid.0 ≡ None = k.agrees.sessions.parks sid.0 ∙ ap (option_map (λ (p : Parked). p.object)) e in
     rw none (record {
       sessions = record { users = k.agrees.sessions.users; masks = k.agrees.sessions.masks; lives = k.agrees.sessions.lives; parks = λ s. k.agrees.sessions.parks s ∙ unparked c h sid e s; count = k.agrees.sessions.count };
-      rows = k.agrees.objects.rows ∙ rows_kept c h h q (queue c h) (λ o. refl) (λ o. refl) (λ o. refl) (λ o. made o ∙ withdrawn_elsewhere c h k.legal (maxmsg c h o) sid.0 o (ap (there_is (λ x. eqb x.object o)) e)) refl;
+      rows = k.agrees.objects.rows ∙ rows_kept c h h q (inside c h) (λ o. refl) (λ o. refl) (λ o. refl) (λ o. made o ∙ left_elsewhere c h sid o k.legal (ap (there_is (λ x. eqb x.object o)) e)) refl;
       others = refl;
     })
 withdrawn_at c h t sid q k made lt (Some p) e =
     let some : parked_on_at t.sessions sid.0 ≡ Some p.object = k.agrees.sessions.parks sid.0 ∙ ap (option_map (λ (p : Parked). p.object)) e in
     rw some (record {
       sessions = columns_moved t.sessions (hellos h) (user h) (mask h) (live h) (parked_object c h) None sid.0 lt (columns_of c h t.sessions k.agrees.sessions);
-      rows = rows_changed c h h q t.objects t.created p.object (withdrawn sid) (λ i. refl) (λ i. refl) (λ i. refl)
-          (λ i ne. made i ∙ withdrawn_elsewhere c h k.legal (maxmsg c h i) sid.0 i (ap (there_is (λ x. eqb x.object i)) e ∙ ne_eqb p.object i (λ q. ne (sym q))))
-          (λ z is. ap (λ r. tickets_of r z) (made p.object) ∙ queue_withdrawn c h sid p.object (maxmsg c h p.object) z k.legal)
+      rows = rows_changed c h h q t.objects t.created p.object (without_call sid) (λ i. refl) (λ i. refl) (λ i. refl)
+          (λ i ne. made i ∙ left_elsewhere c h sid i k.legal (ap (there_is (λ x. eqb x.object i)) e ∙ ne_eqb p.object i (λ q. ne (sym q))))
+          (λ x is. ap (body_of x.kind) (made p.object) ∙ body_withdrawn c h sid p.object x.kind k.legal)
           refl k.agrees.objects;
       others = refl;
     })
 
+-- an interrupt and a hang-up leave no call of their session
+interrupt_inside : (c : Config) (h : History) (sid : Sid) (o : ℕ) → inside c (after_accepted h (Do sid Interrupt)) o ≡ without_calls c h sid o
+interrupt_inside c h sid o = rw (queue_by_interrupt c h sid o, semaphore_by_interrupt h sid o) refl
+
+hangup_inside : (c : Config) (h : History) (sid : Sid) (o : ℕ) → inside c (after_accepted h (Hangup sid)) o ≡ without_calls c h sid o
+hangup_inside c h sid o = rw (queue_by_hangup c h sid o, semaphore_by_hangup h sid o) refl
+
 -- an accepted interrupt
-interrupted : (c : Config) (h : History) (t u : Kept) (sid : Sid) → IsCore c h t → IsWithdrawn c h t u sid (queue c (after_accepted h (Do sid Interrupt))) → Agrees c (after_accepted h (Do sid Interrupt)) (record t { sessions = u.sessions; objects = u.objects })
+interrupted : (c : Config) (h : History) (t u : Kept) (sid : Sid) → IsCore c h t → IsWithdrawn c h t u sid (inside c (after_accepted h (Do sid Interrupt))) → Agrees c (after_accepted h (Do sid Interrupt)) (record t { sessions = u.sessions; objects = u.objects })
 interrupted c h t u sid k w =
     let e = Do sid Interrupt in
     let g = grows c h e in
     let v = untouched c h _ e g (λ i. refl) (λ d. refl) refl (λ f. refl) refl (λ i. refl) (λ i. refl) in
     left_alone c h _ t u.sessions u.objects v g.nonblock_of
     (sessions_parked c h _ e u.sessions (λ s. cond (eqb sid.0 s) None (parked_object c h s)) g refl (λ s. refl) (λ s. refl) (λ s. refl) (column_by_interrupt c h sid) w.sessions)
-    (record { rows = w.rows ∙ rows_kept c h (after_accepted h e) (queue c (after_accepted h e)) (queue c (after_accepted h e)) (alive_same c h _ v) v.object' v.facts' (λ o. refl) v.creations'; count = k.agrees.objects.count ∙ sym v.creations' })
+    (record { rows = w.rows ∙ rows_kept c h (after_accepted h e) (inside c (after_accepted h e)) (inside c (after_accepted h e)) (alive_same c h _ v) v.object' v.facts' (λ o. refl) v.creations'; count = k.agrees.objects.count ∙ sym v.creations' })
     k.agrees
 
 pub agrees_interrupted : (c : Config) (h : History) (t : Kept) (sid : Sid) → IsCore c h t → sid.0 < length t.sessions → Agrees c (after_accepted h (Do sid Interrupt)) (after_withdrawal t sid)
 agrees_interrupted c h t sid k lt =
-    let w = withdrawn_at c h t sid (queue c (after_accepted h (Do sid Interrupt))) k (queue_by_interrupt c h sid) lt (parked c h sid.0) refl in
+    let w = withdrawn_at c h t sid (inside c (after_accepted h (Do sid Interrupt))) k (interrupt_inside c h sid) lt (parked c h sid.0) refl in
     subst (Agrees c (after_accepted h (Do sid Interrupt))) (sym w.others) (interrupted c h t (after_withdrawal t sid) sid k w)
 
 -- an accepted change of whether calls are refused where they would wait
@@ -237,137 +342,36 @@ agrees_set c h t sid desc nonblock x a is =
       sessions = sessions_kept c h _ e t.sessions g refl (λ s. refl) (λ s. refl) (λ s. refl) (λ s. parked_by_others c h e s refl) a.sessions;
       queues = directory_kept c h _ e Mq t.queues g refl a.queues;
       semaphores = directory_kept c h _ e Sem t.semaphores g refl a.semaphores;
-      objects = objects_same c h _ t u (λ o. queue_by_others c h e o refl) a;
+      objects = objects_same c h _ t u (λ o. others_inside c h e o refl refl) a;
       descriptions = descriptions_set h _ t.descriptions sid.0 desc.0 nonblock x u.held' g.nonblock_of u.opens' is a.descriptions;
     }
 
 -- an event that creates nothing, after which objects may be gone
-gone : (c : Config) (h k : History) (e : Event) (t : Kept) (ss : List Session) (xs : List ObjectRow) (queues' : Directory) (d : Descriptions) (q : ℕ → Queue) (p : Opening → Bool) (w : ℕ → Held → Bool) → Grows c h k e → ((o : ℕ) → named k o ≡ kept p (named h o)) → ((i : ℕ) → held k i ≡ kept (w i) (held h i)) → opens k ≡ opens h → creations k ≡ creations h → ((o : ℕ) → object c k o ≡ object c h o) → ((o : ℕ) → facts c k o ≡ facts c h o) → ((o : ℕ) → queue c k o ≡ q o) → bindings k Sem ≡ bindings h Sem → xs ≡ gathered_below (row_with c h q) (creations h) → SessionsAgree c k ss → DirectoryAgrees k Mq queues' → DescriptionsAgree k d → Agrees c h t → Agrees c k (record t { sessions = ss; queues = queues'; objects = living queues' t.semaphores d.rows xs; descriptions = d })
-gone c h k e t ss xs queues' d q p w g n h' i m o f same b rows' sessions' mq descriptions' a =
-    let sem : DirectoryAgrees k Sem t.semaphores = record { bound = a.semaphores.bound ∙ sym b; facts = a.semaphores.facts ∙ sym (g.directory_of Sem) } in
-    record {
-      sessions = sessions';
-      queues = mq;
-      semaphores = sem;
-      objects = objects_left c h k q queues' t.semaphores d xs t.created mq sem descriptions' (λ j. alive_less h k j p w (n j) h' i) o f same m rows' a.objects.count;
-      descriptions = descriptions';
-    }
-
--- an accepted close
-pub agrees_closed : (c : Config) (h : History) (t : Kept) (sid : Sid) (desc : Desc) → Agrees c h t → Agrees c (after_accepted h (Do sid (MqClose desc))) (after_close t sid.0 desc.0)
-agrees_closed c h t sid desc a =
-    let e = Do sid (MqClose desc) in
-    let g = grows c h e in
-    gone c h (after_accepted h e) e t t.sessions t.objects t.queues _ (queue c h) (λ x. false) (λ i x. eqb sid.0 x.session.0 && eqb desc.0 i) g g.named_by g.held_by g.open_count g.creation_count g.object_of g.facts_of (λ o. queue_by_others c h e o refl) (g.bindings_of Sem) a.objects.rows
-    (sessions_kept c h _ e t.sessions g refl (λ i. refl) (λ i. refl) (λ i. refl) (λ i. parked_by_others c h e i refl) a.sessions)
-    (directory_kept c h _ e Mq t.queues g refl a.queues)
-    (descriptions_dropped h (after_accepted h e) t.descriptions (λ row. is_of sid.0 row && is_desc desc.0 row) (λ i x. eqb sid.0 x.session.0 && eqb desc.0 i) (λ i x. refl) g.held_by g.nonblock_of g.open_count a.descriptions)
-    a
-
--- an accepted unlink
-pub agrees_unlinked : (c : Config) (h : History) (t : Kept) (sid : Sid) (name : List ℕ) → Agrees c h t → Agrees c (after_accepted h (Do sid (MqUnlink name))) (after_unlink t name)
-agrees_unlinked c h t sid name a =
-    let e = Do sid (MqUnlink name) in
-    let g = grows c h e in
-    let held' = λ (d : ℕ). g.held_by d ∙ kept_all (held h d) in
-    gone c h (after_accepted h e) e t t.sessions t.objects _ t.descriptions (queue c h) (λ asked. unlinks asked.family asked.name e) (λ i x. false) g g.named_by g.held_by g.open_count g.creation_count g.object_of g.facts_of (λ o. queue_by_others c h e o refl) (g.bindings_of Sem ∙ filter_all (bindings h Sem)) a.objects.rows
-    (sessions_kept c h _ e t.sessions g refl (λ i. refl) (λ i. refl) (λ i. refl) (λ i. parked_by_others c h e i refl) a.sessions)
-    (record { bound = ap (filter (λ (b : Binding). not (same_name b.name name))) a.queues.bound ∙ sym (g.bindings_of Mq); facts = a.queues.facts ∙ sym (g.directory_of Mq) })
-    (descriptions_kept h (after_accepted h e) t.descriptions held' g.nonblock_of g.open_count a.descriptions)
-    a
+pub gone : (c : Config) (h k : History) (e : Event) (t : Kept) (ss : List Session) (xs : List ObjectRow) (queues' semaphores' : Directory) (d : Descriptions) (q : ℕ → Inside) (p : Opening → Bool) (w : ℕ → Held → Bool) → Grows c h k e → ((o : ℕ) → named k o ≡ kept p (named h o)) → ((i : ℕ) → held k i ≡ kept (w i) (held h i)) → opens k ≡ opens h → creations k ≡ creations h → ((o : ℕ) → object c k o ≡ object c h o) → ((o : ℕ) → facts c k o ≡ facts c h o) → ((o : ℕ) → inside c k o ≡ q o) → xs ≡ gathered_below (row_with c h q) (creations h) → SessionsAgree c k ss → DirectoryAgrees k Mq queues' → DirectoryAgrees k Sem semaphores' → DescriptionsAgree k d → Agrees c h t → Agrees c k (record t { sessions = ss; queues = queues'; semaphores = semaphores'; objects = living queues' semaphores' d.rows xs; descriptions = d })
+gone c h k e t ss xs queues' semaphores' d q p w g n h' i m o f same rows' sessions' mq sem descriptions' a = record {
+  sessions = sessions';
+  queues = mq;
+  semaphores = sem;
+  objects = objects_left c h k q queues' semaphores' d xs t.created mq sem descriptions' (λ j. alive_less h k j p w (n j) h' i) o f same m rows' a.objects.count;
+  descriptions = descriptions';
+}
 
 -- an accepted hang-up
-hung : (c : Config) (h : History) (t u : Kept) (sid : Sid) → Agrees c h t → IsWithdrawn c h t u sid (queue c (after_accepted h (Hangup sid))) → Agrees c (after_accepted h (Hangup sid)) (ended (record t { sessions = u.sessions; objects = u.objects }) sid.0)
+hung : (c : Config) (h : History) (t u : Kept) (sid : Sid) → Agrees c h t → IsWithdrawn c h t u sid (inside c (after_accepted h (Hangup sid))) → Agrees c (after_accepted h (Hangup sid)) (ended (record t { sessions = u.sessions; objects = u.objects }) sid.0)
 hung c h t u sid a w =
     let e = Hangup sid in
     let g = grows c h e in
-    gone c h (after_accepted h e) e t (changed hung_up u.sessions sid.0) u.objects t.queues _ (queue c (after_accepted h e)) (λ x. false) (λ i x. eqb sid.0 x.session.0) g g.named_by g.held_by g.open_count g.creation_count g.object_of g.facts_of (λ o. refl) (g.bindings_of Sem) w.rows
+    gone c h (after_accepted h e) e t (changed hung_up u.sessions sid.0) u.objects t.queues t.semaphores _ (inside c (after_accepted h e)) (λ x. false) (λ i x. eqb sid.0 x.session.0) g g.named_by g.held_by g.open_count g.creation_count g.object_of g.facts_of (λ o. refl) w.rows
     (sessions_ended c h u.sessions sid (λ s. cond (eqb sid.0 s) None (parked_object c h s)) g (column_by_hangup c h sid) w.sessions)
     (directory_kept c h _ e Mq t.queues g refl a.queues)
+    (directory_kept c h _ e Sem t.semaphores g refl a.semaphores)
     (descriptions_dropped h (after_accepted h e) t.descriptions (is_of sid.0) (λ i x. eqb sid.0 x.session.0) (λ i x. refl) g.held_by g.nonblock_of g.open_count a.descriptions)
     a
 
 pub agrees_ended : (c : Config) (h : History) (t : Kept) (sid : Sid) → IsCore c h t → sid.0 < length t.sessions → Agrees c (after_accepted h (Hangup sid)) (after_hangup t sid)
 agrees_ended c h t sid k lt =
-    let w = withdrawn_at c h t sid (queue c (after_accepted h (Hangup sid))) k (queue_by_hangup c h sid) lt (parked c h sid.0) refl in
+    let w = withdrawn_at c h t sid (inside c (after_accepted h (Hangup sid))) k (hangup_inside c h sid) lt (parked c h sid.0) refl in
     subst (λ v. Agrees c (after_accepted h (Hangup sid)) (ended v sid.0)) (sym w.others) (hung c h t (after_withdrawal t sid) sid k.agrees w)
-
--- an accepted open of what is bound
-new_of_bound : (h : History) (sid : Sid) (asked : QueueOpen) (o : ℕ) → bound h Mq asked.name ≡ Some o → is_new (queue_opening sid asked) (is_bound h) ≡ false
-new_of_bound h sid asked o e = rw (bound_iff h Mq asked.name ∙ ap is_some e) (and_false (has_create asked.flags)) where
-  and_false : (b : Bool) → (b && false) ≡ false
-  and_false true = refl
-  and_false false = refl
-
--- the object that is opened was alive, and the others are as they were
-found_at : (n : Bool) (b : Bool) (any : Bool) (was : Bool) → (n || any) ≡ was → (b ≡ true → was ≡ true) → (n || (b || any)) ≡ was
-found_at n true any was e live = or_true n ∙ sym (live refl) where
-  or_true : (b : Bool) → (b || true) ≡ true
-  or_true true = refl
-  or_true false = refl
-found_at n false any was e live = e
-
-alive_is_so : (h : History) (o : ℕ) → (is_some (named h o) || any_below (λ d. gives_object o (held h d)) (opens h)) ≡ alive h o
-unfolding alive
-alive_is_so h o = refl
-
-found_alive : (c : Config) (h : History) (sid : Sid) (asked : QueueOpen) (b o : ℕ) → bound h Mq asked.name ≡ Some b → alive (after_accepted h (Do sid (MqOpen asked))) o ≡ alive h o
-found_alive c h sid asked b o is =
-    alive_opened c h (after_accepted h (Do sid (MqOpen asked))) sid asked b o (grows c h (Do sid (MqOpen asked))) (rw is refl)
-    ∙ rw (new_of_bound h sid asked b is) (found_at (is_some (named h o)) (eqb b o) (any_below (λ d. gives_object o (held h d)) (opens h)) (alive h o) (alive_is_so h o) (λ e. ap (alive h) (sym (eqb-true b o e)) ∙ bound_alive h Mq asked.name b is))
-
-pub agrees_found : (c : Config) (h : History) (t : Kept) (sid : Sid) (asked : QueueOpen) (o : ℕ) → Agrees c h t → bound h Mq asked.name ≡ Some o → Agrees c (after_accepted h (Do sid (MqOpen asked))) (after_found t (record { session = sid; access = asked.access; nonblock = has_nonblock asked.flags }) o)
-agrees_found c h t sid asked o a is =
-    let e = Do sid (MqOpen asked) in
-    let g = grows c h e in
-    let old = new_of_bound h sid asked o is in
-    record {
-      sessions = sessions_kept c h _ e t.sessions g refl (λ s. refl) (λ s. refl) (λ s. refl) (λ s. parked_by_others c h e s refl) a.sessions;
-      queues = directory_kept c h _ e Mq t.queues g (rw old refl) a.queues;
-      semaphores = directory_kept c h _ e Sem t.semaphores g (rw old refl) a.semaphores;
-      objects = objects_kept c h _ t.objects t.created (λ i. found_alive c h sid asked o i is) (λ i. g.object_of i ∙ rw old refl) (λ i. g.facts_of i ∙ rw old refl) (λ i. queue_by_others c h e i refl) (g.creation_count ∙ rw old refl) a.objects;
-      descriptions = descriptions_opened c h _ t.descriptions sid asked o g a.descriptions (rw is refl);
-    }
-
--- an accepted open that creates
-created_opened : (h : History) (sid : Sid) (asked : QueueOpen) (o : ℕ) → is_new (queue_opening sid asked) (is_bound h) ≡ true → bound h Mq asked.name ≡ None → o ≡ creations h → opened h (queue_opening sid asked) ≡ Some o
-created_opened h sid asked o new none count = rw (none, (and_parts (has_create asked.flags) (not (is_bound h Mq asked.name)) new).0) (ap Some (sym count))
-
-created_other : (c : Config) (h : History) (sid : Sid) (asked : QueueOpen) (o : ℕ) → is_new (queue_opening sid asked) (is_bound h) ≡ true → bound h Mq asked.name ≡ None → o < creations h → alive (after_accepted h (Do sid (MqOpen asked))) o ≡ alive h o
-created_other c h sid asked o new none lt =
-    let other : eqb (creations h) o ≡ false = ne_eqb (creations h) o (λ (q : creations h ≡ o). omega arith) in
-    alive_opened c h (after_accepted h (Do sid (MqOpen asked))) sid asked (creations h) o (grows c h (Do sid (MqOpen asked))) (created_opened h sid asked (creations h) new none refl)
-    ∙ rw (new, other) (alive_is_so h o)
-
-created_alive : (c : Config) (h : History) (sid : Sid) (asked : QueueOpen) → is_new (queue_opening sid asked) (is_bound h) ≡ true → bound h Mq asked.name ≡ None → alive (after_accepted h (Do sid (MqOpen asked))) (creations h) ≡ true
-created_alive c h sid asked new none =
-    alive_opened c h (after_accepted h (Do sid (MqOpen asked))) sid asked (creations h) (creations h) (grows c h (Do sid (MqOpen asked))) (created_opened h sid asked (creations h) new none refl)
-    ∙ rw (new, eq-eqb (creations h) (creations h) refl) refl
-
-pub agrees_created : (c : Config) (h : History) (t : Kept) (sid : Sid) (asked : QueueOpen) (who : Cred) → Agrees c h t → is_new (queue_opening sid asked) (is_bound h) ≡ true → bound h Mq asked.name ≡ None → cred c h sid.0 ≡ Some who → Agrees c (after_accepted h (Do sid (MqOpen asked))) (after_created t (record { session = sid; access = asked.access; nonblock = has_nonblock asked.flags }) asked.name (made_by c (queue_opening sid asked) who) (first_facts (queue_opening sid asked) (mask h sid.0) who))
-agrees_created c h t sid asked who a new none is =
-    let e = Do sid (MqOpen asked) in
-    let g = grows c h e in
-    let other = λ (o : ℕ) (lt : o < creations h). ne_eqb (creations h) o (λ (q : creations h ≡ o). absurd (omega arith)) in
-    record {
-      sessions = sessions_kept c h _ e t.sessions g refl (λ s. refl) (λ s. refl) (λ s. refl) (λ s. parked_by_others c h e s refl) a.sessions;
-      queues = record {
-        bound = ap (λ l. l ++ record { name = asked.name; object = t.created } ∷ []) a.queues.bound ∙ ap (λ n. bindings h Mq ++ record { name = asked.name; object = n } ∷ []) a.objects.count ∙ sym (g.bindings_of Mq ∙ rw new refl);
-        facts = a.queues.facts ∙ sym (g.directory_of Mq);
-      };
-      semaphores = directory_kept c h _ e Sem t.semaphores g (rw new refl) a.semaphores;
-      objects = objects_created c h (after_accepted h e) t.objects t.created (made_by c (queue_opening sid asked) who) (first_facts (queue_opening sid asked) (mask h sid.0) who) (g.creation_count ∙ rw new refl)
-          (λ o lt. created_other c h sid asked o new none lt)
-          (λ o lt. g.object_of o ∙ rw (new, other o lt) refl)
-          (λ o lt. g.facts_of o ∙ rw (new, other o lt) refl)
-          (λ o. queue_by_others c h e o refl)
-          (created_alive c h sid asked new none)
-          (g.object_of (creations h) ∙ rw (new, eq-eqb (creations h) (creations h) refl, is) refl)
-          (g.facts_of (creations h) ∙ rw (new, eq-eqb (creations h) (creations h) refl, is) refl)
-          (not_created_empty c h (creations h) (omega arith))
-          a.objects;
-      descriptions = descriptions_opened c h _ t.descriptions sid asked t.created g a.descriptions (created_opened h sid asked t.created new none a.objects.count);
-    }
 
 -- whether there is a verdict, as a test says
 pub none_from : {X : Type 0} (o : Option X) (b : Bool) → is_some o ≡ not b → b ≡ true → o ≡ None

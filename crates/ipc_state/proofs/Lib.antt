@@ -4,9 +4,13 @@ pub mod Lookups
 pub mod QueueLookups
 pub mod Accepted
 pub mod QueueSteps
+pub mod SemaphoreSteps
 pub mod HeldQueues
 pub mod ParkedColumn
 pub mod SessionTables
 pub mod ObjectTables
 pub mod Serving
+pub mod Posting
+pub mod Opens
 pub mod Accepting
+pub mod Opened

@@ -30,14 +30,15 @@ use Rattle.ipc_tables.specs.declared.rows.Session.{Session}
 use Rattle.ipc_tables.specs.declared.rows.ObjectRow.{ObjectRow}
 use Rattle.ipc_descr.specs.declared.row.Row.{Row}
 use Rattle.ipc_descr.specs.Descriptions.{Descriptions, is_desc, is_of, is_to, is_open}
-use Rattle.ipc_tables.specs.Objects.{is_number, row_at, facts_at, queue_in, queue_at}
+use Rattle.ipc_tables.specs.Objects.{is_number, row_at, facts_at, queue_in, queue_at, semaphore_in, semaphore_at}
+use Rattle.ipc_tables.specs.declared.rows.Body.{Body}
 use Rattle.ipc_tables.specs.Kept.{Kept, directory_kept, parked_on_at, is_alive}
-use Rattle.ipc_queue.specs.Tickets.{Tickets}
-use Rattle.ipc_terms.specs.Objects.{of_queue, as_queue}
+use Rattle.ipc_terms.specs.Objects.{of_queue, as_queue, of_semaphore, as_semaphore}
 use Rattle.ipc_terms.specs.declared.object.Kind.{Kind}
-use Rattle.ipc_terms.specs.declared.object.Kind.TheVariants.{Queue as QueueKind}
-use Rattle.ipc_policy.specs.Queues.{Queue, queue, attributes}
-use Rattle.ipc_state.specs.Agrees.{Agrees, SessionsAgree, DirectoryAgrees, ObjectsAgree, DescriptionsAgree, tickets_of, queue_meant, body_of, row_made, row_with, row_held, held_in}
+use Rattle.ipc_terms.specs.declared.object.Kind.TheVariants.{Queue as QueueKind, Semaphore as SemaphoreKind}
+use Rattle.ipc_policy.specs.Queues.{queue}
+use Rattle.ipc_policy.specs.Semaphores.{semaphore}
+use Rattle.ipc_state.specs.Agrees.{Agrees, SessionsAgree, DirectoryAgrees, ObjectsAgree, DescriptionsAgree, tickets_of, queue_meant, counter_of, semaphore_meant, Inside, inside, body_of, row_made, row_with, row_held, held_in}
 use Rattle.ipc_terms.proofs.Lists.{counted_is, found_any, eqb_swapped}
 use Rattle.ipc_state.proofs.Gathered.{gathered_count}
 
@@ -185,70 +186,82 @@ held_alive h d x e =
     (any_below_at (λ i. gives_object x.object (held h i)) (opens h) d (held_below h d (ap is_some e)) (ap (gives_object x.object) e ∙ eq-eqb x.object x.object refl))
 
 -- objects
-living_below : (c : Config) (h : History) (o : ℕ) (b : Bool) (w : Option Object) (v : Option Facts) (q : Queue) → object c h o ≡ w → is_some (cond b (row_made o w v q) None) ≡ true → o < creations h
+living_below : (c : Config) (h : History) (o : ℕ) (b : Bool) (w : Option Object) (v : Option Facts) (q : Inside) → object c h o ≡ w → is_some (cond b (row_made o w v q) None) ≡ true → o < creations h
 living_below c h o true None v q e k = absurd cc
 living_below c h o true (Some x) v q e k = object_below c h o (ap is_some e)
 living_below c h o false w v q e k = absurd cc
 
-pub row_other : (o i : ℕ) (b : Bool) (w : Option Object) (v : Option Facts) (q : Queue) → eqb i o ≡ false → passes (is_number o) (cond b (row_made i w v q) None) ≡ false
+pub row_other : (o i : ℕ) (b : Bool) (w : Option Object) (v : Option Facts) (q : Inside) → eqb i o ≡ false → passes (is_number o) (cond b (row_made i w v q) None) ≡ false
 row_other o i true None v q e = refl
 row_other o i true (Some x) None q e = refl
 row_other o i true (Some x) (Some y) q e = e
 row_other o i false w v q e = refl
 
-pub row_own : (o : ℕ) (b : Bool) (w : Option Object) (v : Option Facts) (q : Queue) (row : ObjectRow) → cond b (row_made o w v q) None ≡ Some row → is_number o row ≡ true
+pub row_own : (o : ℕ) (b : Bool) (w : Option Object) (v : Option Facts) (q : Inside) (row : ObjectRow) → cond b (row_made o w v q) None ≡ Some row → is_number o row ≡ true
 row_own o true None v q row e = absurd cc
 row_own o true (Some x) None q row e = absurd cc
 row_own o true (Some x) (Some y) q row e = let same : record { number = o; object = x; facts = y; body = body_of x.kind q } ≡ row = cc in ap (λ (r : ObjectRow). eqb r.number o) (sym same) ∙ eq-eqb o o refl
 row_own o false w v q row e = absurd cc
 
-pub row_at_is : (c : Config) (h : History) (objects : List ObjectRow) (created o : ℕ) → ObjectsAgree c h objects created → row_at objects o ≡ row_with c h (queue c h) o
+pub row_at_is : (c : Config) (h : History) (objects : List ObjectRow) (created o : ℕ) → ObjectsAgree c h objects created → row_at objects o ≡ row_with c h (inside c h) o
 row_at_is c h objects created o a =
     ap (find (is_number o)) a.rows
-    ∙ gathered_find (is_number o) (row_with c h (queue c h)) (creations h) o
-    (λ e. living_below c h o (alive h o) (object c h o) (facts c h o) (queue c h o) refl e)
-    (λ i ne. row_other o i (alive h i) (object c h i) (facts c h i) (queue c h i) (ne_eqb i o ne))
-    (λ row e. row_own o (alive h o) (object c h o) (facts c h o) (queue c h o) row e)
+    ∙ gathered_find (is_number o) (row_with c h (inside c h)) (creations h) o
+    (λ e. living_below c h o (alive h o) (object c h o) (facts c h o) (inside c h o) refl e)
+    (λ i ne. row_other o i (alive h i) (object c h i) (facts c h i) (inside c h i) (ne_eqb i o ne))
+    (λ row e. row_own o (alive h o) (object c h o) (facts c h o) (inside c h o) row e)
 
 -- what is told of the row of an object that is alive
-facts_column : (o : ℕ) (b : Bool) (w : Option Object) (v : Option Facts) (q : Queue) → b ≡ true → is_some w ≡ is_some v → option_map (λ (row : ObjectRow). row.facts) (cond b (row_made o w v q) None) ≡ v
+facts_column : (o : ℕ) (b : Bool) (w : Option Object) (v : Option Facts) (q : Inside) → b ≡ true → is_some w ≡ is_some v → option_map (λ (row : ObjectRow). row.facts) (cond b (row_made o w v q) None) ≡ v
 facts_column o true None None q e k = refl
 facts_column o true None (Some y) q e k = absurd cc
 facts_column o true (Some x) None q e k = absurd cc
 facts_column o true (Some x) (Some y) q e k = refl
 facts_column o false w v q e k = absurd cc
 
-object_column : (o : ℕ) (b : Bool) (w : Option Object) (v : Option Facts) (q : Queue) → b ≡ true → is_some w ≡ is_some v → option_map (λ (row : ObjectRow). row.object) (cond b (row_made o w v q) None) ≡ w
+object_column : (o : ℕ) (b : Bool) (w : Option Object) (v : Option Facts) (q : Inside) → b ≡ true → is_some w ≡ is_some v → option_map (λ (row : ObjectRow). row.object) (cond b (row_made o w v q) None) ≡ w
 object_column o true None None q e k = refl
 object_column o true None (Some y) q e k = absurd cc
 object_column o true (Some x) None q e k = absurd cc
 object_column o true (Some x) (Some y) q e k = refl
 object_column o false w v q e k = absurd cc
 
-queue_of_kind : (x : Object) (q : Queue) → queue_in (body_of x.kind q) ≡ option_map (tickets_of q) (of_queue x.kind)
+queue_of_kind : (x : Object) (q : Inside) → queue_in (body_of x.kind q) ≡ option_map (tickets_of q.queue) (of_queue x.kind)
 queue_of_kind x q = at x.kind where
-  at : (kind : Kind) → queue_in (body_of kind q) ≡ option_map (tickets_of q) (of_queue kind)
+  at : (kind : Kind) → queue_in (body_of kind q) ≡ option_map (tickets_of q.queue) (of_queue kind)
   at (QueueKind attributes) = refl
+  at (SemaphoreKind value) = refl
 
-queue_column : (o : ℕ) (b : Bool) (w : Option Object) (v : Option Facts) (q : Queue) → b ≡ true → is_some w ≡ is_some v → option_and_then (λ (row : ObjectRow). queue_in row.body) (cond b (row_made o w v q) None) ≡ option_map (tickets_of q) (as_queue w)
-queue_column o true None None q e k = refl
-queue_column o true None (Some y) q e k = absurd cc
-queue_column o true (Some x) None q e k = absurd cc
-queue_column o true (Some x) (Some y) q e k = queue_of_kind x q
-queue_column o false w v q e k = absurd cc
+semaphore_of_kind : (x : Object) (q : Inside) → semaphore_in (body_of x.kind q) ≡ option_map (λ first_value. counter_of q.semaphore) (of_semaphore x.kind)
+semaphore_of_kind x q = at x.kind where
+  at : (kind : Kind) → semaphore_in (body_of kind q) ≡ option_map (λ first_value. counter_of q.semaphore) (of_semaphore kind)
+  at (QueueKind attributes) = refl
+  at (SemaphoreKind value) = refl
+
+body_column : {A : Type 0} (of : Body → Option A) (meant : Option Object → Option A) (q : Inside) → meant None ≡ None → ((x : Object) → of (body_of x.kind q) ≡ meant (Some x)) → (o : ℕ) (b : Bool) (w : Option Object) (v : Option Facts) → b ≡ true → is_some w ≡ is_some v → option_and_then (λ (row : ObjectRow). of row.body) (cond b (row_made o w v q) None) ≡ meant w
+body_column of meant q none some o true None None e k = sym none
+body_column of meant q none some o true None (Some y) e k = absurd cc
+body_column of meant q none some o true (Some x) None e k = absurd cc
+body_column of meant q none some o true (Some x) (Some y) e k = some x
+body_column of meant q none some o false w v e k = absurd cc
 
 pub object_alive : (c : Config) (h : History) (t : Kept) (o : ℕ) → Agrees c h t → alive h o ≡ true → option_map (λ (row : ObjectRow). row.object) (row_at t.objects o) ≡ object c h o
 object_alive c h t o a k =
     ap (option_map (λ (row : ObjectRow). row.object)) (row_at_is c h t.objects t.created o a.objects)
-    ∙ object_column o (alive h o) (object c h o) (facts c h o) (queue c h o) k (object_with_facts c h o)
+    ∙ object_column o (alive h o) (object c h o) (facts c h o) (inside c h o) k (object_with_facts c h o)
 
 pub queue_alive : (c : Config) (h : History) (t : Kept) (o : ℕ) → Agrees c h t → alive h o ≡ true → queue_at t.objects o ≡ queue_meant c h o
 queue_alive c h t o a k =
     ap (option_and_then (λ (row : ObjectRow). queue_in row.body)) (row_at_is c h t.objects t.created o a.objects)
-    ∙ queue_column o (alive h o) (object c h o) (facts c h o) (queue c h o) k (object_with_facts c h o)
+    ∙ body_column queue_in (λ w. option_map (tickets_of (queue c h o)) (as_queue w)) (inside c h o) refl (λ x. queue_of_kind x (inside c h o)) o (alive h o) (object c h o) (facts c h o) k (object_with_facts c h o)
+
+pub semaphore_alive : (c : Config) (h : History) (t : Kept) (o : ℕ) → Agrees c h t → alive h o ≡ true → semaphore_at t.objects o ≡ semaphore_meant c h o
+semaphore_alive c h t o a k =
+    ap (option_and_then (λ (row : ObjectRow). semaphore_in row.body)) (row_at_is c h t.objects t.created o a.objects)
+    ∙ body_column semaphore_in (λ w. option_map (λ first_value. counter_of (semaphore h o)) (as_semaphore w)) (inside c h o) refl (λ x. semaphore_of_kind x (inside c h o)) o (alive h o) (object c h o) (facts c h o) k (object_with_facts c h o)
 
 facts_alive : (c : Config) (h : History) (objects : List ObjectRow) (created o : ℕ) → ObjectsAgree c h objects created → alive h o ≡ true → facts_at objects o ≡ facts c h o
-facts_alive c h objects created o a k = ap (option_map (λ (row : ObjectRow). row.facts)) (row_at_is c h objects created o a) ∙ facts_column o (alive h o) (object c h o) (facts c h o) (queue c h o) k (object_with_facts c h o)
+facts_alive c h objects created o a k = ap (option_map (λ (row : ObjectRow). row.facts)) (row_at_is c h objects created o a) ∙ facts_column o (alive h o) (object c h o) (facts c h o) (inside c h o) k (object_with_facts c h o)
 
 pub facts_found : (c : Config) (h : History) (objects : List ObjectRow) (created : ℕ) (f : Family) (name : List ℕ) → ObjectsAgree c h objects created → option_and_then (facts_at objects) (bound h f name) ≡ option_and_then (facts c h) (bound h f name)
 facts_found c h objects created f name a = at (bound h f name) refl where

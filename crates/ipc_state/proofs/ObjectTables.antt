@@ -1,44 +1,33 @@
 -- What an accepted event does to the tables of names, objects and descriptions.
-use Rattle.std.proofs.Common.{◌≡◌, ℕ, ◌+◌, ◌<◌, Bool, true, false, not, ◌&&◌, ◌||◌, eqb, cond, List, [], ◌∷◌, ◌++◌, filter, Option, Some, None, is_some, refl, sym, ap, ◌∙◌, arith, add-one}
+use Rattle.std.proofs.Common.{◌≡◌, ℕ, ◌+◌, ◌<◌, Bool, true, false, not, ◌&&◌, ◌||◌, eqb, cond, List, [], ◌∷◌, ◌++◌, filter, Option, Some, None, is_some, refl, sym, ap, ◌∙◌}
 use Rattle.std.specs.Prelude.{option_and_then, if◌then◌else◌}
-use Rattle.std.specs.Option.{option_or, option_map}
+use Rattle.std.specs.Option.{option_map}
 use Rattle.std.proofs.lemmas.Bool.{eqb-true, eq-eqb, ne_eqb}
-use Rattle.ipc_terms.specs.Flags.{has_nonblock}
 use Rattle.ipc_terms.specs.declared.facts.Facts.{Facts}
-use Rattle.ipc_terms.specs.declared.ids.Sid.{Sid}
 use Rattle.ipc_terms.specs.declared.ids.Family.{Family}
 use Rattle.ipc_terms.specs.declared.ids.Family.TheVariants.{Mq, Sem}
-use Rattle.ipc_terms.specs.declared.call.QueueOpen.{QueueOpen}
-use Rattle.ipc_terms.specs.declared.call.Call.TheVariants.{MqOpen}
 use Rattle.ipc_terms.specs.declared.record.Event.{Event}
-use Rattle.ipc_terms.specs.declared.record.Event.TheVariants.{Do}
 use Rattle.ipc_names.specs.Directory.{Directory}
 use Rattle.ipc_policy.specs.declared.config.Config.{Config}
 use Rattle.ipc_policy.specs.declared.config.Held.{Held}
 use Rattle.ipc_terms.specs.declared.object.Object.{Object}
 use Rattle.ipc_policy.specs.History.{History, kept, listed, gathered_below, any_below}
-use Rattle.ipc_policy.specs.Names.{Opening, queue_opening, is_bound, creations}
+use Rattle.ipc_policy.specs.Names.{Opening, is_bound, creations}
 use Rattle.ipc_policy.specs.Objects.{object, facts}
-use Rattle.ipc_policy.specs.Descriptions.{opens, opened, held_as, if_of, held, holds, is_nonblock}
+use Rattle.ipc_policy.specs.Descriptions.{opens, if_of, held, holds, is_nonblock}
 use Rattle.ipc_policy.specs.Life.{named, bindings, gives_object, alive}
-use Rattle.ipc_policy.specs.Grow.{Grows, bindings_after, named_after}
+use Rattle.ipc_policy.specs.Grow.{Grows, bindings_after}
 use Rattle.ipc_policy.proofs.Gathering.{gathered_same, gathered_more, passing, gathered_filter, any_below_same, any_below_more, more_at}
 use Rattle.ipc_policy.proofs.Holding.{kept_some}
 use Rattle.ipc_tables.specs.declared.rows.ObjectRow.{ObjectRow}
 use Rattle.ipc_descr.specs.declared.row.Row.{Row}
 use Rattle.ipc_terms.specs.Lists.{changed_first}
-use Rattle.ipc_descr.specs.Descriptions.{Descriptions, is_desc, with_open, with_nonblock}
-use Rattle.ipc_tables.specs.Objects.{is_number, new_body, new_row, with_body, with_queue}
-use Rattle.ipc_tables.specs.declared.rows.Body.TheVariants.{Queue as QueueBody}
+use Rattle.ipc_descr.specs.Descriptions.{Descriptions, is_desc, with_nonblock}
+use Rattle.ipc_tables.specs.Objects.{is_number, new_body, new_row}
+use Rattle.ipc_tables.specs.declared.rows.Body.{Body}
 use Rattle.ipc_tables.specs.Kept.{is_alive}
 use Rattle.ipc_tables.specs.Steps.{living}
-use Rattle.ipc_queue.specs.Tickets.{Tickets}
-use Rattle.ipc_terms.specs.Objects.{of_queue, as_queue}
-use Rattle.ipc_terms.specs.declared.call.Attributes.{Attributes}
-use Rattle.ipc_terms.specs.declared.object.Kind.{Kind}
-use Rattle.ipc_terms.specs.declared.object.Kind.TheVariants.{Queue as QueueKind}
-use Rattle.ipc_policy.specs.Queues.{Queue, empty_queue, queue, attributes}
-use Rattle.ipc_state.specs.Agrees.{DirectoryAgrees, ObjectsAgree, DescriptionsAgree, tickets_of, body_of, row_made, row_with, row_held}
+use Rattle.ipc_state.specs.Agrees.{DirectoryAgrees, ObjectsAgree, DescriptionsAgree, Inside, inside, body_of, row_made, row_with, row_held}
 use Rattle.ipc_state.proofs.Lookups.{alive_is, row_of_other, row_of_own, row_other, row_own}
 use Rattle.ipc_state.proofs.Gathered.{gathered_changed}
 
@@ -49,16 +38,16 @@ directory_kept c h k e f t g b a = record {
 }
 
 -- objects, where nothing changes
-pub row_kept : (o : ℕ) (b d : Bool) (w x : Option Object) (v y : Option Facts) (m n : Queue) → b ≡ d → w ≡ x → v ≡ y → m ≡ n → cond b (row_made o w v m) None ≡ cond d (row_made o x y n) None
+pub row_kept : (o : ℕ) (b d : Bool) (w x : Option Object) (v y : Option Facts) (m n : Inside) → b ≡ d → w ≡ x → v ≡ y → m ≡ n → cond b (row_made o w v m) None ≡ cond d (row_made o x y n) None
 row_kept o b d w x v y m n one two three four = rw (one, two, three, four) refl
 
 -- the rows are gathered from the values of another history
-pub rows_kept : (c : Config) (h k : History) (p q : ℕ → Queue) → ((o : ℕ) → alive k o ≡ alive h o) → ((o : ℕ) → object c k o ≡ object c h o) → ((o : ℕ) → facts c k o ≡ facts c h o) → ((o : ℕ) → p o ≡ q o) → creations k ≡ creations h → gathered_below (row_with c h q) (creations h) ≡ gathered_below (row_with c k p) (creations k)
+pub rows_kept : (c : Config) (h k : History) (p q : ℕ → Inside) → ((o : ℕ) → alive k o ≡ alive h o) → ((o : ℕ) → object c k o ≡ object c h o) → ((o : ℕ) → facts c k o ≡ facts c h o) → ((o : ℕ) → p o ≡ q o) → creations k ≡ creations h → gathered_below (row_with c h q) (creations h) ≡ gathered_below (row_with c k p) (creations k)
 rows_kept c h k p q l o f m n = sym (ap (gathered_below (row_with c k p)) n ∙ gathered_same (row_with c k p) (row_with c h q) (creations h) (λ i lt. row_kept i (alive k i) (alive h i) (object c k i) (object c h i) (facts c k i) (facts c h i) (p i) (q i) (l i) (o i) (f i) (m i)))
 
-pub objects_kept : (c : Config) (h k : History) (xs : List ObjectRow) (created : ℕ) → ((o : ℕ) → alive k o ≡ alive h o) → ((o : ℕ) → object c k o ≡ object c h o) → ((o : ℕ) → facts c k o ≡ facts c h o) → ((o : ℕ) → queue c k o ≡ queue c h o) → creations k ≡ creations h → ObjectsAgree c h xs created → ObjectsAgree c k xs created
+pub objects_kept : (c : Config) (h k : History) (xs : List ObjectRow) (created : ℕ) → ((o : ℕ) → alive k o ≡ alive h o) → ((o : ℕ) → object c k o ≡ object c h o) → ((o : ℕ) → facts c k o ≡ facts c h o) → ((o : ℕ) → inside c k o ≡ inside c h o) → creations k ≡ creations h → ObjectsAgree c h xs created → ObjectsAgree c k xs created
 objects_kept c h k xs created l o f m n a = record {
-  rows = a.rows ∙ rows_kept c h k (queue c k) (queue c h) l o f m n;
+  rows = a.rows ∙ rows_kept c h k (inside c k) (inside c h) l o f m n;
   count = a.count ∙ sym n;
 }
 
@@ -88,63 +77,56 @@ none_if : (d : Bool) → ◌≡◌ {A = Option ObjectRow} None (cond d None None
 none_if true = refl
 none_if false = refl
 
-row_left : (o : ℕ) (keep : ObjectRow → Bool) (b d : Bool) (w : Option Object) (v : Option Facts) (q : Queue) → ((row : ObjectRow) → row.number ≡ o → keep row ≡ d) → (d ≡ true → b ≡ true) → passing keep (cond b (row_made o w v q) None) ≡ cond d (row_made o w v q) None
+row_left : (o : ℕ) (keep : ObjectRow → Bool) (b d : Bool) (w : Option Object) (v : Option Facts) (q : Inside) → ((row : ObjectRow) → row.number ≡ o → keep row ≡ d) → (d ≡ true → b ≡ true) → passing keep (cond b (row_made o w v q) None) ≡ cond d (row_made o w v q) None
 row_left o keep true d None v q all less = none_if d
 row_left o keep true d (Some x) None q all less = none_if d
 row_left o keep true d (Some x) (Some y) q all less = ap (λ b. cond b (row_made o (Some x) (Some y) q) None) (all (record { number = o; object = x; facts = y; body = body_of x.kind q }) refl)
 row_left o keep false true w v q all less = absurd (let k = less refl in cc)
 row_left o keep false false w v q all less = refl
 
-pub objects_left : (c : Config) (h k : History) (q' : ℕ → Queue) (queues semaphores : Directory) (t : Descriptions) (xs : List ObjectRow) (created : ℕ) → DirectoryAgrees k Mq queues → DirectoryAgrees k Sem semaphores → DescriptionsAgree k t → ((o : ℕ) → alive k o ≡ true → alive h o ≡ true) → ((o : ℕ) → object c k o ≡ object c h o) → ((o : ℕ) → facts c k o ≡ facts c h o) → ((o : ℕ) → queue c k o ≡ q' o) → creations k ≡ creations h → xs ≡ gathered_below (row_with c h q') (creations h) → created ≡ creations h → ObjectsAgree c k (living queues semaphores t.rows xs) created
+pub objects_left : (c : Config) (h k : History) (q' : ℕ → Inside) (queues semaphores : Directory) (t : Descriptions) (xs : List ObjectRow) (created : ℕ) → DirectoryAgrees k Mq queues → DirectoryAgrees k Sem semaphores → DescriptionsAgree k t → ((o : ℕ) → alive k o ≡ true → alive h o ≡ true) → ((o : ℕ) → object c k o ≡ object c h o) → ((o : ℕ) → facts c k o ≡ facts c h o) → ((o : ℕ) → inside c k o ≡ q' o) → creations k ≡ creations h → xs ≡ gathered_below (row_with c h q') (creations h) → created ≡ creations h → ObjectsAgree c k (living queues semaphores t.rows xs) created
 objects_left c h k q' queues semaphores t xs created q s d less o f m n rows count = record {
   rows =
       ap (filter (λ (row : ObjectRow). is_alive queues semaphores t.rows row.number)) rows
       ∙ gathered_filter (λ (row : ObjectRow). is_alive queues semaphores t.rows row.number) (row_with c h q') (creations h)
-      ∙ gathered_same _ (row_with c k (queue c k)) (creations h) (λ i lt.
+      ∙ gathered_same _ (row_with c k (inside c k)) (creations h) (λ i lt.
       row_left i (λ (row : ObjectRow). is_alive queues semaphores t.rows row.number) (alive h i) (alive k i) (object c h i) (facts c h i) (q' i) (λ row e. ap (is_alive queues semaphores t.rows) e ∙ alive_is k queues semaphores t i q s d) (less i)
-      ∙ row_kept i (alive k i) (alive k i) (object c h i) (object c k i) (facts c h i) (facts c k i) (q' i) (queue c k i) refl (sym (o i)) (sym (f i)) (sym (m i)))
-      ∙ ap (gathered_below (row_with c k (queue c k))) (sym n);
+      ∙ row_kept i (alive k i) (alive k i) (object c h i) (object c k i) (facts c h i) (facts c k i) (q' i) (inside c k i) refl (sym (o i)) (sym (f i)) (sym (m i)))
+      ∙ ap (gathered_below (row_with c k (inside c k))) (sym n);
   count = count ∙ sym n;
 }
 
 -- one more object
-body_empty : (x : Object) → body_of x.kind empty_queue ≡ new_body x.kind
-body_empty x = at x.kind where
-  at : (kind : Kind) → body_of kind empty_queue ≡ new_body kind
-  at (QueueKind given) = refl
-
-pub objects_created : (c : Config) (h k : History) (xs : List ObjectRow) (created : ℕ) (x : Object) (y : Facts) → creations k ≡ creations h + 1 → ((o : ℕ) → o < creations h → alive k o ≡ alive h o) → ((o : ℕ) → o < creations h → object c k o ≡ object c h o) → ((o : ℕ) → o < creations h → facts c k o ≡ facts c h o) → ((o : ℕ) → queue c k o ≡ queue c h o) → alive k (creations h) ≡ true → object c k (creations h) ≡ Some x → facts c k (creations h) ≡ Some y → queue c h (creations h) ≡ empty_queue → ObjectsAgree c h xs created → ObjectsAgree c k (xs ++ new_row created x y ∷ []) (created + 1)
-objects_created c h k xs created x y n l o f m lives made made' empty a = record {
+pub objects_created : (c : Config) (h k : History) (xs : List ObjectRow) (created : ℕ) (x : Object) (y : Facts) → creations k ≡ creations h + 1 → ((o : ℕ) → o < creations h → alive k o ≡ alive h o) → ((o : ℕ) → o < creations h → object c k o ≡ object c h o) → ((o : ℕ) → o < creations h → facts c k o ≡ facts c h o) → ((o : ℕ) → o < creations h → inside c k o ≡ inside c h o) → alive k (creations h) ≡ true → object c k (creations h) ≡ Some x → facts c k (creations h) ≡ Some y → body_of x.kind (inside c k (creations h)) ≡ new_body x.kind → ObjectsAgree c h xs created → ObjectsAgree c k (xs ++ new_row created x y ∷ []) (created + 1)
+objects_created c h k xs created x y n l o f m lives made made' new a = record {
   rows = sym (
-      gathered_more (row_with c k (queue c k)) (row_with c h (queue c h)) (creations k) (creations h) n (λ i lt. row_kept i (alive k i) (alive h i) (object c k i) (object c h i) (facts c k i) (facts c h i) (queue c k i) (queue c h i) (l i lt) (o i lt) (f i lt) (m i))
-      ∙ ap (λ w. gathered_below (row_with c h (queue c h)) (creations h) ++ listed w) (row_kept (creations h) (alive k (creations h)) true (object c k (creations h)) (Some x) (facts c k (creations h)) (Some y) (queue c k (creations h)) empty_queue lives made made' (m (creations h) ∙ empty))
-      ∙ ap (λ b. gathered_below (row_with c h (queue c h)) (creations h) ++ record { number = creations h; object = x; facts = y; body = b } ∷ []) (body_empty x)
-      ∙ ap (λ i. gathered_below (row_with c h (queue c h)) (creations h) ++ new_row i x y ∷ []) (sym a.count)
+      gathered_more (row_with c k (inside c k)) (row_with c h (inside c h)) (creations k) (creations h) n (λ i lt. row_kept i (alive k i) (alive h i) (object c k i) (object c h i) (facts c k i) (facts c h i) (inside c k i) (inside c h i) (l i lt) (o i lt) (f i lt) (m i lt))
+      ∙ ap (λ w. gathered_below (row_with c h (inside c h)) (creations h) ++ listed w) (row_kept (creations h) (alive k (creations h)) true (object c k (creations h)) (Some x) (facts c k (creations h)) (Some y) (inside c k (creations h)) (inside c k (creations h)) lives made made' refl)
+      ∙ ap (λ b. gathered_below (row_with c h (inside c h)) (creations h) ++ record { number = creations h; object = x; facts = y; body = b } ∷ []) new
+      ∙ ap (λ i. gathered_below (row_with c h (inside c h)) (creations h) ++ new_row i x y ∷ []) (sym a.count)
       ∙ ap (λ l. l ++ new_row created x y ∷ []) (sym a.rows));
   count = ap (λ i. i + 1) a.count ∙ sym n;
 }
 
--- one queue changes
-body_changed : (x : Object) (change : Tickets → Tickets) (m n : Queue) → ((z : Attributes) → of_queue x.kind ≡ Some z → tickets_of n z ≡ change (tickets_of m z)) → body_of x.kind n ≡ with_body change (body_of x.kind m)
-body_changed x change m n e = at x.kind e where
-  at : (kind : Kind) → ((z : Attributes) → of_queue kind ≡ Some z → tickets_of n z ≡ change (tickets_of m z)) → body_of kind n ≡ with_body change (body_of kind m)
-  at (QueueKind given) same = ap QueueBody (same given refl)
+-- what stands in one object changes
+abbrev pub with_inside : (Body → Body) → ObjectRow → ObjectRow
+with_inside change row = record row { body = change row.body }
 
-row_changed : (o : ℕ) (change : Tickets → Tickets) (b : Bool) (w : Option Object) (v : Option Facts) (m n : Queue) → ((z : Attributes) → as_queue w ≡ Some z → tickets_of n z ≡ change (tickets_of m z)) → cond b (row_made o w v n) None ≡ option_map (with_queue change) (cond b (row_made o w v m) None)
+row_changed : (o : ℕ) (change : Body → Body) (b : Bool) (w : Option Object) (v : Option Facts) (m n : Inside) → ((x : Object) → w ≡ Some x → body_of x.kind n ≡ change (body_of x.kind m)) → cond b (row_made o w v n) None ≡ option_map (with_inside change) (cond b (row_made o w v m) None)
 row_changed o change true None v m n e = refl
 row_changed o change true (Some x) None m n e = refl
-row_changed o change true (Some x) (Some y) m n e = ap (λ b. Some (record { number = o; object = x; facts = y; body = b })) (body_changed x change m n e)
+row_changed o change true (Some x) (Some y) m n e = ap (λ b. Some (record { number = o; object = x; facts = y; body = b })) (e x refl)
 row_changed o change false w v m n e = refl
 
-pub rows_changed : (c : Config) (h k : History) (q : ℕ → Queue) (xs : List ObjectRow) (created o : ℕ) (change : Tickets → Tickets) → ((i : ℕ) → alive k i ≡ alive h i) → ((i : ℕ) → object c k i ≡ object c h i) → ((i : ℕ) → facts c k i ≡ facts c h i) → ((i : ℕ) → (i ≡ o → ⊥) → q i ≡ queue c h i) → ((z : Attributes) → attributes c h o ≡ Some z → tickets_of (q o) z ≡ change (tickets_of (queue c h o) z)) → creations k ≡ creations h → ObjectsAgree c h xs created → changed_first (is_number o) (with_queue change) xs ≡ gathered_below (row_with c k q) (creations k)
+pub rows_changed : (c : Config) (h k : History) (q : ℕ → Inside) (xs : List ObjectRow) (created o : ℕ) (change : Body → Body) → ((i : ℕ) → alive k i ≡ alive h i) → ((i : ℕ) → object c k i ≡ object c h i) → ((i : ℕ) → facts c k i ≡ facts c h i) → ((i : ℕ) → (i ≡ o → ⊥) → q i ≡ inside c h i) → ((x : Object) → object c h o ≡ Some x → body_of x.kind (q o) ≡ change (body_of x.kind (inside c h o))) → creations k ≡ creations h → ObjectsAgree c h xs created → changed_first (is_number o) (with_inside change) xs ≡ gathered_below (row_with c k q) (creations k)
 rows_changed c h k q xs created o change l made f same here n a =
-    ap (changed_first (is_number o) (with_queue change)) a.rows
-    ∙ gathered_changed (is_number o) (with_queue change) (row_with c h (queue c h)) (row_with c k q) (creations h) o
-    (λ i ne. row_other o i (alive h i) (object c h i) (facts c h i) (queue c h i) (ne_eqb i o ne))
-    (λ row e. row_own o (alive h o) (object c h o) (facts c h o) (queue c h o) row e)
-    (λ i ne. row_kept i (alive k i) (alive h i) (object c k i) (object c h i) (facts c k i) (facts c h i) (q i) (queue c h i) (l i) (made i) (f i) (same i ne))
+    ap (changed_first (is_number o) (with_inside change)) a.rows
+    ∙ gathered_changed (is_number o) (with_inside change) (row_with c h (inside c h)) (row_with c k q) (creations h) o
+    (λ i ne. row_other o i (alive h i) (object c h i) (facts c h i) (inside c h i) (ne_eqb i o ne))
+    (λ row e. row_own o (alive h o) (object c h o) (facts c h o) (inside c h o) row e)
+    (λ i ne. row_kept i (alive k i) (alive h i) (object c k i) (object c h i) (facts c k i) (facts c h i) (q i) (inside c h i) (l i) (made i) (f i) (same i ne))
     (row_kept o (alive k o) (alive h o) (object c k o) (object c h o) (facts c k o) (facts c h o) (q o) (q o) (l o) (made o) (f o) refl
-    ∙ row_changed o change (alive h o) (object c h o) (facts c h o) (queue c h o) (q o) here)
+    ∙ row_changed o change (alive h o) (object c h o) (facts c h o) (inside c h o) (q o) here)
     ∙ ap (gathered_below (row_with c k q)) (sym n)
 
 -- descriptions
@@ -182,7 +164,7 @@ descriptions_dropped h k t drop' q same d b n a = record {
   opened = a.opened ∙ sym n;
 }
 
-and_off : (b : Bool) → (b && false) ≡ false
+pub and_off : (b : Bool) → (b && false) ≡ false
 and_off true = refl
 and_off false = refl
 
@@ -211,46 +193,3 @@ descriptions_set h k t s d nonblock x same b n is a = record {
       ∙ ap (gathered_below (λ i. option_map (row_held (is_nonblock k) i) (held k i))) (sym n);
   opened = a.opened ∙ sym n;
 }
-
--- one more description
-held_new : (c : Config) (h k : History) (sid : Sid) (asked : QueueOpen) (o : ℕ) → Grows c h k (Do sid (MqOpen asked)) → opened h (queue_opening sid asked) ≡ Some o → held k (opens h) ≡ Some (record { session = sid; object = o; access = asked.access })
-held_new c h k sid asked o g e = g.held_by (opens h) ∙ rw (eq-eqb (opens h) (opens h) refl) (ap (λ w. option_or (option_map (held_as (queue_opening sid asked)) w) (held h (opens h))) e)
-
-held_other : (c : Config) (h k : History) (sid : Sid) (asked : QueueOpen) (d : ℕ) → Grows c h k (Do sid (MqOpen asked)) → d < opens h → held k d ≡ held h d
-held_other c h k sid asked d g lt = g.held_by d ∙ rw (ne_eqb (opens h) d (λ (q : opens h ≡ d). absurd (omega arith))) refl
-
-nonblock_new : (c : Config) (h k : History) (sid : Sid) (asked : QueueOpen) → Grows c h k (Do sid (MqOpen asked)) → is_nonblock k sid.0 (opens h) ≡ has_nonblock asked.flags
-nonblock_new c h k sid asked g = g.nonblock_of sid.0 (opens h) ∙ rw (eq-eqb sid.0 sid.0 refl, eq-eqb (opens h) (opens h) refl) refl
-
-nonblock_other : (c : Config) (h k : History) (sid : Sid) (asked : QueueOpen) (s d : ℕ) → Grows c h k (Do sid (MqOpen asked)) → d < opens h → is_nonblock k s d ≡ is_nonblock h s d
-nonblock_other c h k sid asked s d g lt = g.nonblock_of s d ∙ rw (ne_eqb (opens h) d (λ (q : opens h ≡ d). absurd (omega arith)), and_off (eqb sid.0 s)) refl
-
-other_row : (c : Config) (h k : History) (sid : Sid) (asked : QueueOpen) (d : ℕ) → Grows c h k (Do sid (MqOpen asked)) → d < opens h → option_map (row_held (is_nonblock k) d) (held k d) ≡ option_map (row_held (is_nonblock h) d) (held h d)
-other_row c h k sid asked d g lt = ap (option_map (row_held (is_nonblock k) d)) (held_other c h k sid asked d g lt) ∙ same_row (held h d) where
-  same_row : (w : Option Held) → option_map (row_held (is_nonblock k) d) w ≡ option_map (row_held (is_nonblock h) d) w
-  same_row None = refl
-  same_row (Some x) = ap (λ nonblock. Some (record { desc = record { 0 = d }; session = x.session; object = x.object; access = x.access; nonblock = nonblock })) (nonblock_other c h k sid asked x.session.0 d g lt)
-
-pub descriptions_opened : (c : Config) (h k : History) (t : Descriptions) (sid : Sid) (asked : QueueOpen) (o : ℕ) → Grows c h k (Do sid (MqOpen asked)) → DescriptionsAgree h t → opened h (queue_opening sid asked) ≡ Some o → DescriptionsAgree k (with_open t sid o asked.access (has_nonblock asked.flags))
-descriptions_opened c h k t sid asked o g a e = record {
-  rows = sym (
-      gathered_more (λ d. option_map (row_held (is_nonblock k) d) (held k d)) (λ d. option_map (row_held (is_nonblock h) d) (held h d)) (opens k) (opens h) g.open_count (λ d lt. other_row c h k sid asked d g lt)
-      ∙ ap (λ w. gathered_below (λ d. option_map (row_held (is_nonblock h) d) (held h d)) (opens h) ++ listed (option_map (row_held (is_nonblock k) (opens h)) w)) (held_new c h k sid asked o g e)
-      ∙ ap (λ b. gathered_below (λ d. option_map (row_held (is_nonblock h) d) (held h d)) (opens h) ++ record { desc = record { 0 = opens h }; session = sid; object = o; access = asked.access; nonblock = b } ∷ []) (nonblock_new c h k sid asked g)
-      ∙ ap (λ n. gathered_below (λ d. option_map (row_held (is_nonblock h) d) (held h d)) (opens h) ++ record { desc = record { 0 = n }; session = sid; object = o; access = asked.access; nonblock = has_nonblock asked.flags } ∷ []) (sym a.opened)
-      ∙ ap (λ xs. xs ++ record { desc = record { 0 = t.opened }; session = sid; object = o; access = asked.access; nonblock = has_nonblock asked.flags } ∷ []) (sym a.rows));
-  opened = ap (λ n. n + 1) a.opened ∙ sym g.open_count;
-}
-
--- which objects are alive after an open: those that were, and the one that it opens
-any_opened : (c : Config) (h k : History) (sid : Sid) (asked : QueueOpen) (b o : ℕ) → Grows c h k (Do sid (MqOpen asked)) → opened h (queue_opening sid asked) ≡ Some b → any_below (λ d. gives_object o (held k d)) (opens k) ≡ (eqb b o || any_below (λ d. gives_object o (held h d)) (opens h))
-any_opened c h k sid asked b o g e =
-    ap (any_below (λ d. gives_object o (held k d))) (g.open_count ∙ add-one (opens h))
-    ∙ ap (λ w. gives_object o w || any_below (λ d. gives_object o (held k d)) (opens h)) (held_new c h k sid asked b g e)
-    ∙ ap (λ i. eqb b o || i) (any_below_same _ _ (opens h) (λ d lt. ap (gives_object o) (held_other c h k sid asked d g lt)))
-
-pub alive_opened : (c : Config) (h k : History) (sid : Sid) (asked : QueueOpen) (b o : ℕ) → Grows c h k (Do sid (MqOpen asked)) → opened h (queue_opening sid asked) ≡ Some b → alive k o ≡ (is_some (named_after o (Do sid (MqOpen asked)) (is_bound h) (creations h) (named h o)) || (eqb b o || any_below (λ d. gives_object o (held h d)) (opens h)))
-unfolding alive
-alive_opened c h k sid asked b o g e =
-    ap (λ w. is_some w || any_below (λ d. gives_object o (held k d)) (opens k)) (g.named_by o)
-    ∙ ap (λ i. is_some (named_after o (Do sid (MqOpen asked)) (is_bound h) (creations h) (named h o)) || i) (any_opened c h k sid asked b o g e)

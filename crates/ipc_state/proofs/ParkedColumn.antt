@@ -1,19 +1,21 @@
 -- On which object a session is parked after an accepted event.
-use Rattle.std.proofs.Common.{◌≡◌, ℕ, Bool, true, false, ◌&&◌, eqb, cond, List, ◌∷◌, length, Option, Some, None, refl, ap, ◌∙◌}
+use Rattle.std.proofs.Common.{◌≡◌, ℕ, Bool, true, false, ◌&&◌, eqb, cond, List, length, Option, Some, None, refl, ap, ◌∙◌}
 use Rattle.std.specs.Option.{option_map}
 use Rattle.ipc_terms.specs.Lists.{first}
 use Rattle.ipc_terms.specs.declared.ids.Sid.{Sid}
 use Rattle.ipc_terms.specs.declared.ids.Desc.{Desc}
-use Rattle.ipc_terms.specs.declared.call.Call.TheVariants.{MqSend, MqReceive, Interrupt}
+use Rattle.ipc_terms.specs.declared.call.Call.TheVariants.{MqSend, MqReceive, SemPost, SemWait, Interrupt}
 use Rattle.ipc_terms.specs.declared.record.Event.TheVariants.{Do, Hangup}
 use Rattle.ipc_policy.specs.declared.config.Config.{Config}
 use Rattle.ipc_policy.specs.declared.config.Held.{Held}
 use Rattle.ipc_policy.specs.History.{History, after_accepted, there_is}
 use Rattle.ipc_policy.specs.Descriptions.{holds}
 use Rattle.ipc_policy.specs.Queues.{Send, Wait, senders, receivers, is_full, is_empty}
-use Rattle.ipc_policy.specs.Parking.{Sending, Receiving, Parked, parked}
+use Rattle.ipc_policy.specs.Semaphores.{waiters, is_zero}
+use Rattle.ipc_policy.specs.Parking.{Sending, Receiving, Waiting, Parked, parked}
 use Rattle.ipc_policy.specs.Verdict.{Legal}
 use Rattle.ipc_policy.proofs.ParkedSteps.{parked_by_send, parked_by_receive, parked_by_interrupt, parked_by_hangup}
+use Rattle.ipc_policy.proofs.WaitSteps.{parked_by_post, parked_by_wait}
 use Rattle.ipc_terms.proofs.Lists.{eqb_swapped}
 
 -- on which object a session is parked
@@ -60,6 +62,19 @@ column_by_receive c h sid desc room x s legal held excl =
     ap (option_map (λ (p : Parked). p.object)) (parked_by_receive c h sid desc room x s legal held)
     ∙ ap (λ b. option_map (λ (p : Parked). p.object) (cond (eqb sid.0 s && is_empty c h x.object) (Some (record { object = x.object; place = length h; kind = Receiving })) (cond b None (parked c h s)))) (there_mapped (λ (m : Send). m.session) s (first (senders c h x.object)))
     ∙ column_is s sid.0 x.object (option_map (λ (m : Send). m.session) (first (senders c h x.object))) (is_empty c h x.object) (record { object = x.object; place = length h; kind = Receiving }) (parked c h) refl excl
+
+pub column_by_post : (c : Config) (h : History) (sid : Sid) (desc : Desc) (x : Held) (s : ℕ) → Legal c h → holds h sid.0 desc.0 ≡ Some x → parked_object c (after_accepted h (Do sid (SemPost desc))) s ≡ column_after (option_map (λ (w : Wait). w.session) (first (waiters h x.object))) false sid.0 x.object (parked_object c h) s
+column_by_post c h sid desc x s legal held =
+    ap (option_map (λ (p : Parked). p.object)) (parked_by_post c h sid desc x s legal held)
+    ∙ served (first (waiters h x.object)) where
+      served : (w : Option Wait) → option_map (λ (p : Parked). p.object) (cond (there_is (λ (v : Wait). eqb v.session s) w) None (parked c h s)) ≡ column_after (option_map (λ (v : Wait). v.session) w) false sid.0 x.object (parked_object c h) s
+      served None = refl
+      served (Some w) = none_of (eqb w.session s) (parked c h s)
+
+pub column_by_wait : (c : Config) (h : History) (sid : Sid) (desc : Desc) (x : Held) (s : ℕ) → holds h sid.0 desc.0 ≡ Some x → parked_object c (after_accepted h (Do sid (SemWait desc))) s ≡ column_after None (is_zero c h x.object) sid.0 x.object (parked_object c h) s
+column_by_wait c h sid desc x s held =
+    ap (option_map (λ (p : Parked). p.object)) (parked_by_wait c h sid desc x s held)
+    ∙ column_is s sid.0 x.object None (is_zero c h x.object) (record { object = x.object; place = length h; kind = Waiting }) (parked c h) refl (λ e. refl)
 
 pub column_by_interrupt : (c : Config) (h : History) (sid : Sid) (s : ℕ) → parked_object c (after_accepted h (Do sid Interrupt)) s ≡ cond (eqb sid.0 s) None (parked_object c h s)
 column_by_interrupt c h sid s = ap (option_map (λ (p : Parked). p.object)) (parked_by_interrupt c h sid s) ∙ none_of (eqb s sid.0) (parked c h s) ∙ ap (λ b. cond b None (parked_object c h s)) (eqb_swapped s sid.0)

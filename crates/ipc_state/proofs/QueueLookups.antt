@@ -1,33 +1,32 @@
 -- What is looked up of a session's description, of the object that it gives and of its queue, in tables that agree with a history.
-use Rattle.std.proofs.Common.{◌≡◌, ℕ, ◌<◌, Bool, true, false, ◌&&◌, eqb, cond, List, [], ◌∷◌, length, find, Option, Some, None, is_some, refl, sym, ap, ◌∙◌, arith}
+use Rattle.std.proofs.Common.{◌≡◌, ℕ, Bool, true, false, ◌&&◌, eqb, cond, List, [], ◌∷◌, length, Option, Some, None, is_some, refl, sym, ap, ◌∙◌, arith}
 use Rattle.std.specs.Prelude.{option_and_then, nat_le, IsSome}
 use Rattle.std.specs.Option.{option_map}
 use Rattle.ipc_terms.proofs.Lists.{eqb_swapped}
 use Rattle.std.proofs.lemmas.Bool.{eqb-true, eq-eqb, ne_eqb}
 use Rattle.std.proofs.lemmas.List.{length-map}
-use Rattle.ipc_queue.specs.Tickets.{Tickets, is_full_of}
+use Rattle.ipc_queue.specs.Tickets.{is_full_of}
 use Rattle.ipc_policy.specs.declared.config.Config.{Config}
 use Rattle.ipc_policy.specs.declared.config.Held.{Held}
-use Rattle.ipc_terms.specs.declared.object.Object.{Object}
 use Rattle.ipc_policy.specs.History.{History}
-use Rattle.ipc_policy.specs.Names.{creations}
-use Rattle.ipc_policy.specs.Objects.{object, facts}
+use Rattle.ipc_policy.specs.Objects.{object}
 use Rattle.ipc_policy.specs.Descriptions.{if_of, held, holds, is_nonblock}
 use Rattle.ipc_policy.specs.Queues.{has_none, attributes, queue, contents}
+use Rattle.ipc_policy.specs.Semaphores.{Semaphore, semaphore, value}
 use Rattle.ipc_policy.specs.Life.{alive}
 use Rattle.ipc_policy.specs.Rules.{there_is, object_held, is_full, is_empty}
-use Rattle.ipc_policy.proofs.Gathering.{passes, gathered_find}
-use Rattle.ipc_policy.proofs.Known.{object_below, object_with_facts}
 use Rattle.ipc_tables.specs.declared.rows.ObjectRow.{ObjectRow}
 use Rattle.ipc_descr.specs.declared.row.Row.{Row}
 use Rattle.ipc_policy.proofs.Creating.{holds_is_held}
 use Rattle.ipc_terms.specs.declared.call.Attributes.{Attributes}
-use Rattle.ipc_descr.specs.Descriptions.{is_desc, is_of, if_of as if_row_of, row_of}
+use Rattle.ipc_descr.specs.Descriptions.{is_of, if_of as if_row_of, row_of}
 use Rattle.ipc_descr.proofs.Answering.{row_told}
-use Rattle.ipc_tables.specs.Objects.{row_at, queue_at}
+use Rattle.ipc_sem.specs.Counters.{Counter}
+use Rattle.ipc_terms.specs.Objects.{as_semaphore}
+use Rattle.ipc_tables.specs.Objects.{row_at, queue_at, semaphore_at}
 use Rattle.ipc_tables.specs.Kept.{Kept}
-use Rattle.ipc_state.specs.Agrees.{Agrees, DescriptionsAgree, row_held, held_in, ticket_of, tickets_of, queue_meant}
-use Rattle.ipc_state.proofs.Lookups.{row_is, held_is, held_alive, object_alive, queue_alive}
+use Rattle.ipc_state.specs.Agrees.{Agrees, row_held, held_in, ticket_of, tickets_of, queue_meant, counter_of, semaphore_meant}
+use Rattle.ipc_state.proofs.Lookups.{row_is, held_is, held_alive, object_alive, queue_alive, semaphore_alive}
 
 -- what a session holds is held, and is the session's
 session_mine : (s : ℕ) (w : Option Held) (x : Held) → option_and_then (if_of s) w ≡ Some x → x.session.0 ≡ s
@@ -73,6 +72,24 @@ queue_is c h t s d a = at (holds h s d) refl where
   at : (w : Option Held) → holds h s d ≡ w → option_and_then (queue_at t.objects) (option_map (λ (x : Held). x.object) w) ≡ option_and_then (queue_meant c h) (option_map (λ (x : Held). x.object) w)
   at None e = refl
   at (Some x) e = queue_alive c h t x.object a (holds_alive h s d x e)
+
+-- the semaphore
+pub semaphore_is : (c : Config) (h : History) (t : Kept) (s d : ℕ) → Agrees c h t → option_and_then (semaphore_at t.objects) (option_map (λ (x : Held). x.object) (holds h s d)) ≡ option_and_then (semaphore_meant c h) (option_map (λ (x : Held). x.object) (holds h s d))
+semaphore_is c h t s d a = at (holds h s d) refl where
+  at : (w : Option Held) → holds h s d ≡ w → option_and_then (semaphore_at t.objects) (option_map (λ (x : Held). x.object) w) ≡ option_and_then (semaphore_meant c h) (option_map (λ (x : Held). x.object) w)
+  at None e = refl
+  at (Some x) e = semaphore_alive c h t x.object a (holds_alive h s d x e)
+
+-- whether its value is 0, and whether it is the greatest
+test_is : (test : ℕ → Bool) (u : Semaphore) (w : Option ℕ) → there_is (λ (q : Counter). test q.value) (option_map (λ first_value. counter_of u) w) ≡ there_is (λ first_value. test u.value) w
+test_is test u None = refl
+test_is test u (Some n) = refl
+
+pub held_test_is : (c : Config) (h : History) (test : ℕ → Bool) (s d : ℕ) → there_is (λ (q : Counter). test q.value) (option_and_then (semaphore_meant c h) (option_map (λ (x : Held). x.object) (holds h s d))) ≡ there_is (λ (x : Held). there_is (λ first_value. test (value h x.object)) (as_semaphore (object c h x.object))) (holds h s d)
+held_test_is c h test s d = at (holds h s d) where
+  at : (w : Option Held) → there_is (λ (q : Counter). test q.value) (option_and_then (semaphore_meant c h) (option_map (λ (x : Held). x.object) w)) ≡ there_is (λ (x : Held). there_is (λ first_value. test (value h x.object)) (as_semaphore (object c h x.object))) w
+  at None = refl
+  at (Some x) = test_is test (semaphore h x.object) (as_semaphore (object c h x.object))
 
 -- whether it is full, and whether it is empty
 pub full_is : (c : Config) (h : History) (o : ℕ) → there_is is_full_of (queue_meant c h o) ≡ is_full c h o

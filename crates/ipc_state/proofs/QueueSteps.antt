@@ -7,7 +7,9 @@ use Rattle.std.proofs.lemmas.List.{length-map, map_push}
 use Rattle.ipc_terms.specs.Lists.{first}
 use Rattle.ipc_terms.specs.declared.ids.Sid.{Sid}
 use Rattle.ipc_queue.specs.declared.queue.Ticket.{Ticket}
-use Rattle.ipc_queue.specs.Tickets.{without_first, is_ticket, is_session, is_sender, is_full_of, next_ticket, without_next, sent_to, sent, received_by, received, withdrawn}
+use Rattle.ipc_terms.specs.Events.{is_session}
+use Rattle.ipc_terms.specs.Lists.{without_first}
+use Rattle.ipc_queue.specs.Tickets.{is_ticket, is_sender, is_full_of, next_ticket, without_next, sent_to, sent, received_by, received, withdrawn}
 use Rattle.ipc_terms.specs.declared.call.Attributes.{Attributes}
 use Rattle.ipc_policy.specs.History.{listed}
 use Rattle.ipc_policy.specs.Queues.{Send, Wait, Sends, Receives, Withdraws, Queue, next, others, behind, has_none, has_all, queue_after}
@@ -113,7 +115,7 @@ each_of : {A : Type 0} (number : A → ℕ) (a s : ℕ) (xs : List A) → a ≡ 
 each_of number a s [] e all = tt
 each_of number a s (x ∷ xs) e all = (ap (eqb (number x)) (sym e) ∙ all.0, each_of number a s xs e all.1)
 
-left_is : {A B : Type 0} (f : A → B) (number : A → ℕ) (s : ℕ) (test : B → Bool) → ((x : A) → test (f x) ≡ eqb (number x) s) → (xs : List A) → Different number xs → map f (filter (λ x. not (eqb (number x) s)) xs) ≡ without_first test (map f xs)
+pub left_is : {A B : Type 0} (f : A → B) (number : A → ℕ) (s : ℕ) (test : B → Bool) → ((x : A) → test (f x) ≡ eqb (number x) s) → (xs : List A) → Different number xs → map f (filter (λ x. not (eqb (number x) s)) xs) ≡ without_first test (map f xs)
 left_is f number s test same [] d = refl
 left_is {A = A} {B = B} f number s test same (x ∷ xs) d = at (eqb (number x) s) refl (left_is f number s test same xs d.1) where
   at : (b : Bool) → eqb (number x) s ≡ b → map f (filter (λ y. not (eqb (number y) s)) xs) ≡ without_first test (map f xs) → map f (cond (not b) (x ∷ filter (λ y. not (eqb (number y) s)) xs) (filter (λ y. not (eqb (number y) s)) xs)) ≡ cond (test (f x)) (map f xs) (f x ∷ without_first test (map f xs))

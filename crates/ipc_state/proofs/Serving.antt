@@ -16,6 +16,10 @@ use Rattle.ipc_queue.specs.Tickets.{Tickets, outcome_by_receiver, send_outcome, 
 use Rattle.ipc_policy.specs.declared.config.Config.{Config}
 use Rattle.ipc_policy.specs.declared.config.Held.{Held}
 use Rattle.ipc_terms.specs.declared.call.Attributes.{Attributes}
+use Rattle.ipc_terms.specs.declared.object.Object.{Object}
+use Rattle.ipc_terms.specs.declared.ids.Family.TheVariants.{Mq, Sem}
+use Rattle.ipc_terms.specs.Objects.{as_queue, as_semaphore}
+use Rattle.ipc_policy.specs.Objects.{object}
 use Rattle.ipc_policy.specs.History.{History, after_accepted, there_is}
 use Rattle.ipc_policy.specs.Sessions.{hellos, user, live, mask}
 use Rattle.ipc_policy.specs.Descriptions.{holds}
@@ -42,7 +46,7 @@ use Rattle.ipc_state.proofs.Mapped.{longest_mapped}
 use Rattle.ipc_state.proofs.Lookups.{queue_alive}
 use Rattle.ipc_state.proofs.QueueLookups.{holds_alive}
 use Rattle.ipc_policy.proofs.Unforbidden.{IsFree}
-use Rattle.ipc_state.proofs.Accepted.{within_live, not_bad_queue, limits_some}
+use Rattle.ipc_state.proofs.Accepted.{within_live, not_bad_queue, not_bad_semaphore, limits_some}
 use Rattle.ipc_state.proofs.QueueSteps.{IsOnce, full_same, next_same, sent_is, received_is, withdrawn_is}
 use Rattle.ipc_state.proofs.ParkedColumn.{parked_object, column_after}
 use Rattle.ipc_state.proofs.SessionTables.{Columns, columns_of, columns_moved}
@@ -202,16 +206,23 @@ queue_received c h sid desc length' x y q held =
 pub queue_withdrawn : (c : Config) (h : History) (sid : Sid) (o n : ℕ) (y : Attributes) → Legal c h → tickets_of (queue_after n (Withdraws sid.0) (queue c h o)) y ≡ withdrawn sid (tickets_of (queue c h o) y)
 queue_withdrawn c h sid o n y legal = withdrawn_is y sid (queue c h o) (senders_differ c h legal o) (receivers_differ c h legal o)
 
--- what is there where a call by a description of object o is accepted
-pub record IsHere (c : Config) (h : History) (t : Kept) (s d o : ℕ) : Type 0 where
+-- what is there where a call by a description of object o, which is of the family, is accepted
+pub record IsHere (A : Type 0) (kind : Option Object → Option A) (c : Config) (h : History) (t : Kept) (s d o : ℕ) : Type 0 where
   pub x : Held
-  pub given : Attributes
+  pub given : A
   pub held : holds h s d ≡ Some x
   pub same : x.object ≡ o
-  pub made : attributes c h x.object ≡ Some given
+  pub made : kind (object c h x.object) ≡ Some given
   pub lives : alive h x.object ≡ true
   pub live' : live_at t.sessions s ≡ true
   pub within : s < length t.sessions
+
+-- of a queue, and of a semaphore
+abbrev pub IsHereQueue : Config → History → Kept → ℕ → ℕ → ℕ → Type 0
+IsHereQueue c h t s d o = IsHere Attributes as_queue c h t s d o
+
+abbrev pub IsHereSemaphore : Config → History → Kept → ℕ → ℕ → ℕ → Type 0
+IsHereSemaphore c h t s d o = IsHere ℕ as_semaphore c h t s d o
 
 some_of : {A : Type 0} (w : Option A) → is_some w ≡ true → (y : A) × (w ≡ Some y)
 some_of None e = absurd cc
@@ -221,15 +232,21 @@ object_in : (w : Option Held) (o : ℕ) → option_map (λ (x : Held). x.object)
 object_in None o e = absurd cc
 object_in (Some x) o e = let same : x.object ≡ o = cc in (x, (refl, same))
 
-pub call_here : (c : Config) (h : History) (t : Kept) (s d o : ℕ) → Agrees c h t → IsFree c h s d → option_map (λ (x : Held). x.object) (holds h s d) ≡ Some o → IsHere c h t s d o
-call_here c h t s d o a free is =
+here_at : {A : Type 0} (kind : Option Object → Option A) (c : Config) (h : History) (t : Kept) (s d o : ℕ) → Agrees c h t → live h s ≡ true → ((x : Held) → holds h s d ≡ Some x → is_some (kind (object c h x.object)) ≡ true) → option_map (λ (x : Held). x.object) (holds h s d) ≡ Some o → IsHere A kind c h t s d o
+here_at kind c h t s d o a lives made is =
     let there = object_in (holds h s d) o is in
-    let found = some_of (attributes c h there.0.object) (not_bad_queue c h s d there.0 free.held there.1.0) in
-    let lives' = a.sessions.lives s ∙ free.lives in
+    let found = some_of (kind (object c h there.0.object)) (made there.0 there.1.0) in
+    let lives' = a.sessions.lives s ∙ lives in
     record { x = there.0; given = found.0; held = there.1.0; same = there.1.1; made = found.1; lives = holds_alive h s d there.0 there.1.0; live' = lives'; within = within_live t.sessions s lives' }
 
+pub call_here : (c : Config) (h : History) (t : Kept) (s d o : ℕ) → Agrees c h t → IsFree c h s Mq d → option_map (λ (x : Held). x.object) (holds h s d) ≡ Some o → IsHereQueue c h t s d o
+call_here c h t s d o a free is = here_at as_queue c h t s d o a free.lives (λ x e. not_bad_queue c h s d x free.held e) is
+
+pub semaphore_here : (c : Config) (h : History) (t : Kept) (s d o : ℕ) → Agrees c h t → IsFree c h s Sem d → option_map (λ (x : Held). x.object) (holds h s d) ≡ Some o → IsHereSemaphore c h t s d o
+semaphore_here c h t s d o a free is = here_at as_semaphore c h t s d o a free.lives (λ x e. not_bad_semaphore c h s d x free.held e) is
+
 -- and its queue stands in the table
-pub queue_stands : (c : Config) (h : History) (t : Kept) (s d o : ℕ) → Agrees c h t → IsHere c h t s d o → is_some (queue_at t.objects o) ≡ true
+pub queue_stands : (c : Config) (h : History) (t : Kept) (s d o : ℕ) → Agrees c h t → IsHereQueue c h t s d o → is_some (queue_at t.objects o) ≡ true
 queue_stands c h t s d o a here = subst (λ (i : ℕ). is_some (queue_at t.objects i) ≡ true) here.same (ap is_some (queue_there c h t here.x.object here.given a here.lives here.made))
 
 -- so who is served stands in the table of sessions
@@ -245,10 +262,10 @@ senders_stand c h t o y legal a lives e = λ q who is first'.
     let found = first_sender (senders c h o) who (ap (λ (r : Tickets). first r.senders) same ∙ first') in
     subst (λ (s : ℕ). s < length t.sessions) found.1.1 (sender_stands c h t.sessions o found.0 legal a.sessions found.1.0)
 
-pub receiver_is : (c : Config) (h : History) (t : Kept) (s d o : ℕ) → Legal c h → Agrees c h t → IsHere c h t s d o → ReceiverStands t o
+pub receiver_is : (c : Config) (h : History) (t : Kept) (s d o : ℕ) → Legal c h → Agrees c h t → IsHereQueue c h t s d o → ReceiverStands t o
 receiver_is c h t s d o legal a here = subst (ReceiverStands t) here.same (receivers_stand c h t here.x.object here.given legal a here.lives here.made)
 
-pub sender_is : (c : Config) (h : History) (t : Kept) (s d o : ℕ) → Legal c h → Agrees c h t → IsHere c h t s d o → SenderStands t o
+pub sender_is : (c : Config) (h : History) (t : Kept) (s d o : ℕ) → Legal c h → Agrees c h t → IsHereQueue c h t s d o → SenderStands t o
 sender_is c h t s d o legal a here = subst (SenderStands t) here.same (senders_stand c h t here.x.object here.given legal a here.lives here.made)
 
 -- what is held has a number

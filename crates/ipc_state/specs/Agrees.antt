@@ -1,5 +1,5 @@
 -- What the tables have to do with the history: each is what the policy's values give, in the order of their numbers.
-use Rattle.std.specs.Prelude.{◌≡◌, Bool, ℕ, ◌==◌, List, length, map, find, filter, slice_get, Option, Some, None, if◌then◌else◌, option_and_then}
+use Rattle.std.specs.Prelude.{◌≡◌, Bool, ℕ, List, length, map, slice_get, Option, Some, None, if◌then◌else◌}
 use Rattle.std.specs.Option.{option_map}
 use Rattle.ipc_terms.specs.declared.facts.Facts.{Facts}
 use Rattle.ipc_terms.specs.declared.ids.Sid.{Sid}
@@ -7,7 +7,8 @@ use Rattle.ipc_terms.specs.declared.ids.Family.{Family}
 use Rattle.ipc_terms.specs.declared.ids.Family.TheVariants.{Mq, Sem}
 use Rattle.ipc_terms.specs.declared.call.Attributes.{Attributes}
 use Rattle.ipc_terms.specs.declared.object.Kind.{Kind}
-use Rattle.ipc_terms.specs.declared.object.Kind.TheVariants.{Queue as QueueKind}
+use Rattle.ipc_terms.specs.declared.object.Kind.TheVariants.{Queue as QueueKind, Semaphore as SemaphoreKind}
+use Rattle.ipc_terms.specs.Objects.{as_semaphore}
 use Rattle.ipc_terms.specs.declared.object.Object.{Object}
 use Rattle.ipc_names.specs.Directory.{Directory}
 use Rattle.ipc_descr.specs.declared.row.Row.{Row}
@@ -15,9 +16,10 @@ use Rattle.ipc_descr.specs.Descriptions.{Descriptions}
 use Rattle.ipc_queue.specs.declared.queue.Ticket.{Ticket}
 use Rattle.ipc_queue.specs.declared.queue.ParkedSend.{ParkedSend}
 use Rattle.ipc_queue.specs.Tickets.{Tickets}
+use Rattle.ipc_sem.specs.Counters.{Counter}
 use Rattle.ipc_tables.specs.declared.rows.Session.{Session}
 use Rattle.ipc_tables.specs.declared.rows.Body.{Body}
-use Rattle.ipc_tables.specs.declared.rows.Body.TheVariants.{Queue as QueueBody}
+use Rattle.ipc_tables.specs.declared.rows.Body.TheVariants.{Queue as QueueBody, Semaphore as SemaphoreBody}
 use Rattle.ipc_tables.specs.declared.rows.ObjectRow.{ObjectRow}
 use Rattle.ipc_tables.specs.Kept.{Kept, live_at, parked_on_at}
 use Rattle.ipc_policy.specs.declared.config.Config.{Config}
@@ -28,6 +30,7 @@ use Rattle.ipc_policy.specs.Names.{creations}
 use Rattle.ipc_policy.specs.Objects.{object, facts, directory}
 use Rattle.ipc_policy.specs.Descriptions.{opens, held, is_nonblock}
 use Rattle.ipc_policy.specs.Queues.{Send, Wait, Queue, attributes, queue}
+use Rattle.ipc_policy.specs.Semaphores.{Semaphore, semaphore}
 use Rattle.ipc_policy.specs.Parking.{parked}
 use Rattle.ipc_policy.specs.Life.{bindings, alive}
 use Rattle.ipc_policy.specs.Verdict.{Legal}
@@ -54,7 +57,7 @@ ticket_of m = record { place = m.place; priority = m.priority }
 abbrev pub sender_of : Send → ParkedSend
 sender_of m = record { ticket = ticket_of m; session = record { 0 = m.session } }
 
--- the session of a parked receive
+-- the session of a parked receive or wait
 abbrev pub receiver_of : Wait → Sid
 receiver_of w = record { 0 = w.session }
 
@@ -66,22 +69,40 @@ tickets_of q x = record { maxmsg = x.maxmsg; msgsize = x.msgsize; tickets = map 
 abbrev pub queue_meant : Config → History → ℕ → Option Tickets
 queue_meant c h o = option_map (tickets_of (queue c h o)) (attributes c h o)
 
--- what stands in an object of the kind
-abbrev pub body_of : Kind → Queue → Body
-body_of (QueueKind attributes) q = QueueBody (tickets_of q attributes)
+-- a semaphore of the policy, as it is kept
+abbrev pub counter_of : Semaphore → Counter
+counter_of q = record { value = q.value; waiters = map receiver_of q.waiters }
+
+-- the semaphore that object o is, as it is kept
+abbrev pub semaphore_meant : Config → History → ℕ → Option Counter
+semaphore_meant c h o = option_map (λ first_value. counter_of (semaphore h o)) (as_semaphore (object c h o))
+
+-- what stands in an object, by what it is as a queue and as a semaphore
+pub record Inside : Type 0 where
+  pub queue : Queue
+  pub semaphore : Semaphore
+
+-- what stands in object o
+abbrev pub inside : Config → History → ℕ → Inside
+inside c h o = record { queue = queue c h o; semaphore = semaphore h o }
+
+-- what stands in an object of the kind, as it is kept
+abbrev pub body_of : Kind → Inside → Body
+body_of (QueueKind attributes) x = QueueBody (tickets_of x.queue attributes)
+body_of (SemaphoreKind value) x = SemaphoreBody (counter_of x.semaphore)
 
 -- the row of object o
-abbrev pub row_made : ℕ → Option Object → Option Facts → Queue → Option ObjectRow
+abbrev pub row_made : ℕ → Option Object → Option Facts → Inside → Option ObjectRow
 row_made o (Some x) (Some at) q = Some (record { number = o; object = x; facts = at; body = body_of x.kind q })
 row_made o _ _ q = None
 
 -- the row of object o with what stands in it, while it is alive
-abbrev pub row_with : Config → History → (ℕ → Queue) → ℕ → Option ObjectRow
+abbrev pub row_with : Config → History → (ℕ → Inside) → ℕ → Option ObjectRow
 row_with c h q o = if alive h o then row_made o (object c h o) (facts c h o) (q o) else None
 
 -- the objects that are alive, with what stands in them and what is parked on them
 pub record ObjectsAgree (c : Config) (h : History) (objects : List ObjectRow) (created : ℕ) : Type 0 where
-  pub rows : objects ≡ gathered_below (row_with c h (queue c h)) (creations h)
+  pub rows : objects ≡ gathered_below (row_with c h (inside c h)) (creations h)
   pub count : created ≡ creations h
 
 -- the row of description d, by whether its session's calls are refused where they would wait

@@ -1,21 +1,21 @@
 //! What an accepted event does to the tables.
 
-ghost use Rattle.std.specs.Prelude.{◌≡◌, ◌+◌, ◌^◌, ◌<◌, ◌∷◌, length, None, OnOk, OnErr};
+ghost use Rattle.std.specs.Prelude.{◌≡◌, ◌+◌, ◌^◌, ◌<◌, ◌∷◌, length, None, IsSome, OnOk, OnErr};
 ghost use Rattle.ipc_terms.specs.declared.record.Event.TheVariants.{Hello, Do, Hangup};
-ghost use Rattle.ipc_terms.specs.declared.call.Call.TheVariants.{Umask, MqOpen, MqClose, MqSend, MqReceive, MqSetattr, MqUnlink, Interrupt};
-ghost use Rattle.ipc_terms.specs.declared.object.Kind.TheVariants.{Queue as QueueKind};
+ghost use Rattle.ipc_terms.specs.declared.call.Call.TheVariants.{Umask, MqSend, MqReceive, MqSetattr, SemPost, SemWait, SemTryWait, Interrupt};
 ghost use Rattle.ipc_policy.specs.History.{after_accepted};
-ghost use Rattle.ipc_policy.specs.Objects.{attributes_of, without_mask};
+ghost use Rattle.ipc_policy.specs.Names.{opening, nonblock_asked};
+ghost use Rattle.ipc_policy.specs.Objects.{made_by, first_facts};
 ghost use Rattle.ipc_policy.specs.Verdict.{verdict};
 ghost use Rattle.ipc_state.specs.Agrees.{Agrees, IsCore};
 
 use crate::looking::object_number;
 use ipc_access::Cred;
-use ipc_policy::Config;
+use ipc_policy::{Config, Opening, opening_of};
 use ipc_tables::{Grant, Tables};
 use ipc_terms::{
-    Attributes, Bytes, Call, Desc, Event, Facts, Family, Kind, Mode, Name, NoMemory, Object,
-    QueueOpen, Sid, Uid,
+    Asked, Attributes, Bytes, Call, Desc, Event, Facts, Family, Kind, Mode, NoMemory, Object, Sid,
+    Uid,
 };
 use ipc_trail::Trail;
 use std::alloc::Global;
@@ -41,7 +41,8 @@ pub fn accept(
                 accept_umask(tables, config, past, *sid, *mask);
                 Ok(())
             }
-            Call::MqOpen(asked) => accept_open(alloc, tables, config, past, *sid, asked),
+            Call::MqOpen(_) => accept_open(alloc, tables, config, past, event),
+            Call::SemOpen(_) => accept_open(alloc, tables, config, past, event),
             Call::MqSend {
                 desc,
                 priority,
@@ -55,12 +56,30 @@ pub fn accept(
                 accept_setattr(tables, config, past, *sid, *desc, *nonblock);
                 Ok(())
             }
+            Call::SemPost(desc) => {
+                accept_post(tables, config, past, *sid, *desc);
+                Ok(())
+            }
+            Call::SemWait(desc) => accept_wait(tables, config, past, *sid, *desc),
+            Call::SemTryWait(desc) => {
+                accept_try_wait(tables, config, past, *sid, *desc);
+                Ok(())
+            }
+            Call::SemGetvalue(_) => Ok(()),
             Call::MqClose(desc) => {
-                accept_close(tables, config, past, *sid, *desc);
+                tables.close(*sid, *desc);
+                Ok(())
+            }
+            Call::SemClose(desc) => {
+                tables.close(*sid, *desc);
                 Ok(())
             }
             Call::MqUnlink(name) => {
-                accept_unlink(tables, config, past, *sid, name);
+                tables.unlink(Family::Mq, name);
+                Ok(())
+            }
+            Call::SemUnlink(name) => {
+                tables.unlink(Family::Sem, name);
                 Ok(())
             }
             Call::ListNames { .. } => Ok(()),
@@ -162,20 +181,45 @@ fn accept_setattr(
     tables.set_nonblock(sid, desc, nonblock);
 }
 
-fn accept_close(tables: &mut Tables, config: &Config, past: &Trail, sid: Sid, desc: Desc)
+fn accept_post(tables: &mut Tables, config: &Config, past: &Trail, sid: Sid, desc: Desc)
     requires core { IsCore config.now past.now.history tables.old }
-    requires accepted { verdict config.now past.now.history (Do sid (MqClose desc)) ≡ None }
-    ensures { Agrees config.now (after_accepted past.now.history (Do sid (MqClose desc))) tables.new }
+    requires accepted { verdict config.now past.now.history (Do sid (SemPost desc)) ≡ None }
+    ensures { Agrees config.now (after_accepted past.now.history (Do sid (SemPost desc))) tables.new }
 {
-    tables.close(sid, desc);
+    let Some(object) = object_number(tables, sid, desc) else {
+        unreachable!();
+    };
+    tables.post(object);
 }
 
-fn accept_unlink(tables: &mut Tables, config: &Config, past: &Trail, sid: Sid, name: &Name)
+fn accept_wait(
+    tables: &mut Tables,
+    config: &Config,
+    past: &Trail,
+    sid: Sid,
+    desc: Desc,
+) -> Result<(), NoMemory>
     requires core { IsCore config.now past.now.history tables.old }
-    requires accepted { verdict config.now past.now.history (Do sid (MqUnlink name.now)) ≡ None }
-    ensures { Agrees config.now (after_accepted past.now.history (Do sid (MqUnlink name.now))) tables.new }
+    requires accepted { verdict config.now past.now.history (Do sid (SemWait desc)) ≡ None }
+    ensures ok { OnOk result (Agrees config.now (after_accepted past.now.history (Do sid (SemWait desc))) tables.new) }
+    ensures err { OnErr result (tables.new ≡ tables.old) }
 {
-    tables.unlink(name);
+    let Some(object) = object_number(tables, sid, desc) else {
+        unreachable!();
+    };
+    tables.wait(object, sid)?;
+    Ok(())
+}
+
+fn accept_try_wait(tables: &mut Tables, config: &Config, past: &Trail, sid: Sid, desc: Desc)
+    requires core { IsCore config.now past.now.history tables.old }
+    requires accepted { verdict config.now past.now.history (Do sid (SemTryWait desc)) ≡ None }
+    ensures { Agrees config.now (after_accepted past.now.history (Do sid (SemTryWait desc))) tables.new }
+{
+    let Some(object) = object_number(tables, sid, desc) else {
+        unreachable!();
+    };
+    tables.try_wait(object);
 }
 
 fn accept_interrupt(tables: &mut Tables, config: &Config, past: &Trail, sid: Sid)
@@ -199,57 +243,72 @@ fn accept_open(
     tables: &mut Tables,
     config: &Config,
     past: &Trail,
-    sid: Sid,
-    asked: &QueueOpen,
+    event: &Event,
 ) -> Result<(), NoMemory>
+    requires opens { IsSome (opening event.now) }
     requires core { IsCore config.now past.now.history tables.old }
-    requires accepted { verdict config.now past.now.history (Do sid (MqOpen asked.now)) ≡ None }
+    requires accepted { verdict config.now past.now.history event.now ≡ None }
     requires room { length past.now.history + 1 < 2 ^ 63 }
-    ensures ok { OnOk result (Agrees config.now (after_accepted past.now.history (Do sid (MqOpen asked.now))) tables.new) }
+    ensures ok { OnOk result (Agrees config.now (after_accepted past.now.history event.now) tables.new) }
     ensures err { OnErr result (tables.new ≡ tables.old) }
 {
-    let grant = Grant {
-        session: sid,
-        access: asked.access,
-        nonblock: asked.flags.is_nonblock(),
+    let Some(asked) = opening_of(event) else {
+        unreachable!();
     };
-    if let Some(object) = tables.names(Family::Mq).get(&asked.name) {
+    let grant = grant_of(&asked);
+    if let Some(object) = tables.names(asked.family).get(asked.name) {
         tables.open_found(grant, object)?;
         return Ok(());
     }
-    let Some(session) = tables.session(sid) else {
+    let Some(session) = tables.session(asked.session) else {
         unreachable!();
     };
     let Some(who) = config.users.cred(session.user) else {
         unreachable!();
     };
-    let object = new_object(config, asked, who);
-    let facts = new_facts(asked, session.mask, who);
-    tables.open_created(alloc, grant, &asked.name, object, facts)?;
+    let object = new_object(config, &asked, who);
+    let facts = new_facts(&asked, session.mask, who);
+    tables.open_created(alloc, grant, asked.name, object, facts)?;
     Ok(())
 }
 
-/// What a creating open fixes.
-fn new_object(config: &Config, asked: &QueueOpen, who: &Cred) -> Object
-    ensures { result ≡ record { creator = who.now.uid; kind = QueueKind (attributes_of config.now asked.now.attributes) } }
+/// Who opens, and what the description gives besides the object.
+fn grant_of(asked: &Opening) -> Grant
+    ensures { result ≡ record { session = asked.now.session; access = asked.now.access; nonblock = nonblock_asked asked.now.kind asked.now.flags } }
 {
-    let attributes = match asked.attributes {
-        Some(given) => given,
-        None => Attributes {
+    let nonblock = match asked.kind {
+        Asked::Queue(_) => asked.flags.is_nonblock(),
+        Asked::Semaphore(_) => false,
+    };
+    Grant {
+        session: asked.session,
+        access: asked.access,
+        nonblock,
+    }
+}
+
+/// What a creating open fixes.
+fn new_object(config: &Config, asked: &Opening, who: &Cred) -> Object
+    ensures { result ≡ made_by config.now asked.now who.now }
+{
+    let kind = match asked.kind {
+        Asked::Queue(Some(given)) => Kind::Queue(given),
+        Asked::Queue(None) => Kind::Queue(Attributes {
             maxmsg: config.limits.msg_max.min(10),
             msgsize: config.limits.msgsize_max.min(8192),
-        },
+        }),
+        Asked::Semaphore(value) => Kind::Semaphore(value),
     };
     Object {
         creator: who.uid,
-        kind: Kind::Queue(attributes),
+        kind,
     }
 }
 
 /// The first owner, group and mode of what a creating open makes.
-fn new_facts(asked: &QueueOpen, mask: Mode, who: &Cred) -> Facts
+fn new_facts(asked: &Opening, mask: Mode, who: &Cred) -> Facts
     requires { mask.0 < 512 }
-    ensures { result ≡ record { owner = who.now.uid; group = who.now.gid; mode = without_mask asked.now.mode mask.0 } }
+    ensures { result ≡ first_facts asked.now mask.0 who.now }
 {
     Facts {
         owner: who.uid,

@@ -5,7 +5,7 @@ ghost use Rattle.std.specs.Option.{option_map, option_copied};
 ghost use Rattle.ipc_access.specs.Users.{cred_of};
 ghost use Rattle.ipc_descr.specs.Descriptions.{row_of};
 ghost use Rattle.ipc_queue.specs.Tickets.{is_full_of};
-ghost use Rattle.ipc_tables.specs.Objects.{row_at, facts_at, queue_at};
+ghost use Rattle.ipc_tables.specs.Objects.{row_at, facts_at, queue_at, semaphore_at};
 ghost use Rattle.ipc_tables.specs.Kept.{live_at, parked_on_at};
 ghost use Rattle.ipc_policy.specs.History.{there_is};
 ghost use Rattle.ipc_state.specs.Agrees.{held_in};
@@ -13,6 +13,7 @@ ghost use Rattle.ipc_state.specs.Agrees.{held_in};
 use ipc_access::Cred;
 use ipc_policy::{Config, Held};
 use ipc_queue::Queue;
+use ipc_sem::Sem;
 use ipc_tables::Tables;
 use ipc_terms::{Desc, Facts, Object, Sid};
 
@@ -110,6 +111,23 @@ pub fn is_empty(queue: Option<&Queue>) -> bool
 {
     match queue {
         Some(queue) => queue.len() == 0,
+        None => false,
+    }
+}
+
+/// The semaphore that the object is.
+pub fn semaphore(tables: &Tables, object: Option<u64>) -> Option<&Sem>
+    ensures { option_copied result ≡ option_and_then (semaphore_at tables.now.objects) object }
+{
+    tables.semaphore(object?)
+}
+
+/// Whether there is a semaphore, and this is its value.
+pub fn has_value(semaphore: Option<&Sem>, value: u32) -> bool
+    ensures { result ≡ there_is (λ q. q.value == value) (option_copied semaphore.entry) }
+{
+    match semaphore {
+        Some(semaphore) => semaphore.value() == value,
         None => false,
     }
 }

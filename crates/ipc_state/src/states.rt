@@ -9,13 +9,13 @@ ghost use Rattle.ipc_policy.specs.Names.{is_bound, bound};
 ghost use Rattle.ipc_policy.specs.Objects.{facts, directory};
 ghost use Rattle.ipc_policy.specs.Descriptions.{opens, holds, held_count, is_nonblock};
 ghost use Rattle.ipc_policy.specs.Life.{names};
-ghost use Rattle.ipc_policy.specs.Queues.{next, contents, senders, receivers};
+ghost use Rattle.ipc_policy.specs.Queues.{next};
 ghost use Rattle.ipc_policy.specs.Parking.{parked};
-ghost use Rattle.ipc_policy.specs.Rules.{there_is, object_held, is_full, is_empty};
+ghost use Rattle.ipc_policy.specs.Rules.{there_is, object_held, is_full, is_empty, is_zero, is_greatest};
 ghost use Rattle.ipc_policy.specs.Verdict.{verdict, Legal};
 ghost use Rattle.ipc_state.specs.Ranges.{first_bad};
-ghost use Rattle.ipc_state.specs.Past.{brought, with_event};
-ghost use Rattle.ipc_state.specs.Agrees.{queue_meant};
+ghost use Rattle.ipc_state.specs.Past.{brought, queue_by, semaphore_by, with_event};
+ghost use Rattle.ipc_state.specs.Agrees.{queue_meant, semaphore_meant};
 
 use crate::accept::accept;
 use crate::looking;
@@ -23,9 +23,11 @@ use crate::message::Message;
 use ipc_access::Cred;
 use ipc_policy::{Config, Held};
 use ipc_queue::Queue;
+use ipc_sem::Sem;
 use ipc_tables::Tables;
 use ipc_terms::{
-    Desc, Event, Facts, Family, Mode, Name, Names, NoMemory, Object, Record, Rule, Sid,
+    Desc, Event, Facts, Family, Mode, Name, Names, NoMemory, Object, Record, Rule, SEM_VALUE_MAX,
+    Sid,
 };
 use ipc_trail::Trail;
 use std::alloc::Global;
@@ -223,7 +225,7 @@ impl State {
 
     /// How many messages the queue has that the session has by the description.
     pub fn messages_held(&self, sid: Sid, desc: Desc) -> Option<u32>
-        ensures { result ≡ option_map (λ x. length (contents self.now.config self.now.history x.object)) (holds self.now.history sid.0 desc.0) }
+        ensures { result ≡ option_map (λ q. length q.contents) (queue_by self.now.config self.now.history sid.0 desc.0) }
     {
         let queue = self.queue_held(sid, desc)?;
         Some(queue.len() as u32)
@@ -231,7 +233,7 @@ impl State {
 
     /// The message that the session's receive by the description would get at once.
     pub fn next_held(&self, sid: Sid, desc: Desc) -> Option<Message<'_>>
-        ensures { result ≡ option_and_then (λ x. option_map brought (next (contents self.now.config self.now.history x.object))) (holds self.now.history sid.0 desc.0) }
+        ensures { result ≡ option_and_then (λ q. option_map brought (next q.contents)) (queue_by self.now.config self.now.history sid.0 desc.0) }
     {
         let queue = self.queue_held(sid, desc)?;
         let place = queue.next()?;
@@ -244,7 +246,7 @@ impl State {
     /// The session whose receive has been parked longest on the queue that the session has by the
     /// description.
     pub fn receiver_held(&self, sid: Sid, desc: Desc) -> Option<Sid>
-        ensures { result ≡ option_and_then (λ x. option_map (λ w. record { 0 = w.session }) (first (receivers self.now.config self.now.history x.object))) (holds self.now.history sid.0 desc.0) }
+        ensures { result ≡ option_and_then (λ q. option_map (λ w. record { 0 = w.session }) (first q.receivers)) (queue_by self.now.config self.now.history sid.0 desc.0) }
     {
         let queue = self.queue_held(sid, desc)?;
         queue.receiver()
@@ -253,16 +255,56 @@ impl State {
     /// The session whose send has been parked longest on the queue that the session has by the
     /// description.
     pub fn sender_held(&self, sid: Sid, desc: Desc) -> Option<Sid>
-        ensures { result ≡ option_and_then (λ x. option_map (λ m. record { 0 = m.session }) (first (senders self.now.config self.now.history x.object))) (holds self.now.history sid.0 desc.0) }
+        ensures { result ≡ option_and_then (λ q. option_map (λ m. record { 0 = m.session }) (first q.senders)) (queue_by self.now.config self.now.history sid.0 desc.0) }
     {
         let queue = self.queue_held(sid, desc)?;
         queue.sender()
     }
 
-    /// The queue that the session has by the description, in a history that is legal.
+    /// Whether the session has a semaphore by the description, and its value is 0.
+    pub fn is_zero(&self, sid: Sid, desc: Desc) -> bool
+        ensures { result ≡ there_is (λ x. is_zero self.now.config self.now.history x.object) (holds self.now.history sid.0 desc.0) }
+    {
+        looking::has_value(self.semaphore_held(sid, desc), 0)
+    }
+
+    /// Whether the session has a semaphore by the description, and its value is the greatest.
+    pub fn is_greatest(&self, sid: Sid, desc: Desc) -> bool
+        ensures { result ≡ there_is (λ x. is_greatest self.now.config self.now.history x.object) (holds self.now.history sid.0 desc.0) }
+    {
+        looking::has_value(self.semaphore_held(sid, desc), SEM_VALUE_MAX)
+    }
+
+    /// The value of the semaphore that the session has by the description.
+    pub fn value_held(&self, sid: Sid, desc: Desc) -> Option<u32>
+        ensures { result ≡ option_map (λ q. q.value) (semaphore_by self.now.config self.now.history sid.0 desc.0) }
+    {
+        let semaphore = self.semaphore_held(sid, desc)?;
+        Some(semaphore.value())
+    }
+
+    /// The session whose wait has been parked longest on the semaphore that the session has by the
+    /// description.
+    pub fn waiter_held(&self, sid: Sid, desc: Desc) -> Option<Sid>
+        ensures { result ≡ option_and_then (λ q. option_map (λ w. record { 0 = w.session }) (first q.waiters)) (semaphore_by self.now.config self.now.history sid.0 desc.0) }
+    {
+        let semaphore = self.semaphore_held(sid, desc)?;
+        semaphore.waiter()
+    }
+
+    /// The semaphore that the session has by the description.
+    fn semaphore_held(&self, sid: Sid, desc: Desc) -> Option<&Sem>
+        ensures { option_copied result ≡ option_and_then (semaphore_meant self.now.config self.now.history) (option_map (λ x. x.object) (holds self.now.history sid.0 desc.0)) }
+    {
+        looking::semaphore(
+            &self.tables,
+            looking::object_number(&self.tables, sid, desc),
+        )
+    }
+
+    /// The queue that the session has by the description.
     fn queue_held(&self, sid: Sid, desc: Desc) -> Option<&Queue>
-        ensures legal { Legal self.now.config self.now.history }
-        ensures found { option_copied result ≡ option_and_then (queue_meant self.now.config self.now.history) (option_map (λ x. x.object) (holds self.now.history sid.0 desc.0)) }
+        ensures { option_copied result ≡ option_and_then (queue_meant self.now.config self.now.history) (option_map (λ x. x.object) (holds self.now.history sid.0 desc.0)) }
     {
         looking::queue(
             &self.tables,

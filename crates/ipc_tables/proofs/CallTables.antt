@@ -1,4 +1,4 @@
--- What the calls on queues do to the tables, by what becomes of a send and of a receive.
+-- What the calls on queues and semaphores do to the tables, by what becomes of a send, a receive, a post and a wait.
 use Rattle.std.proofs.Common.{◌≡◌, ℕ, ◌<◌, Bool, true, false, List, length, get_or, is_some, Option, Some, None, refl, sym, ap, ◌∙◌}
 use Rattle.std.specs.Prelude.{option_and_then}
 use Rattle.std.specs.List.{position}
@@ -11,12 +11,15 @@ use Rattle.ipc_queue.specs.declared.queue.SendOutcome.{SendOutcome}
 use Rattle.ipc_queue.specs.declared.queue.SendOutcome.TheVariants.{HandedTo}
 use Rattle.ipc_queue.specs.declared.queue.ReceiveOutcome.{ReceiveOutcome}
 use Rattle.ipc_queue.specs.declared.queue.ReceiveOutcome.TheVariants.{TookAndAdmitted}
-use Rattle.ipc_queue.specs.Tickets.{Tickets, is_full_of, next_place, send_outcome, outcome_by_receiver, receive_outcome, outcome_by_next, sent, received, withdrawn}
+use Rattle.ipc_queue.specs.Tickets.{Tickets, is_full_of, next_place, send_outcome, outcome_by_receiver, receive_outcome, outcome_by_next, sent, received}
+use Rattle.ipc_sem.specs.declared.semaphore.WaitOutcome.{WaitOutcome}
+use Rattle.ipc_sem.specs.Counters.{Counter, overflows, posted, wait_outcome, waited}
 use Rattle.ipc_tables.specs.declared.rows.Session.{Session}
 use Rattle.ipc_tables.specs.declared.rows.ObjectRow.{ObjectRow}
-use Rattle.ipc_tables.specs.Objects.{is_number, queue_in, queue_at, with_queue}
+use Rattle.ipc_tables.specs.declared.rows.Body.{Body}
+use Rattle.ipc_tables.specs.Objects.{is_number, queue_in, row_at, queue_at, semaphore_at, with_queue, with_semaphore, with_withdrawal}
 use Rattle.ipc_tables.specs.Kept.{Kept, parked_on_at}
-use Rattle.ipc_tables.specs.Steps.{with_parked, parked_by_send, parked_by_receive, after_send, after_receive, after_withdrawal}
+use Rattle.ipc_tables.specs.Steps.{with_parked, parked_by_send, parked_by_receive, parked_by_post, parked_by_wait, waiter_at, after_send, after_receive, after_post, after_wait, after_withdrawal}
 use Rattle.ipc_terms.proofs.Lists.{count_changed}
 use Rattle.ipc_terms.proofs.Changing.{none_found, place_found}
 use Rattle.ipc_terms.proofs.Lists.{stands_there}
@@ -50,11 +53,22 @@ admitted_in None place who e = absurd cc
 admitted_in (Some q) place who e = let same : TookAndAdmitted place who ≡ receive_outcome q = cc in (q, (refl, admitted_is q place who (sym same)))
 
 -- an object that is there stands in the table
+pub no_row : {A : Type 0} (of : Body → Option A) (rows : List ObjectRow) (o : ℕ) → position (is_number o) rows ≡ None → is_some (option_and_then (λ (row : ObjectRow). of row.body) (row_at rows o)) ≡ true → ⊥
+no_row of rows o e k = let none = ap (λ w. is_some (option_and_then (λ (row : ObjectRow). of row.body) w)) (sym (none_found (is_number o) rows e)) ∙ k in cc
+
+pub at_row : {A : Type 0} (of : Body → Option A) (rows : List ObjectRow) (o i : ℕ) (row : ObjectRow) → position (is_number o) rows ≡ Some i → row ≡ get_or rows i row → option_and_then (λ (r : ObjectRow). of r.body) (row_at rows o) ≡ of row.body
+at_row of rows o i row e is = ap (option_and_then (λ (r : ObjectRow). of r.body)) (place_found (is_number o) rows i row e is)
+
+-- what has room for a post is a semaphore
+pub some_room : (w : Option Counter) → option_map overflows w ≡ Some false → is_some w ≡ true
+some_room None e = absurd cc
+some_room (Some x) e = refl
+
 pub no_place : (rows : List ObjectRow) (o : ℕ) → position (is_number o) rows ≡ None → is_some (queue_at rows o) ≡ true → ⊥
-no_place rows o e k = let none = ap (λ w. is_some (option_and_then (λ (row : ObjectRow). queue_in row.body) w)) (sym (none_found (is_number o) rows e)) ∙ k in cc
+no_place rows o e k = no_row queue_in rows o e k
 
 pub at_place : (rows : List ObjectRow) (o i : ℕ) (row : ObjectRow) → position (is_number o) rows ≡ Some i → row ≡ get_or rows i row → queue_at rows o ≡ queue_in row.body
-at_place rows o i row e is = ap (option_and_then (λ (r : ObjectRow). queue_in r.body)) (place_found (is_number o) rows i row e is)
+at_place rows o i row e is = at_row queue_in rows o i row e is
 
 -- the tables after a send and after a receive, part by part
 pub after_send_is : (t : Kept) (o : ℕ) (ticket : Ticket) (sid : Sid) (ss : List Session) (rows : List ObjectRow) (out : SendOutcome) → Some out ≡ option_map send_outcome (queue_at t.objects o) → ss ≡ parked_by_send o sid (Some out) t.sessions → rows ≡ changed_first (is_number o) (with_queue (sent ticket sid)) t.objects → record t { sessions = ss; objects = rows } ≡ after_send t o ticket sid
@@ -63,11 +77,18 @@ after_send_is t o ticket sid ss rows out e one two = rw (one, two) (ap (λ w. re
 pub after_receive_is : (t : Kept) (o : ℕ) (sid : Sid) (ss : List Session) (rows : List ObjectRow) (out : ReceiveOutcome) → Some out ≡ option_map receive_outcome (queue_at t.objects o) → ss ≡ parked_by_receive o sid (Some out) t.sessions → rows ≡ changed_first (is_number o) (with_queue (received sid)) t.objects → record t { sessions = ss; objects = rows } ≡ after_receive t o sid
 after_receive_is t o sid ss rows out e one two = rw (one, two) (ap (λ w. record t { sessions = parked_by_receive o sid w t.sessions; objects = changed_first (is_number o) (with_queue (received sid)) t.objects }) e)
 
+-- and after a post and after a wait
+pub after_post_is : (t : Kept) (o : ℕ) (ss : List Session) (rows : List ObjectRow) (served : Option Sid) → served ≡ waiter_at t.objects o → ss ≡ parked_by_post served t.sessions → rows ≡ changed_first (is_number o) (with_semaphore posted) t.objects → record t { sessions = ss; objects = rows } ≡ after_post t o
+after_post_is t o ss rows served e one two = rw (one, two) (ap (λ w. record t { sessions = parked_by_post w t.sessions; objects = changed_first (is_number o) (with_semaphore posted) t.objects }) e)
+
+pub after_wait_is : (t : Kept) (o : ℕ) (sid : Sid) (ss : List Session) (rows : List ObjectRow) (out : WaitOutcome) → Some out ≡ option_map wait_outcome (semaphore_at t.objects o) → ss ≡ parked_by_wait o sid (Some out) t.sessions → rows ≡ changed_first (is_number o) (with_semaphore (waited sid)) t.objects → record t { sessions = ss; objects = rows } ≡ after_wait t o sid
+after_wait_is t o sid ss rows out e one two = rw (one, two) (ap (λ w. record t { sessions = parked_by_wait o sid w t.sessions; objects = changed_first (is_number o) (with_semaphore (waited sid)) t.objects }) e)
+
 -- a withdrawal, where the session was parked
 pub parked_row : (xs : List Session) (s : ℕ) (row : Session) (o : ℕ) → s < length xs → row ≡ get_or xs s row → row.parked_on ≡ Some o → parked_on_at xs s ≡ Some o
 parked_row xs s row o lt e k = ap (option_and_then (λ (r : Session). r.parked_on)) (stands_there xs s row lt e) ∙ k
 
-pub after_withdrawal_is : (t : Kept) (sid : Sid) (o : ℕ) (cs : List ObjectRow) → parked_on_at t.sessions sid.0 ≡ Some o → cs ≡ changed_first (is_number o) (with_queue (withdrawn sid)) t.objects → record t { sessions = changed (with_parked None) t.sessions sid.0; objects = cs } ≡ after_withdrawal t sid
+pub after_withdrawal_is : (t : Kept) (sid : Sid) (o : ℕ) (cs : List ObjectRow) → parked_on_at t.sessions sid.0 ≡ Some o → cs ≡ changed_first (is_number o) (with_withdrawal sid) t.objects → record t { sessions = changed (with_parked None) t.sessions sid.0; objects = cs } ≡ after_withdrawal t sid
 after_withdrawal_is t sid o cs e one = rw (e, one) refl
 
 pub withdrawal_count : (t : Kept) (sid : Sid) → length (after_withdrawal t sid).sessions ≡ length t.sessions

@@ -1,30 +1,52 @@
 -- Objects in their table, and what is looked up there.
-use Rattle.std.specs.Prelude.{Bool, ℕ, ◌<◌, ◌==◌, List, [], find, Option, Some, None, option_and_then}
+use Rattle.std.specs.Prelude.{Bool, ℕ, ◌<◌, ◌≤◌, ◌==◌, List, [], find, Option, Some, None, option_and_then}
 use Rattle.std.specs.Option.{option_map}
 use Rattle.ipc_terms.specs.declared.facts.Facts.{Facts}
 use Rattle.ipc_terms.specs.declared.object.Kind.{Kind}
-use Rattle.ipc_terms.specs.declared.object.Kind.TheVariants.{Queue as QueueKind}
+use Rattle.ipc_terms.specs.declared.object.Kind.TheVariants.{Queue as QueueKind, Semaphore as SemaphoreKind}
+use Rattle.ipc_terms.specs.declared.object.TheConstants.{SEM_VALUE_MAX}
 use Rattle.ipc_terms.specs.declared.object.Object.{Object}
-use Rattle.ipc_queue.specs.Tickets.{Tickets}
+use Rattle.ipc_terms.specs.declared.ids.Sid.{Sid}
+use Rattle.ipc_queue.specs.Tickets.{Tickets, withdrawn as withdrawn_call}
+use Rattle.ipc_sem.specs.Counters.{Counter, withdrawn as withdrawn_wait}
 use Rattle.ipc_tables.specs.declared.rows.Body.{Body}
-use Rattle.ipc_tables.specs.declared.rows.Body.TheVariants.{Queue as QueueBody}
+use Rattle.ipc_tables.specs.declared.rows.Body.TheVariants.{Queue as QueueBody, Semaphore as SemaphoreBody}
 use Rattle.ipc_tables.specs.declared.rows.ObjectRow.{ObjectRow}
 
--- a queue has room for a message of a byte
+-- a queue has room for a message of a byte, and a semaphore's first value is in its range
 abbrev pub HasRoom : Kind → Type 0
 HasRoom (QueueKind attributes) = (0 < attributes.maxmsg) × (0 < attributes.msgsize)
+HasRoom (SemaphoreKind value) = value ≤ SEM_VALUE_MAX
 
 -- the queue, if it is one
 abbrev pub queue_in : Body → Option Tickets
 queue_in (QueueBody queue) = Some queue
+queue_in (SemaphoreBody semaphore) = None
+
+-- the semaphore, if it is one
+abbrev pub semaphore_in : Body → Option Counter
+semaphore_in (QueueBody queue) = None
+semaphore_in (SemaphoreBody semaphore) = Some semaphore
 
 -- the queue changes
 abbrev pub with_body : (Tickets → Tickets) → Body → Body
 with_body change (QueueBody queue) = QueueBody (change queue)
+with_body change (SemaphoreBody semaphore) = SemaphoreBody semaphore
+
+-- the semaphore changes
+abbrev pub with_counter : (Counter → Counter) → Body → Body
+with_counter change (QueueBody queue) = QueueBody queue
+with_counter change (SemaphoreBody semaphore) = SemaphoreBody (change semaphore)
+
+-- the session's parked call is gone
+abbrev pub without_call : Sid → Body → Body
+without_call who (QueueBody queue) = QueueBody (withdrawn_call who queue)
+without_call who (SemaphoreBody semaphore) = SemaphoreBody (withdrawn_wait who semaphore)
 
 -- what stands in a new object
 abbrev pub new_body : Kind → Body
 new_body (QueueKind attributes) = QueueBody (record { maxmsg = attributes.maxmsg; msgsize = attributes.msgsize; tickets = []; senders = []; receivers = [] })
+new_body (SemaphoreKind value) = SemaphoreBody (record { value = value; waiters = [] })
 
 -- the row of a new object
 abbrev pub new_row : ℕ → Object → Facts → ObjectRow
@@ -46,6 +68,18 @@ facts_at objects o = option_map (λ row. row.facts) (row_at objects o)
 abbrev pub queue_at : List ObjectRow → ℕ → Option Tickets
 queue_at objects o = option_and_then (λ row. queue_in row.body) (row_at objects o)
 
+-- the semaphore that object o is
+abbrev pub semaphore_at : List ObjectRow → ℕ → Option Counter
+semaphore_at objects o = option_and_then (λ row. semaphore_in row.body) (row_at objects o)
+
 -- the queue in a row changes
 abbrev pub with_queue : (Tickets → Tickets) → ObjectRow → ObjectRow
 with_queue change row = record row { body = with_body change row.body }
+
+-- the semaphore in a row changes
+abbrev pub with_semaphore : (Counter → Counter) → ObjectRow → ObjectRow
+with_semaphore change row = record row { body = with_counter change row.body }
+
+-- the session's parked call in a row is gone
+abbrev pub with_withdrawal : Sid → ObjectRow → ObjectRow
+with_withdrawal who row = record row { body = without_call who row.body }

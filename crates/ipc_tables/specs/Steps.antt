@@ -1,7 +1,10 @@
 -- What each call does to the tables.
-use Rattle.std.specs.Prelude.{◌≡◌, Bool, true, false, ℕ, ◌+◌, ◌<◌, List, [], ◌∷◌, ◌++◌, length, filter, Option, Some, None}
+use Rattle.std.specs.Prelude.{◌≡◌, Bool, true, false, ℕ, ◌+◌, ◌<◌, List, [], ◌∷◌, ◌++◌, length, filter, Option, Some, None, option_and_then}
 use Rattle.std.specs.Option.{option_map}
 use Rattle.ipc_terms.specs.Lists.{first, changed, changed_first}
+use Rattle.ipc_terms.specs.Objects.{family_of}
+use Rattle.ipc_terms.specs.declared.ids.Family.{Family}
+use Rattle.ipc_terms.specs.declared.ids.Family.TheVariants.{Mq, Sem}
 use Rattle.ipc_terms.specs.declared.ids.Uid.{Uid}
 use Rattle.ipc_terms.specs.declared.ids.Sid.{Sid}
 use Rattle.ipc_terms.specs.declared.ids.Mode.{Mode}
@@ -16,11 +19,14 @@ use Rattle.ipc_queue.specs.declared.queue.SendOutcome.{SendOutcome}
 use Rattle.ipc_queue.specs.declared.queue.SendOutcome.TheVariants.{HandedTo, Parked as SendParks}
 use Rattle.ipc_queue.specs.declared.queue.ReceiveOutcome.{ReceiveOutcome}
 use Rattle.ipc_queue.specs.declared.queue.ReceiveOutcome.TheVariants.{TookAndAdmitted, Parked as ReceiveParks}
-use Rattle.ipc_queue.specs.Tickets.{Tickets, send_outcome, sent, receive_outcome, received, withdrawn}
+use Rattle.ipc_queue.specs.Tickets.{Tickets, send_outcome, sent, receive_outcome, received}
+use Rattle.ipc_sem.specs.declared.semaphore.WaitOutcome.{WaitOutcome}
+use Rattle.ipc_sem.specs.declared.semaphore.WaitOutcome.TheVariants.{Parked as WaitParks}
+use Rattle.ipc_sem.specs.Counters.{posted, wait_outcome, waited, tried}
 use Rattle.ipc_tables.specs.declared.rows.Session.{Session}
 use Rattle.ipc_tables.specs.declared.rows.ObjectRow.{ObjectRow}
 use Rattle.ipc_tables.specs.declared.tables.Grant.{Grant}
-use Rattle.ipc_tables.specs.Objects.{is_number, queue_at, new_row, with_queue}
+use Rattle.ipc_tables.specs.Objects.{is_number, queue_at, semaphore_at, new_row, with_queue, with_semaphore, with_withdrawal}
 use Rattle.ipc_tables.specs.Kept.{Kept, is_alive, parked_on_at}
 
 abbrev pub with_mask : Mode → Session → Session
@@ -43,15 +49,31 @@ after_umask t s mask = record t { sessions = changed (with_mask mask) t.sessions
 abbrev pub after_found : Kept → Grant → ℕ → Kept
 after_found t grant o = record t { descriptions = with_open t.descriptions grant.session o grant.access grant.nonblock }
 
--- an open that creates a queue
-abbrev pub after_created : Kept → Grant → List ℕ → Object → Facts → Kept
-after_created t grant name object facts =
+-- the directory of a family changes
+abbrev pub with_directory : Family → (Directory → Directory) → Kept → Kept
+with_directory Mq change t = record t { queues = change t.queues }
+with_directory Sem change t = record t { semaphores = change t.semaphores }
+
+-- a name of the family is bound to the object
+abbrev pub with_binding : Family → List ℕ → ℕ → Kept → Kept
+with_binding family name o t = with_directory family (λ d. record d { bindings = d.bindings ++ record { name = name; object = o } ∷ [] }) t
+
+-- a name of the family is bound to no object
+abbrev pub without_binding : Family → List ℕ → Kept → Kept
+without_binding family name t = with_directory family (λ d. record d { bindings = without_name d.bindings name }) t
+
+-- an object of the next number is made and opened
+abbrev pub with_object : Kept → Grant → Object → Facts → Kept
+with_object t grant object facts =
     record t {
-      queues = record t.queues { bindings = t.queues.bindings ++ record { name = name; object = t.created } ∷ [] };
       objects = t.objects ++ new_row t.created object facts ∷ [];
       created = t.created + 1;
       descriptions = with_open t.descriptions grant.session t.created grant.access grant.nonblock;
     }
+
+-- an open that creates an object
+abbrev pub after_created : Kept → Grant → List ℕ → Object → Facts → Kept
+after_created t grant name object facts = with_object (with_binding (family_of object.kind) name t.created t) grant object facts
 
 -- the objects that are alive
 abbrev pub living : Directory → Directory → List Row → List ObjectRow → List ObjectRow
@@ -68,12 +90,12 @@ with_rows t rows =
 abbrev pub after_close : Kept → ℕ → ℕ → Kept
 after_close t s d = with_rows t (without_desc t.descriptions.rows s d)
 
-abbrev pub after_unlink : Kept → List ℕ → Kept
-after_unlink t name =
-    record t {
-      queues = record t.queues { bindings = without_name t.queues.bindings name };
-      objects = living (record t.queues { bindings = without_name t.queues.bindings name }) t.semaphores t.descriptions.rows t.objects;
-    }
+-- the objects that nothing keeps are gone
+abbrev pub with_living : Kept → Kept
+with_living t = record t { objects = living t.queues t.semaphores t.descriptions.rows t.objects }
+
+abbrev pub after_unlink : Kept → Family → List ℕ → Kept
+after_unlink t family name = with_living (without_binding family name t)
 
 -- a session that a send serves is parked no more, and one whose send parks is parked on the object
 abbrev pub parked_by_send : ℕ → Sid → Option SendOutcome → List Session → List Session
@@ -111,7 +133,45 @@ ReceiverStands t o = (q : Tickets) (who : Sid) → queue_at t.objects o ≡ Some
 abbrev pub SenderStands : Kept → ℕ → Type 0
 SenderStands t o = (q : Tickets) (m : ParkedSend) → queue_at t.objects o ≡ Some q → first q.senders ≡ Some m → m.session.0 < length t.sessions
 
--- the call in which a session is parked is withdrawn from its queue
+-- a session that a post serves is parked no more
+abbrev pub parked_by_post : Option Sid → List Session → List Session
+parked_by_post None sessions = sessions
+parked_by_post (Some waiter) sessions = changed (with_parked None) sessions waiter.0
+
+-- the session whose wait has been parked longest on object o
+abbrev pub waiter_at : List ObjectRow → ℕ → Option Sid
+waiter_at objects o = option_and_then (λ q. first q.waiters) (semaphore_at objects o)
+
+-- a post to object o
+abbrev pub after_post : Kept → ℕ → Kept
+after_post t o =
+    record t {
+      sessions = parked_by_post (waiter_at t.objects o) t.sessions;
+      objects = changed_first (is_number o) (with_semaphore posted) t.objects;
+    }
+
+-- a session whose wait parks is parked on the object
+abbrev pub parked_by_wait : ℕ → Sid → Option WaitOutcome → List Session → List Session
+parked_by_wait o sid (Some WaitParks) sessions = changed (with_parked (Some o)) sessions sid.0
+parked_by_wait o sid _ sessions = sessions
+
+-- a wait of the session for object o
+abbrev pub after_wait : Kept → ℕ → Sid → Kept
+after_wait t o sid =
+    record t {
+      sessions = parked_by_wait o sid (option_map wait_outcome (semaphore_at t.objects o)) t.sessions;
+      objects = changed_first (is_number o) (with_semaphore (waited sid)) t.objects;
+    }
+
+-- a wait for object o that does not park
+abbrev pub after_try : Kept → ℕ → Kept
+after_try t o = record t { objects = changed_first (is_number o) (with_semaphore tried) t.objects }
+
+-- the session whose wait has been parked longest on object o stands in the table
+abbrev pub WaiterStands : Kept → ℕ → Type 0
+WaiterStands t o = (who : Sid) → waiter_at t.objects o ≡ Some who → who.0 < length t.sessions
+
+-- the call in which a session is parked is withdrawn from its object
 abbrev pub after_withdrawal : Kept → Sid → Kept
 after_withdrawal t sid = by_object (parked_on_at t.sessions sid.0) where
   by_object : Option ℕ → Kept
@@ -119,7 +179,7 @@ after_withdrawal t sid = by_object (parked_on_at t.sessions sid.0) where
   by_object (Some o) =
       record t {
         sessions = changed (with_parked None) t.sessions sid.0;
-        objects = changed_first (is_number o) (with_queue (withdrawn sid)) t.objects;
+        objects = changed_first (is_number o) (with_withdrawal sid) t.objects;
       }
 
 -- a session is live no more, and what it held is closed

@@ -1,11 +1,14 @@
 //! The rows of the tables.
 
-ghost use Rattle.std.specs.Prelude.{◌≡◌, IfOk, OnOk, OnErr, Some};
+ghost use Rattle.std.specs.Prelude.{◌≡◌, true, false, is_some, option_and_then, IfOk, OnOk, OnErr, Some};
 ghost use Rattle.std.specs.Option.{option_map, option_copied};
-ghost use Rattle.ipc_queue.specs.Tickets.{send_outcome, sent, receive_outcome, received, withdrawn};
-ghost use Rattle.ipc_tables.specs.Objects.{queue_in, with_body, new_body, HasRoom};
+ghost use Rattle.ipc_queue.specs.Tickets.{send_outcome, sent, receive_outcome, received};
+ghost use Rattle.ipc_terms.specs.Lists.{first};
+ghost use Rattle.ipc_sem.specs.Counters.{overflows, posted, wait_outcome, waited, tried};
+ghost use Rattle.ipc_tables.specs.Objects.{queue_in, semaphore_in, with_body, with_counter, without_call, new_body, HasRoom};
 
 use ipc_queue::{Queue, ReceiveOutcome, SendOutcome};
+use ipc_sem::{Sem, WaitOutcome};
 use ipc_terms::{Facts, Kind, Mode, NoMemory, Object, Sid, Uid};
 use std::alloc::Global;
 
@@ -23,6 +26,7 @@ pub struct Session {
 #[derive(Drop)]
 pub enum Body {
     Queue(Queue),
+    Semaphore(Sem),
 }
 
 impl Body {
@@ -35,6 +39,7 @@ impl Body {
             Kind::Queue(attributes) => {
                 Body::Queue(Queue::new(alloc, attributes.maxmsg, attributes.msgsize))
             }
+            Kind::Semaphore(value) => Body::Semaphore(Sem::new(alloc, value)),
         }
     }
 
@@ -44,38 +49,96 @@ impl Body {
     {
         match self {
             Body::Queue(queue) => Some(queue),
+            Body::Semaphore(_) => None,
+        }
+    }
+
+    /// The semaphore, if it is one.
+    pub fn semaphore(&self) -> Option<&Sem>
+        ensures { option_copied result ≡ semaphore_in self.now }
+    {
+        match self {
+            Body::Queue(_) => None,
+            Body::Semaphore(semaphore) => Some(semaphore),
         }
     }
 
     /// A send to the queue. An `Err` changes nothing.
     pub fn send(&mut self, ticket: u64, priority: u32, who: Sid) -> Result<SendOutcome, NoMemory>
+        requires { is_some (queue_in self.old) ≡ true }
         ensures outcome { IfOk result (λ outcome. Some outcome ≡ option_map send_outcome (queue_in self.old)) }
         ensures ok { OnOk result (self.new ≡ with_body (sent (record { place = ticket; priority = priority }) who) self.old) }
         ensures err { OnErr result (self.new ≡ self.old) }
     {
         match self {
             Body::Queue(queue) => Ok(queue.send(ticket, priority, who)?),
+            Body::Semaphore(_) => unreachable!(),
         }
     }
 
     /// A receive from the queue. An `Err` changes nothing.
     pub fn receive(&mut self, who: Sid) -> Result<ReceiveOutcome, NoMemory>
+        requires { is_some (queue_in self.old) ≡ true }
         ensures outcome { IfOk result (λ outcome. Some outcome ≡ option_map receive_outcome (queue_in self.old)) }
         ensures ok { OnOk result (self.new ≡ with_body (received who) self.old) }
         ensures err { OnErr result (self.new ≡ self.old) }
     {
         match self {
             Body::Queue(queue) => Ok(queue.receive(who)?),
+            Body::Semaphore(_) => unreachable!(),
+        }
+    }
+
+    /// A post to the semaphore, which has room for it: whom it serves.
+    pub fn post(&mut self) -> Option<Sid>
+        requires { option_map overflows (semaphore_in self.old) ≡ Some false }
+        ensures served { result ≡ option_and_then (λ q. first q.waiters) (semaphore_in self.old) }
+        ensures rest { self.new ≡ with_counter posted self.old }
+    {
+        match self {
+            Body::Queue(_) => unreachable!(),
+            Body::Semaphore(semaphore) => match semaphore.post() {
+                Ok(served) => served,
+                Err(_) => unreachable!(),
+            },
+        }
+    }
+
+    /// A wait for the semaphore. An `Err` changes nothing.
+    pub fn wait(&mut self, who: Sid) -> Result<WaitOutcome, NoMemory>
+        requires { is_some (semaphore_in self.old) ≡ true }
+        ensures outcome { IfOk result (λ outcome. Some outcome ≡ option_map wait_outcome (semaphore_in self.old)) }
+        ensures ok { OnOk result (self.new ≡ with_counter (waited who) self.old) }
+        ensures err { OnErr result (self.new ≡ self.old) }
+    {
+        match self {
+            Body::Queue(_) => unreachable!(),
+            Body::Semaphore(semaphore) => Ok(semaphore.wait(who)?),
+        }
+    }
+
+    /// A wait for the semaphore that does not park.
+    pub fn try_wait(&mut self)
+        ensures { self.new ≡ with_counter tried self.old }
+    {
+        match self {
+            Body::Queue(_) => {}
+            Body::Semaphore(semaphore) => {
+                semaphore.try_wait();
+            }
         }
     }
 
     /// Withdraws the session's parked call.
     pub fn withdraw(&mut self, who: Sid)
-        ensures { self.new ≡ with_body (withdrawn who) self.old }
+        ensures { self.new ≡ without_call who self.old }
     {
         match self {
             Body::Queue(queue) => {
                 queue.withdraw(who);
+            }
+            Body::Semaphore(semaphore) => {
+                semaphore.withdraw(who);
             }
         }
     }

@@ -1,19 +1,22 @@
 //! The tables.
 
-ghost use Rattle.std.specs.Prelude.{◌≡◌, ◌+◌, ◌^◌, ◌<◌, [], true, length, slice_get, position, is_some, IsSome, None, OnOk, OnErr};
-ghost use Rattle.std.specs.Option.{option_copied};
+ghost use Rattle.std.specs.Prelude.{◌≡◌, ◌+◌, ◌^◌, ◌<◌, [], true, false, length, slice_get, position, is_some, IsSome, Some, None, OnOk, OnErr};
+ghost use Rattle.std.specs.Option.{option_copied, option_map};
 ghost use Rattle.ipc_terms.specs.Lists.{changed};
-ghost use Rattle.ipc_terms.specs.declared.ids.Family.TheVariants.{Mq, Sem};
+ghost use Rattle.ipc_terms.specs.Objects.{family_of};
+ghost use Rattle.ipc_terms.specs.declared.ids.Family.TheVariants.{Mq, Sem as SemFamily};
 ghost use Rattle.ipc_names.specs.Directory.{first_directory, object_named};
 ghost use Rattle.ipc_descr.specs.Descriptions.{row_of, is_open};
-ghost use Rattle.ipc_tables.specs.Objects.{HasRoom, is_number, row_at, queue_at};
+ghost use Rattle.ipc_tables.specs.Objects.{HasRoom, is_number, row_at, queue_at, semaphore_at};
+ghost use Rattle.ipc_sem.specs.Counters.{overflows};
 ghost use Rattle.ipc_tables.specs.Kept.{directory_kept, is_alive};
-ghost use Rattle.ipc_tables.specs.Steps.{hung_up, with_parked, living, ReceiverStands, SenderStands, after_hello, after_umask, after_found, after_created, after_close, after_unlink, after_hangup, after_send, after_receive, after_withdrawal, ended, after_setattr};
+ghost use Rattle.ipc_tables.specs.Steps.{hung_up, with_parked, with_object, living, with_binding, without_binding, ReceiverStands, SenderStands, WaiterStands, after_post, after_wait, after_try, after_hello, after_umask, after_found, after_created, after_close, after_unlink, after_hangup, after_send, after_receive, after_withdrawal, ended, after_setattr};
 
 use crate::rows::{Body, ObjectRow, Session};
 use ipc_descr::Descrs;
 use ipc_names::NameDir;
 use ipc_queue::{Queue, ReceiveOutcome, SendOutcome};
+use ipc_sem::{Sem, WaitOutcome};
 use ipc_terms::{Access, Desc, Facts, Family, Mode, Name, NoMemory, Object, Sid, Uid, push_within};
 use std::alloc::Global;
 use std::marker::Model;
@@ -52,7 +55,7 @@ const FIRST_MASK: Mode = Mode(0o22);
 impl Tables {
     /// No sessions, names, objects and descriptions. Takes no memory.
     pub fn new(alloc: Global) -> Self
-        ensures { result ≡ record { sessions = []; queues = first_directory Mq; semaphores = first_directory Sem; objects = []; created = 0; descriptions = record { rows = []; opened = 0 } } }
+        ensures { result ≡ record { sessions = []; queues = first_directory Mq; semaphores = first_directory SemFamily; objects = []; created = 0; descriptions = record { rows = []; opened = 0 } } }
     {
         Tables {
             sessions: Vec::new(alloc),
@@ -102,6 +105,13 @@ impl Tables {
         self.object(object)?.body.queue()
     }
 
+    /// The semaphore that the object is, while it is alive.
+    pub fn semaphore(&self, object: u64) -> Option<&Sem>
+        ensures { option_copied result ≡ semaphore_at self.now.objects object }
+    {
+        self.object(object)?.body.semaphore()
+    }
+
     /// The descriptions that are held.
     pub fn descriptions(&self) -> &Descrs
         ensures { result.now ≡ self.now.descriptions }
@@ -143,7 +153,7 @@ impl Tables {
         Ok(())
     }
 
-    /// Makes an object, binds the queue's name to it, and opens it. An `Err` changes nothing.
+    /// Makes an object, binds the name in its family's directory to it, and opens it. An `Err` changes nothing.
     pub fn open_created(
         &mut self,
         alloc: Global,
@@ -152,24 +162,41 @@ impl Tables {
         object: Object,
         facts: Facts,
     ) -> Result<(), NoMemory>
-        requires unbound { object_named self.old.queues.bindings name.now ≡ None }
+        requires unbound { object_named (directory_kept (family_of object.kind) self.old).bindings name.now ≡ None }
         requires opened { self.old.descriptions.opened < 2 ^ 63 }
         requires created { self.old.created + 1 < 2 ^ 64 }
         requires room { HasRoom object.kind }
         ensures ok { OnOk result (self.new ≡ after_created self.old grant name.now object facts) }
         ensures err { OnErr result (self.new ≡ self.old) }
     {
+        let family = object.kind.family();
         let number = self.created;
-        self.objects.reserve(1)?;
-        self.queues.bind(name.try_clone()?, number)?;
-        if self
-            .descriptions
-            .open(grant.session, number, grant.access, grant.nonblock)
-            .is_err()
-        {
-            self.queues.unbind(name);
+        self.bind(family, name.try_clone()?, number)?;
+        if self.add(alloc, grant, object, facts).is_err() {
+            self.unbind(family, name);
             return Err(NoMemory);
         }
+        Ok(())
+    }
+
+    /// Makes an object of the next number, and opens it. An `Err` changes nothing.
+    fn add(
+        &mut self,
+        alloc: Global,
+        grant: Grant,
+        object: Object,
+        facts: Facts,
+    ) -> Result<(), NoMemory>
+        requires opened { self.old.descriptions.opened < 2 ^ 63 }
+        requires created { self.old.created + 1 < 2 ^ 64 }
+        requires room { HasRoom object.kind }
+        ensures ok { OnOk result (self.new ≡ with_object self.old grant object facts) }
+        ensures err { OnErr result (self.new ≡ self.old) }
+    {
+        let number = self.created;
+        self.objects.reserve(1)?;
+        self.descriptions
+            .open(grant.session, number, grant.access, grant.nonblock)?;
         let row = ObjectRow {
             number,
             object,
@@ -179,6 +206,33 @@ impl Tables {
         push_within(&mut self.objects, row);
         self.created += 1;
         Ok(())
+    }
+
+    /// Binds a name of the family that is unbound. An `Err` changes nothing.
+    fn bind(&mut self, family: Family, name: Name, object: u64) -> Result<(), NoMemory>
+        requires { object_named (directory_kept family self.old).bindings name ≡ None }
+        ensures ok { OnOk result (self.new ≡ with_binding family name object self.old) }
+        ensures err { OnErr result (self.new ≡ self.old) }
+    {
+        match family {
+            Family::Mq => self.queues.bind(name, object)?,
+            Family::Sem => self.semaphores.bind(name, object)?,
+        }
+        Ok(())
+    }
+
+    /// Leaves the name of the family unbound.
+    fn unbind(&mut self, family: Family, name: &Name)
+        ensures { self.new ≡ without_binding family name.now self.old }
+    {
+        match family {
+            Family::Mq => {
+                self.queues.unbind(name);
+            }
+            Family::Sem => {
+                self.semaphores.unbind(name);
+            }
+        }
     }
 
     /// The session's message of this priority, whose send stands at the place `ticket`, is handed
@@ -228,6 +282,46 @@ impl Tables {
         Ok(())
     }
 
+    /// The session whose wait has been parked longest is served, or the value rises by 1.
+    pub fn post(&mut self, object: u64)
+        requires room { option_map overflows (semaphore_at self.old.objects object) ≡ Some false }
+        requires waiter { WaiterStands self.old object }
+        ensures { self.new ≡ after_post self.old object }
+    {
+        let Some(index) = find_index(&self.objects, object) else {
+            unreachable!();
+        };
+        if let Some(waiter) = self.objects[index].body.post() {
+            self.set_parked(waiter, None);
+        }
+    }
+
+    /// The value is lowered by 1, or the session's wait parks. An `Err` changes nothing.
+    pub fn wait(&mut self, object: u64, sid: Sid) -> Result<(), NoMemory>
+        requires semaphore { is_some (semaphore_at self.old.objects object) ≡ true }
+        requires session { sid.0 < length self.old.sessions }
+        ensures ok { OnOk result (self.new ≡ after_wait self.old object sid) }
+        ensures err { OnErr result (self.new ≡ self.old) }
+    {
+        let Some(index) = find_index(&self.objects, object) else {
+            unreachable!();
+        };
+        match self.objects[index].body.wait(sid)? {
+            WaitOutcome::Passed => {}
+            WaitOutcome::Parked => self.set_parked(sid, Some(object)),
+        }
+        Ok(())
+    }
+
+    /// The value is lowered by 1, if it is not 0.
+    pub fn try_wait(&mut self, object: u64)
+        ensures { self.new ≡ after_try self.old object }
+    {
+        if let Some(index) = find_index(&self.objects, object) {
+            self.objects[index].body.try_wait();
+        }
+    }
+
     /// Withdraws the call in which the session is parked, if it is.
     pub fn withdraw(&mut self, sid: Sid)
         requires { sid.0 < length self.old.sessions }
@@ -267,11 +361,11 @@ impl Tables {
         self.remove_dead();
     }
 
-    /// Leaves the queue's name unbound. An object that nothing keeps is gone.
-    pub fn unlink(&mut self, name: &Name)
-        ensures { self.new ≡ after_unlink self.old name.now }
+    /// Leaves the name of the family unbound. An object that nothing keeps is gone.
+    pub fn unlink(&mut self, family: Family, name: &Name)
+        ensures { self.new ≡ after_unlink self.old family name.now }
     {
-        self.queues.unbind(name);
+        self.unbind(family, name);
         self.remove_dead();
     }
 

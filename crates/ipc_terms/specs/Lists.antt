@@ -16,3 +16,8 @@ changed change (x ∷ xs) (suc i) = x ∷ changed change xs i
 abbrev pub changed_first : {A : Type 0} → (A → Bool) → (A → A) → List A → List A
 changed_first test change [] = []
 changed_first test change (x ∷ xs) = if test x then change x ∷ xs else x ∷ changed_first test change xs
+
+-- all but the first that passes the test
+abbrev pub without_first : {A : Type 0} → (A → Bool) → List A → List A
+without_first test [] = []
+without_first test (x ∷ xs) = if test x then xs else x ∷ without_first test xs

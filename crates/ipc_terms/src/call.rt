@@ -35,6 +35,17 @@ pub struct QueueOpen {
     pub attributes: Option<Attributes>,
 }
 
+/// What `sem_open` is given. Mode and value count only where the open creates.
+#[derive(Drop)]
+pub struct SemaphoreOpen {
+    pub name: Name,
+    /// `CREATE` and `EXCLUSIVE`; no other flag means anything here.
+    pub flags: OpenFlags,
+    pub mode: Mode,
+    /// The first value, at most `SEM_VALUE_MAX`.
+    pub value: u32,
+}
+
 /// What a session asks for.
 #[derive(Drop)]
 pub enum Call {
@@ -67,6 +78,22 @@ pub enum Call {
     /// Leaves a queue's name unbound at once. The queue lives until its last description is closed
     /// (POSIX.1-2017, `mq_unlink`).
     MqUnlink(Name),
+    /// Opens a semaphore, always for reading and writing (POSIX.1-2017, `sem_open`).
+    SemOpen(SemaphoreOpen),
+    /// Closes a semaphore's description (POSIX.1-2017, `sem_close`).
+    SemClose(Desc),
+    /// Leaves a semaphore's name unbound at once. The semaphore lives until its last description is
+    /// closed (POSIX.1-2017, `sem_unlink`).
+    SemUnlink(Name),
+    /// Serves the wait that has been parked longest; where none is parked, the value rises by 1
+    /// (POSIX.1-2017, `sem_post`).
+    SemPost(Desc),
+    /// Lowers the value by 1; at 0 it waits for a post (POSIX.1-2017, `sem_wait`).
+    SemWait(Desc),
+    /// Lowers the value by 1; at 0 it is refused (POSIX.1-2017, `sem_trywait`).
+    SemTryWait(Desc),
+    /// Asks for the value, which is 0 while calls wait (POSIX.1-2017, `sem_getvalue`).
+    SemGetvalue(Desc),
     /// Lists names of a family in the order in which they were created: from the position `start`
     /// on, counted from 0, at most `count` and at most 1,000.
     ListNames {
@@ -106,6 +133,8 @@ pub enum Answer {
         attributes: Attributes,
         messages: u32,
     },
+    /// To a question about a semaphore: its value.
+    Value(u32),
     /// To a listing: its names.
     Names(Names),
     /// To a stat: the owner, group and mode.
@@ -139,6 +168,7 @@ impl Answer {
                 attributes: *attributes,
                 messages: *messages,
             },
+            Answer::Value(value) => Answer::Value(*value),
             Answer::Names(names) => Answer::Names(names.try_clone()?),
             Answer::Stat(facts) => Answer::Stat(*facts),
             Answer::Refused(rule) => Answer::Refused(*rule),

@@ -6,6 +6,9 @@ ghost use Rattle.ipc_terms.specs.Objects.{family_of};
 use crate::call::Attributes;
 use crate::ids::{Family, Uid};
 
+/// The greatest value of a semaphore (POSIX.1-2017, `SEM_VALUE_MAX`).
+pub const SEM_VALUE_MAX: u32 = 2_147_483_647;
+
 /// What an object keeps from its creation on.
 #[derive(Clone, Copy, PartialEq, Eq, Debug)]
 pub struct Object {
@@ -18,6 +21,8 @@ pub struct Object {
 pub enum Kind {
     /// A queue with these attributes (`mq_overview(7)`).
     Queue(Attributes),
+    /// A semaphore with this first value (`sem_overview(7)`).
+    Semaphore(u32),
 }
 
 impl Kind {
@@ -26,6 +31,7 @@ impl Kind {
     {
         match self {
             Kind::Queue(_) => Family::Mq,
+            Kind::Semaphore(_) => Family::Sem,
         }
     }
 }
@@ -35,4 +41,6 @@ impl Kind {
 pub enum Asked {
     /// A queue with these attributes; with none, those that hold where none are given.
     Queue(Option<Attributes>),
+    /// A semaphore with this first value.
+    Semaphore(u32),
 }

@@ -6,12 +6,14 @@ use Rattle.ipc_terms.specs.declared.call.Attributes.{Attributes}
 use Rattle.ipc_terms.specs.declared.call.Call.{Call}
 use Rattle.ipc_terms.specs.declared.call.Call.TheVariants as call
 use Rattle.ipc_terms.specs.declared.call.QueueOpen.{QueueOpen}
+use Rattle.ipc_terms.specs.declared.call.SemaphoreOpen.{SemaphoreOpen}
 use Rattle.ipc_terms.specs.declared.flags.OpenFlags.{OpenFlags}
 use Rattle.ipc_terms.specs.declared.ids.Family.{Family}
 use Rattle.ipc_terms.specs.declared.ids.Target.{Target}
 use Rattle.ipc_terms.specs.declared.ids.Target.TheVariants as target
+use Rattle.ipc_words.specs.declared.calls.Manner.{Manner}
 use Rattle.ipc_words.specs.declared.commands.Verb.{Verb}
-use Rattle.ipc_words.specs.declared.commands.Verb.TheVariants.{Umask, MqOpen, MqClose, MqSend, MqReceive, MqGetattr, MqSetattr, MqUnlink, Ls, Stat, Interrupt}
+use Rattle.ipc_words.specs.declared.commands.Verb.TheVariants.{Umask, MqOpen, MqClose, MqSend, MqReceive, MqGetattr, MqSetattr, MqUnlink, SemOpen, SemClose, SemUnlink, SemPost, SemWait, SemTryWait, SemGetvalue, Ls, Stat, Interrupt}
 use Rattle.ipc_words.specs.declared.faults.WordFault.{WordFault}
 use Rattle.ipc_words.specs.declared.faults.WordFault.TheVariants.{Usage, NoMemory}
 use Rattle.ipc_words.specs.Grammar.{Form, app_of_form, form_of_word}
@@ -35,6 +37,12 @@ attributes_of_counts (Some maxmsg) (Some msgsize) = Ok (Some (record { maxmsg = 
 attributes_of_counts None (Some msgsize) = Err (codes "attributes")
 attributes_of_counts (Some maxmsg) None = Err (codes "attributes")
 
+unfoldable pub attributes_of_rows : List Row → Meaning (Option Attributes)
+attributes_of_rows rows =
+    option_at (decimal_within (2 ^ 32 - 1)) (codes "maxmsg") rows >>= λ maxmsg.
+    option_at (decimal_within (2 ^ 32 - 1)) (codes "msgsize") rows >>= λ msgsize.
+    attributes_of_counts maxmsg msgsize
+
 -- a name in a family; without one the family's directory
 abbrev pub target_in : Family → Option (List ℕ) → Target
 target_in family None = target.Dir family
@@ -44,21 +52,37 @@ target_in family (Some name) = target.Name family name
 abbrev pub count_at : List ℕ → List Row → Meaning ℕ
 count_at = value_at (decimal_within (2 ^ 32 - 1))
 
--- 0600 where no mode is given
+-- what an open says beside its name and flags: 0600 where no mode is given
+unfoldable pub manner_of_rows : List Row → Meaning Manner
+manner_of_rows rows =
+    value_at access_of_word (codes "access") rows >>= λ access.
+    option_at octal_mode (codes "mode") rows >>= λ mode.
+    attributes_of_rows rows >>= λ attributes.
+    Ok (record { access = access; mode = unwrap_or mode (record { 0 = 384 }); attributes = attributes })
+
 unfoldable pub open_of_rows : List Row → Meaning QueueOpen
 open_of_rows rows =
     value_at bytes_of_word (codes "name") rows >>= λ name.
-    value_at access_of_word (codes "access") rows >>= λ access.
-    option_at octal_mode (codes "mode") rows >>= λ mode.
-    option_at (decimal_within (2 ^ 32 - 1)) (codes "maxmsg") rows >>= λ maxmsg.
-    option_at (decimal_within (2 ^ 32 - 1)) (codes "msgsize") rows >>= λ msgsize.
-    attributes_of_counts maxmsg msgsize >>= λ attributes.
+    manner_of_rows rows >>= λ manner.
     Ok (record {
       name = name;
-      access = access;
+      access = manner.access;
+      flags = flags_of_rows rows;
+      mode = manner.mode;
+      attributes = manner.attributes;
+    })
+
+-- 0600 where no mode is given, and 0 where no value is
+unfoldable pub semaphore_open_of_rows : List Row → Meaning SemaphoreOpen
+semaphore_open_of_rows rows =
+    value_at bytes_of_word (codes "name") rows >>= λ name.
+    option_at octal_mode (codes "mode") rows >>= λ mode.
+    option_at (decimal_within (2 ^ 32 - 1)) (codes "value") rows >>= λ value.
+    Ok (record {
+      name = name;
       flags = flags_of_rows rows;
       mode = unwrap_or mode (record { 0 = 384 });
-      attributes = attributes;
+      value = unwrap_or value 0;
     })
 
 -- The meaning of each command's rows. The arguments are read in this order, and the first that doesn't read is named.
@@ -81,6 +105,13 @@ meaning_of MqSetattr rows =
     value_at nonblock_of_word (codes "how") rows >>= λ nonblock.
     Ok (call.MqSetattr desc nonblock)
 meaning_of MqUnlink rows = value_at bytes_of_word (codes "name") rows >>= λ name. Ok (call.MqUnlink name)
+meaning_of SemOpen rows = semaphore_open_of_rows rows >>= λ asked. Ok (call.SemOpen asked)
+meaning_of SemClose rows = description_at rows >>= λ desc. Ok (call.SemClose desc)
+meaning_of SemUnlink rows = value_at bytes_of_word (codes "name") rows >>= λ name. Ok (call.SemUnlink name)
+meaning_of SemPost rows = description_at rows >>= λ desc. Ok (call.SemPost desc)
+meaning_of SemWait rows = description_at rows >>= λ desc. Ok (call.SemWait desc)
+meaning_of SemTryWait rows = description_at rows >>= λ desc. Ok (call.SemTryWait desc)
+meaning_of SemGetvalue rows = description_at rows >>= λ desc. Ok (call.SemGetvalue desc)
 meaning_of Ls rows =
     value_at family_of_word (codes "family") rows >>= λ family.
     count_at (codes "start") rows >>= λ start.

@@ -16,6 +16,13 @@ pub enum Verb {
     MqGetattr,
     MqSetattr,
     MqUnlink,
+    SemOpen,
+    SemClose,
+    SemUnlink,
+    SemPost,
+    SemWait,
+    SemTryWait,
+    SemGetvalue,
     Ls,
     Stat,
     Interrupt,
@@ -43,7 +50,7 @@ pub struct Form {
 }
 
 /// All commands.
-pub static FORMS: [Form; 11] = [
+pub static FORMS: [Form; 18] = [
     Form {
         word: "umask",
         verb: Verb::Umask,
@@ -92,6 +99,47 @@ pub static FORMS: [Form; 11] = [
         word: "mq-unlink",
         verb: Verb::MqUnlink,
         arguments: &[Required("name")],
+    },
+    Form {
+        word: "sem-open",
+        verb: Verb::SemOpen,
+        arguments: &[
+            Required("name"),
+            Flag("create"),
+            Flag("excl"),
+            Valued("mode"),
+            Valued("value"),
+        ],
+    },
+    Form {
+        word: "sem-close",
+        verb: Verb::SemClose,
+        arguments: &[Required("d")],
+    },
+    Form {
+        word: "sem-unlink",
+        verb: Verb::SemUnlink,
+        arguments: &[Required("name")],
+    },
+    Form {
+        word: "sem-post",
+        verb: Verb::SemPost,
+        arguments: &[Required("d")],
+    },
+    Form {
+        word: "sem-wait",
+        verb: Verb::SemWait,
+        arguments: &[Required("d")],
+    },
+    Form {
+        word: "sem-trywait",
+        verb: Verb::SemTryWait,
+        arguments: &[Required("d")],
+    },
+    Form {
+        word: "sem-getvalue",
+        verb: Verb::SemGetvalue,
+        arguments: &[Required("d")],
     },
     Form {
         word: "ls",

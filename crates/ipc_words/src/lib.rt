@@ -3,7 +3,8 @@
 
 ghost use Rattle.std.specs.Prelude.{◌≡◌, map};
 ghost use Rattle.std.specs.Bool.{OnFalse, OnTrue};
-ghost use Rattle.ipc_words.specs.Calls.{Means};
+ghost use Rattle.ipc_words.specs.Calls.{Means, MeansBehind};
+ghost use Rattle.ipc_words.specs.Grammar.{form_of_row};
 ghost use Rattle.ipc_words.specs.Hyphens.{any_breaks_hyphen_rule};
 
 mod answers;
@@ -20,7 +21,7 @@ mod usage;
 mod values;
 
 use crate::calls::call_of_matches;
-use crate::commands::form_of_word;
+use crate::commands::{Form, form_of_word};
 use crate::hyphens::any_is_refused;
 use crate::parsing::matches_of_words;
 pub use answers::line_of_answer;
@@ -44,8 +45,16 @@ pub fn call_of_words(alloc: Global, words: &[&str]) -> Result<Call, WordFault>
     let [word, rest @ ..] = words else {
         return Err(WordFault::Usage);
     };
-    let form = form_of_word(word).ok_or(WordFault::Usage)?;
-    let found = matches_of_words(alloc, form, rest)?;
-    let call = call_of_matches(alloc, form.verb, &found)?;
-    Ok(call)
+    match form_of_word(word) {
+        Some(form) => call_of_form(alloc, form, rest),
+        None => Err(WordFault::Usage),
+    }
+}
+
+/// The call that the words behind a command's own mean.
+fn call_of_form(alloc: Global, form: &Form, words: &[&str]) -> Result<Call, WordFault>
+    ensures { MeansBehind (form_of_row form.now) (map (λ w. w.now) words.now) result }
+{
+    let found = matches_of_words(alloc, form, words)?;
+    call_of_matches(alloc, form.verb, &found)
 }

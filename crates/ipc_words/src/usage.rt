@@ -1,6 +1,6 @@
 //! How each command is written.
 
-ghost use Rattle.std.specs.Prelude.{◌≡◌, IfOk, map, flat_map};
+ghost use Rattle.std.specs.Prelude.{◌≡◌, ◌++◌, IfOk, OnOk, map, flat_map};
 ghost use Rattle.std.specs.String.{string_bytes};
 ghost use Rattle.ipc_words.specs.Grammar.{form_of_row, forms, rule_of_argument};
 ghost use Rattle.ipc_words.specs.Usage.{argument_usage, form_usage};
@@ -12,38 +12,55 @@ use std::alloc::{AllocError, Global};
 pub fn usage_of_commands(alloc: Global) -> Result<String, AllocError>
     ensures { IfOk result (λ text. string_bytes text ≡ flat_map form_usage forms) }
 {
-    let text = usage_of_forms(alloc, FORMS.as_slice())?;
-    Ok(text)
-}
-
-fn usage_of_forms(alloc: Global, forms: &[Form]) -> Result<String, AllocError>
-    ensures { IfOk result (λ text. string_bytes text ≡ flat_map form_usage (map form_of_row forms.now)) }
-{
     let mut text = String::new(alloc);
-    for form in forms {
-        text.push_str(usage_of_form(alloc, form)?.as_str())?;
-    }
+    push_forms(&mut text, FORMS.as_slice())?;
     Ok(text)
 }
 
-fn usage_of_form(alloc: Global, form: &Form) -> Result<String, AllocError>
-    ensures { IfOk result (λ line. string_bytes line ≡ form_usage (form_of_row form.now)) }
+fn push_forms(text: &mut String, forms: &[Form]) -> Result<(), AllocError>
+    ensures { OnOk result (string_bytes text.new ≡ string_bytes text.old ++ flat_map form_usage (map form_of_row forms.now)) }
 {
-    let mut line = format!(in alloc; "  {}", form.word)?;
-    for argument in form.arguments {
-        line.push_str(usage_of_argument(alloc, argument)?.as_str())?;
+    for form in forms {
+        push_form(text, form)?;
     }
-    line.push_str("\n")?;
-    Ok(line)
+    Ok(())
 }
 
-fn usage_of_argument(alloc: Global, argument: &Argument) -> Result<String, AllocError>
-    ensures { IfOk result (λ text. string_bytes text ≡ argument_usage (rule_of_argument argument.now)) }
+fn push_form(text: &mut String, form: &Form) -> Result<(), AllocError>
+    ensures { OnOk result (string_bytes text.new ≡ string_bytes text.old ++ form_usage (form_of_row form.now)) }
+{
+    text.push_str("  ")?;
+    text.push_str(form.word)?;
+    push_arguments(text, form.arguments)?;
+    text.push_str("\n")?;
+    Ok(())
+}
+
+fn push_arguments(text: &mut String, arguments: &[Argument]) -> Result<(), AllocError>
+    ensures { OnOk result (string_bytes text.new ≡ string_bytes text.old ++ flat_map argument_usage (map rule_of_argument arguments.now)) }
+{
+    for argument in arguments {
+        push_argument(text, argument)?;
+    }
+    Ok(())
+}
+
+fn push_argument(text: &mut String, argument: &Argument) -> Result<(), AllocError>
+    ensures { OnOk result (string_bytes text.new ≡ string_bytes text.old ++ argument_usage (rule_of_argument argument.now)) }
 {
     match argument {
-        Argument::Required(name) => format!(in alloc; " <{name}>"),
-        Argument::Optional(name) => format!(in alloc; " [{name}]"),
-        Argument::Flag(name) => format!(in alloc; " [--{name}]"),
-        Argument::Valued(name) => format!(in alloc; " [--{name} <value>]"),
+        Argument::Required(name) => push_between(text, " <", name, ">"),
+        Argument::Optional(name) => push_between(text, " [", name, "]"),
+        Argument::Flag(name) => push_between(text, " [--", name, "]"),
+        Argument::Valued(name) => push_between(text, " [--", name, " <value>]"),
     }
+}
+
+fn push_between(text: &mut String, front: &str, name: &str, back: &str) -> Result<(), AllocError>
+    ensures { OnOk result (string_bytes text.new ≡ string_bytes text.old ++ front.now ++ name.now ++ back.now) }
+{
+    text.push_str(front)?;
+    text.push_str(name)?;
+    text.push_str(back)?;
+    Ok(())
 }

@@ -2,27 +2,24 @@
 
 use bitflags::Flags;
 use ipc_access::Users;
-use ipc_core::{Config, Core, CoreFault, Field, Limits, Posted, laws};
+use ipc_core::{Config, Core, CoreFault, Field, Limits, laws};
 use ipc_terms::{
-    Access, Answer, Bytes, Call, Desc, Event, Mode, Name, OpenFlags, QueueOpen, Rule, Sid, Uid,
+    Access, Answer, Bytes, Call, Desc, Event, Mode, Name, NoMemory, OpenFlags, QueueOpen, Rule,
+    Sid, Uid,
 };
 use std::alloc::Global;
 use std::test::Fail;
 
-fn config(alloc: Global, msg_max: u32, msgsize_max: u32, queues_max: u32) -> Result<Config, Fail> {
-    let file = b"root:r00t:0:0::\nann:ka1:1000:1000:50:\nbob:kb1:1001:1001:50,51:\n";
+const FILE: &[u8] = b"root:r00t:0:0::\nann:ka1:1000:1000:50:\nbob:kb1:1001:1001:50,51:\n";
+
+fn config(alloc: Global, limits: Limits) -> Result<Config, Fail> {
     Ok(Config {
-        users: Users::read(alloc, file)?,
-        limits: Limits {
-            msg_max,
-            msgsize_max,
-            queues_max,
-        },
+        users: Users::read(alloc, FILE)?,
+        limits,
     })
 }
 
 /// What happens, as plain data. A queue is opened for both, and created for all where it isn't there.
-#[derive(Clone, Copy)]
 enum Asked {
     Hello(Option<u32>),
     Umask(u64, u16),
@@ -33,7 +30,7 @@ enum Asked {
     Hangup(u64),
 }
 
-fn create(alloc: Global, name: &[u8]) -> Result<Call, Fail> {
+fn create(alloc: Global, name: &[u8]) -> Result<Call, NoMemory> {
     Ok(Call::MqOpen(QueueOpen {
         name: Name::new(Bytes::from_slice(alloc, name)?),
         access: Access::Both,
@@ -43,42 +40,43 @@ fn create(alloc: Global, name: &[u8]) -> Result<Call, Fail> {
     }))
 }
 
-fn event(alloc: Global, asked: Asked) -> Result<Event, Fail> {
-    let (sid, call) = match asked {
-        Asked::Hello(None) => return Ok(Event::Hello { found: None }),
-        Asked::Hello(Some(uid)) => {
-            return Ok(Event::Hello {
-                found: Some(Uid(uid)),
-            });
-        }
-        Asked::Hangup(sid) => return Ok(Event::Hangup { sid: Sid(sid) }),
-        Asked::Umask(sid, mask) => (sid, Call::Umask(Mode(mask))),
-        Asked::Create(sid, name) => (sid, create(alloc, name)?),
-        Asked::Send(sid, desc, priority, bytes) => (
-            sid,
-            Call::MqSend {
-                desc: Desc(desc),
-                priority,
-                bytes: Bytes::from_slice(alloc, bytes)?,
-            },
-        ),
-        Asked::Receive(sid, desc) => (
-            sid,
-            Call::MqReceive {
-                desc: Desc(desc),
-                length: 8192,
-            },
-        ),
-        Asked::Interrupt(sid) => (sid, Call::Interrupt),
-    };
-    Ok(Event::Do {
-        sid: Sid(sid),
+fn send(alloc: Global, desc: u64, priority: u32, bytes: &[u8]) -> Result<Call, NoMemory> {
+    Ok(Call::MqSend {
+        desc: Desc(desc),
+        priority,
+        bytes: Bytes::from_slice(alloc, bytes)?,
+    })
+}
+
+fn receive(desc: u64) -> Call {
+    Call::MqReceive {
+        desc: Desc(desc),
+        length: 8192,
+    }
+}
+
+fn made(sid: &u64, call: Call) -> Event {
+    Event::Do {
+        sid: Sid(*sid),
         call,
+    }
+}
+
+fn event(alloc: Global, asked: &Asked) -> Result<Event, NoMemory> {
+    Ok(match asked {
+        Hello(user) => Event::Hello {
+            found: user.map(Uid),
+        },
+        Hangup(sid) => Event::Hangup { sid: Sid(*sid) },
+        Umask(sid, mask) => made(sid, Call::Umask(Mode(*mask))),
+        Create(sid, name) => made(sid, create(alloc, name)?),
+        Send(sid, desc, priority, bytes) => made(sid, send(alloc, *desc, *priority, bytes)?),
+        Receive(sid, desc) => made(sid, receive(*desc)),
+        Interrupt(sid) => made(sid, Call::Interrupt),
     })
 }
 
 /// One step on a core, and what it is to give.
-#[derive(Clone, Copy)]
 enum Step {
     /// The event is posted: the verdict, who is answered first, and who second.
     Post(Asked, Option<Rule>, Option<Sid>, Option<Sid>),
@@ -90,36 +88,46 @@ enum Step {
     Take(u64, usize),
     /// How many records the trail has.
     Records(usize),
+    /// The limits are the standard ones.
+    Standard,
 }
 
 use Asked::{Create, Hangup, Hello, Interrupt, Receive, Send, Umask};
-use Step::{Decide, Post, Records, Take, Waiting};
+use Step::{Decide, Post, Records, Standard, Take, Waiting};
 
 const ANN: Option<Sid> = Some(Sid(0));
 
 const BOB: Option<Sid> = Some(Sid(1));
 
-fn is_posted(posted: Posted, rule: Option<Rule>, caller: Option<Sid>, other: Option<Sid>) -> bool {
-    posted.verdict == rule && posted.caller == caller && posted.other == other
+fn posts(
+    alloc: Global,
+    core: &mut Core,
+    asked: &Asked,
+    verdict: Option<Rule>,
+    (caller, other): (Option<Sid>, Option<Sid>),
+) -> Result<bool, Fail> {
+    let asked = event(alloc, asked)?;
+    let posted = core.post(alloc, asked)?;
+    Ok(posted.verdict == verdict && posted.caller == caller && posted.other == other)
 }
 
-fn gives(alloc: Global, core: &mut Core, step: Step) -> Result<bool, Fail> {
+/// Does the step, and says whether it gave what it is to give.
+fn gives(alloc: Global, core: &mut Core, step: &Step) -> Result<bool, Fail> {
     Ok(match step {
-        Post(asked, rule, caller, other) => {
-            is_posted(core.post(alloc, event(alloc, asked)?)?, rule, caller, other)
-        }
-        Decide(asked, rule) => core.decide(&event(alloc, asked)?) == rule,
+        Post(asked, rule, caller, other) => { posts(alloc, core, asked, *rule, (*caller, *other))? }
+        Decide(asked, rule) => core.decide(&event(alloc, asked)?) == *rule,
         Waiting(sid, count) => {
-            core.waiting(Sid(sid)) == count && core.answers(Sid(sid)).len() == count
+            core.waiting(Sid(*sid)) == *count && core.answers(Sid(*sid)).len() == *count
         }
-        Take(sid, count) => core.take(Sid(sid)).len() == count,
-        Records(count) => core.trail().len() == count,
+        Take(sid, count) => core.take(Sid(*sid)).len() == *count,
+        Records(count) => core.trail().len() == *count,
+        Standard => core.config().limits == Limits::STANDARD,
     })
 }
 
 /// Answers wait in outboxes until they are taken, once; a call that parks is answered later; what is
 /// answered to nobody, or to a session that is not live, stands nowhere.
-const STEPS: [Step; 34] = [
+static STEPS: [Step; 35] = [
     Records(0),
     Post(Hello(Some(1000)), None, ANN, None),
     Post(Hello(None), Some(Rule::BadKey), Some(Sid::NOBODY), None),
@@ -154,69 +162,114 @@ const STEPS: [Step; 34] = [
     Waiting(1, 0),
     Take(0, 1),
     Records(15),
+    Standard,
 ];
 
-#[test]
-fn answers_wait_until_they_are_taken(rt: HostRuntime) -> Result<(), Fail> {
-    let mut core = Core::new(rt.alloc(), config(rt.alloc(), 10, 8192, 256)?)?;
-    for step in STEPS {
-        if !gives(rt.alloc(), &mut core, step)? {
-            return Err(Fail::new("a step gives something else"));
+/// Does the steps in order on a new core.
+fn all_give(alloc: Global, steps: &[Step]) -> Result<(), Fail> {
+    let mut core = Core::new(alloc, config(alloc, Limits::STANDARD)?)?;
+    for (row, step) in steps.iter().enumerate() {
+        if !gives(alloc, &mut core, step)? {
+            return Err(Fail::new(format_args!("row {row} gives something else")));
         }
     }
-    assert!(rt; core.config().limits == Limits::STANDARD);
     Ok(())
 }
 
-fn three_events(alloc: Global) -> Result<Vec<Event>, Fail> {
-    let mut events = Vec::new(alloc);
-    for asked in [Hello(Some(1000)), Hello(None), Umask(0, 0)] {
-        events.push(event(alloc, asked)?)?;
-    }
+#[test]
+fn answers_wait_until_they_are_taken(rt: HostRuntime) -> Result<(), Fail> {
+    all_give(rt.alloc(), &STEPS)
+}
+
+fn three_events(alloc: Global) -> Result<Vec<Event>, NoMemory> {
+    let mut events = Vec::with_capacity(alloc, 3)?;
+    events.push(Event::Hello {
+        found: Some(Uid(1000)),
+    })?;
+    events.push(Event::Hello { found: None })?;
+    events.push(made(&0, Call::Umask(Mode(0))))?;
     Ok(events)
 }
 
 /// Whether one session is answered, and this.
-fn is_told(given: &[(Sid, Answer)], sid: Sid, wanted: &Answer) -> bool {
+fn is_told(given: &[(Sid, Answer)], sid: Sid, wanted: Answer) -> bool {
     match given {
-        [(to, answer)] => *to == sid && answer == wanted,
+        [(to, answer)] => *to == sid && *answer == wanted,
         _ => false,
+    }
+}
+
+/// Whether the three events are answered by a start, a refusal and the mask before.
+fn are_answers(given: &[Vec<(Sid, Answer)>]) -> bool {
+    match given {
+        [started, refused, mask] => {
+            is_told(started, Sid(0), Answer::Started(Sid(0)))
+                && is_told(refused, Sid::NOBODY, Answer::Refused(Rule::BadKey))
+                && is_told(mask, Sid(0), Answer::Mask(Mode(0o22)))
+        }
+        _ => false,
+    }
+}
+
+/// Whether a run answers each of the three events, and what was answered to its session waits there.
+fn run_answers(alloc: Global) -> Result<bool, Fail> {
+    let mut core = Core::new(alloc, config(alloc, Limits::STANDARD)?)?;
+    let are_given = runs(alloc, &mut core)?;
+    Ok(are_given && are_untaken(&core.take(Sid(0))))
+}
+
+fn runs(alloc: Global, core: &mut Core) -> Result<bool, Fail> {
+    let events = three_events(alloc)?;
+    match core.run(alloc, events) {
+        Ok(given) => Ok(are_answers(&given)),
+        Err(_) => Err(Fail::new("out of memory")),
     }
 }
 
 #[test]
 fn a_run_answers_each_event(rt: HostRuntime) -> Result<(), Fail> {
-    let mut core = Core::new(rt.alloc(), config(rt.alloc(), 10, 8192, 256)?)?;
-    let Ok(given) = core.run(rt.alloc(), three_events(rt.alloc())?) else {
-        return Err(Fail::new("out of memory"));
-    };
-    let [started, refused, mask] = given.as_slice() else {
-        return Err(Fail::new("three events have three lists of answers"));
-    };
-    assert!(rt; is_told(started, Sid(0), &Answer::Started(Sid(0))));
-    assert!(rt; is_told(refused, Sid::NOBODY, &Answer::Refused(Rule::BadKey)));
-    assert!(rt; is_told(mask, Sid(0), &Answer::Mask(Mode(0o22))));
-    let untaken = core.take(Sid(0));
-    assert!(rt;
-        untaken.as_slice() == [Answer::Started(Sid(0)), Answer::Mask(Mode(0o22))].as_slice()
-    );
+    assert!(rt; run_answers(rt.alloc())?);
     Ok(())
+}
+
+/// Whether these are the start and the mask before.
+fn are_untaken(answers: &[Answer]) -> bool {
+    match answers {
+        [started, mask] => {
+            *started == Answer::Started(Sid(0)) && *mask == Answer::Mask(Mode(0o22))
+        }
+        _ => false,
+    }
+}
+
+/// Limits, and the field that is at fault.
+static LIMITS: [(u32, u32, u32, Option<Field>); 7] = [
+    (1, 1, 0, None),
+    (65_536, 16_777_216, 65_536, None),
+    (0, 0, 65_537, Some(Field::MsgMax)),
+    (65_537, 1, 0, Some(Field::MsgMax)),
+    (1, 0, 65_537, Some(Field::MsgsizeMax)),
+    (1, 16_777_217, 0, Some(Field::MsgsizeMax)),
+    (1, 1, 65_537, Some(Field::QueuesMax)),
+];
+
+/// The fault of a core with these limits.
+fn fault(alloc: Global, limits: Limits) -> Result<Option<CoreFault>, Fail> {
+    let config = config(alloc, limits)?;
+    Ok(Core::new(alloc, config).err())
 }
 
 #[test]
 fn limits_have_ranges(rt: HostRuntime) -> Result<(), Fail> {
-    for (msg_max, msgsize_max, queues_max, bad) in [
-        (1, 1, 0, None),
-        (65_536, 16_777_216, 65_536, None),
-        (0, 0, 65_537, Some(Field::MsgMax)),
-        (65_537, 1, 0, Some(Field::MsgMax)),
-        (1, 0, 65_537, Some(Field::MsgsizeMax)),
-        (1, 16_777_217, 0, Some(Field::MsgsizeMax)),
-        (1, 1, 65_537, Some(Field::QueuesMax)),
-    ] {
-        let config = config(rt.alloc(), msg_max, msgsize_max, queues_max)?;
-        let fault = Core::new(rt.alloc(), config).err();
-        assert!(rt; fault == bad.map(CoreFault::BadConfig));
+    for (msg_max, msgsize_max, queues_max, bad) in &LIMITS {
+        let limits = Limits {
+            msg_max: *msg_max,
+            msgsize_max: *msgsize_max,
+            queues_max: *queues_max,
+        };
+        if fault(rt.alloc(), limits)? != bad.map(CoreFault::BadConfig) {
+            return Err(Fail::new(format_args!("with {msg_max}, {msgsize_max} and {queues_max}")));
+        }
     }
     Ok(())
 }

@@ -10,7 +10,6 @@ const ANN: Sid = Sid(0);
 const BOB: Sid = Sid(1);
 
 /// One step on the descriptions, and what it is to give.
-#[derive(Clone, Copy)]
 enum Step {
     Open(Sid, u64, Access, bool, Desc),
     Get(Sid, Desc, Option<Row>),
@@ -55,39 +54,39 @@ fn sets(descrs: &mut Descrs, sid: Sid, desc: Desc, nonblock: bool) -> bool {
 }
 
 /// Does the step, and says whether it gave what it is to give.
-fn gives(descrs: &mut Descrs, step: Step) -> Result<bool, Fail> {
+fn gives(descrs: &mut Descrs, step: &Step) -> Result<bool, Fail> {
     Ok(match step {
         Open(sid, object, access, nonblock, wanted) => {
-            retried_open(descrs, sid, object, access, nonblock)? == wanted
+            retried_open(descrs, *sid, *object, *access, *nonblock)? == *wanted
         }
-        Get(sid, desc, wanted) => descrs.get(sid, desc).copied() == wanted,
-        SetNonblock(sid, desc, nonblock) => sets(descrs, sid, desc, nonblock),
-        Close(sid, desc, wanted) => descrs.close(sid, desc) == wanted,
+        Get(sid, desc, wanted) => descrs.get(*sid, *desc).copied() == *wanted,
+        SetNonblock(sid, desc, nonblock) => sets(descrs, *sid, *desc, *nonblock),
+        Close(sid, desc, wanted) => descrs.close(*sid, *desc) == *wanted,
         CloseAll(sid) => {
-            descrs.close_all(sid);
+            descrs.close_all(*sid);
             true
         }
-        First(sid, wanted) => descrs.first(sid) == wanted,
-        Holder(desc, wanted) => descrs.holder(desc) == wanted,
-        Count(sid, wanted) => descrs.count(sid) == wanted,
-        Uses(object, wanted) => descrs.uses(object) == wanted,
-        Slot(sid, desc, wanted) => descrs.slot(sid, desc) == wanted,
-        Opened(wanted) => descrs.opened() == wanted,
+        First(sid, wanted) => descrs.first(*sid) == *wanted,
+        Holder(desc, wanted) => descrs.holder(*desc) == *wanted,
+        Count(sid, wanted) => descrs.count(*sid) == *wanted,
+        Uses(object, wanted) => descrs.uses(*object) == *wanted,
+        Slot(sid, desc, wanted) => descrs.slot(*sid, *desc) == *wanted,
+        Opened(wanted) => descrs.opened() == *wanted,
     })
 }
 
 /// Does the steps in order on no descriptions.
 fn all_give(alloc: Global, steps: &[Step]) -> Result<(), Fail> {
     let mut descrs = Descrs::new(alloc);
-    for step in steps {
-        if !gives(&mut descrs, *step)? {
-            return Err(Fail::new("a step gives something else"));
+    for (row, step) in steps.iter().enumerate() {
+        if !gives(&mut descrs, step)? {
+            return Err(Fail::new(format_args!("row {row} gives something else")));
         }
     }
     Ok(())
 }
 
-const TWO_SESSIONS: [Step; 7] = [
+static TWO_SESSIONS: [Step; 7] = [
     Open(ANN, 4, Access::Read, false, Desc(0)),
     Open(BOB, 4, Access::Both, true, Desc(1)),
     Get(BOB, Desc(0), None),
@@ -97,7 +96,7 @@ const TWO_SESSIONS: [Step; 7] = [
     First(BOB, Some(Desc(1))),
 ];
 
-const SLOTS: [Step; 10] = [
+static SLOTS: [Step; 10] = [
     Open(ANN, 1, Access::Read, false, Desc(0)),
     Open(ANN, 2, Access::Write, false, Desc(1)),
     Open(BOB, 1, Access::Both, false, Desc(2)),
@@ -110,7 +109,7 @@ const SLOTS: [Step; 10] = [
     Slot(BOB, Desc(3), Some(0)),
 ];
 
-const NONE: [Step; 7] = [
+static NONE: [Step; 7] = [
     Opened(0),
     Get(ANN, Desc(0), None),
     Close(ANN, Desc(0), None),
@@ -144,7 +143,7 @@ const TO_BOTH: Row = Row {
     nonblock: false,
 };
 
-const HELD_AND_CLOSED: [Step; 17] = [
+static HELD_AND_CLOSED: [Step; 17] = [
     Open(BOB, 7, Access::Write, false, Desc(0)),
     Open(ANN, 7, Access::Read, true, Desc(1)),
     Open(BOB, 7, Access::Both, false, Desc(2)),
@@ -171,7 +170,7 @@ const HELD_AND_CLOSED: [Step; 17] = [
     Opened(3),
 ];
 
-const HUNG_UP: [Step; 12] = [
+static HUNG_UP: [Step; 12] = [
     Open(ANN, 5, Access::Read, false, Desc(0)),
     Open(BOB, 5, Access::Read, false, Desc(1)),
     Open(ANN, 6, Access::Read, false, Desc(2)),
@@ -188,14 +187,9 @@ const HUNG_UP: [Step; 12] = [
 
 #[test]
 fn worked_descriptions(rt: HostRuntime) -> Result<(), Fail> {
-    for steps in [
-        TWO_SESSIONS.as_slice(),
-        SLOTS.as_slice(),
-        NONE.as_slice(),
-        HELD_AND_CLOSED.as_slice(),
-        HUNG_UP.as_slice(),
-    ] {
-        all_give(rt.alloc(), steps)?;
-    }
-    Ok(())
+    all_give(rt.alloc(), &NONE)?;
+    all_give(rt.alloc(), &TWO_SESSIONS)?;
+    all_give(rt.alloc(), &SLOTS)?;
+    all_give(rt.alloc(), &HELD_AND_CLOSED)?;
+    all_give(rt.alloc(), &HUNG_UP)
 }

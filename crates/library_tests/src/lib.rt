@@ -16,6 +16,8 @@ mod queue_tests;
 #[cfg(test)]
 mod script_tests;
 #[cfg(test)]
+mod sem_tests;
+#[cfg(test)]
 mod terms_tests;
 #[cfg(test)]
 mod trail_tests;

@@ -4,11 +4,10 @@ use crate::made::{joined, name};
 use ipc_access::DirFacts;
 use ipc_names::{NameDir, check, has_form, is_long};
 use ipc_terms::{Family, Gid, Mode, Name, NoMemory, Rule, Uid};
-use std::alloc::Global;
+use std::alloc::{AllocError, Global};
 use std::test::Fail;
 
 /// One step on a directory, and what it is to give.
-#[derive(Clone, Copy)]
 enum Step {
     /// Binds a name that is unbound.
     Bind(&'static str, u64),
@@ -56,36 +55,51 @@ fn has_facts(directory: &NameDir, owner: u32, group: u32, mode: u16) -> bool {
         }
 }
 
-/// Does the step, and says whether it gave what it is to give.
-fn gives(alloc: Global, directory: &mut NameDir, step: Step) -> Result<bool, NoMemory> {
-    match step {
-        Bind(text, object) => {
-            let added = name(alloc, text)?;
-            binds(directory, added, object)
-        }
-        Unbind(text, wanted) => {
-            let meant = name(alloc, text)?;
-            Ok(directory.unbind(&meant) == wanted)
-        }
-        Get(text, wanted) => {
-            let meant = name(alloc, text)?;
-            Ok(directory.get(&meant) == wanted)
-        }
-        NamesObject(object, wanted) => Ok(directory.names_object(object) == wanted),
-        List(start, count, wanted) => lists(alloc, directory, start, count, wanted),
-        SetMode(mode) => {
-            directory.set_mode(Mode(mode));
-            Ok(true)
-        }
-        SetOwner(owner, group) => {
-            directory.set_owner(Uid(owner), Gid(group));
-            Ok(true)
-        }
-        Facts(owner, group, mode) => Ok(has_facts(directory, owner, group, mode)),
-    }
+fn unbinds(
+    alloc: Global,
+    directory: &mut NameDir,
+    text: &str,
+    wanted: Option<u64>,
+) -> Result<bool, NoMemory> {
+    let meant = name(alloc, text)?;
+    Ok(directory.unbind(&meant) == wanted)
 }
 
-const BOUND_AND_BOUND_AGAIN: [Step; 18] = [
+/// Does the step, and says whether it gave what it is to give.
+fn gives(alloc: Global, directory: &mut NameDir, step: &Step) -> Result<bool, NoMemory> {
+    Ok(match step {
+        Bind(text, object) => binds(directory, name(alloc, text)?, *object)?,
+        Unbind(text, wanted) => unbinds(alloc, directory, text, *wanted)?,
+        Get(text, wanted) => directory.get(&name(alloc, text)?) == *wanted,
+        NamesObject(object, wanted) => directory.names_object(*object) == *wanted,
+        List(start, count, wanted) => lists(alloc, directory, *start, *count, wanted)?,
+        SetMode(mode) => {
+            directory.set_mode(Mode(*mode));
+            true
+        }
+        SetOwner(owner, group) => {
+            directory.set_owner(Uid(*owner), Gid(*group));
+            true
+        }
+        Facts(owner, group, mode) => has_facts(directory, *owner, *group, *mode),
+    })
+}
+
+/// Does the steps in order on an empty directory of the family.
+fn all_give(alloc: Global, family: Family, steps: &[Step]) -> Result<(), Fail> {
+    let mut directory = NameDir::new(alloc, family);
+    if directory.family() != family {
+        return Err(Fail::new("another family"));
+    }
+    for (row, step) in steps.iter().enumerate() {
+        if !gives(alloc, &mut directory, step)? {
+            return Err(Fail::new(format_args!("row {row} gives something else")));
+        }
+    }
+    Ok(())
+}
+
+static BOUND_AND_BOUND_AGAIN: [Step; 18] = [
     List(0, 10, ""),
     Bind("/b", 7),
     Bind("/a", 8),
@@ -106,7 +120,7 @@ const BOUND_AND_BOUND_AGAIN: [Step; 18] = [
     List(0, 10, "/a/b"),
 ];
 
-const PAGES: [Step; 13] = [
+static PAGES: [Step; 13] = [
     Bind("/d", 0),
     Bind("/c", 1),
     Bind("/b", 2),
@@ -122,7 +136,7 @@ const PAGES: [Step; 13] = [
     List(u32::MAX, u16::MAX, ""),
 ];
 
-const FACTS: [Step; 7] = [
+static FACTS: [Step; 7] = [
     Bind("/a", 8),
     Facts(0, 0, 0o1777),
     SetMode(0o755),
@@ -134,53 +148,60 @@ const FACTS: [Step; 7] = [
 
 #[test]
 fn worked_directories(rt: HostRuntime) -> Result<(), Fail> {
-    for (family, steps) in [
-        (Family::Mq, BOUND_AND_BOUND_AGAIN.as_slice()),
-        (Family::Sem, PAGES.as_slice()),
-        (Family::Mq, FACTS.as_slice()),
-    ] {
-        let mut directory = NameDir::new(rt.alloc(), family);
-        assert!(rt; directory.family() == family);
-        for step in steps {
-            assert!(rt; gives(rt.alloc(), &mut directory, *step)?);
+    all_give(rt.alloc(), Family::Mq, &BOUND_AND_BOUND_AGAIN)?;
+    all_give(rt.alloc(), Family::Sem, &PAGES)?;
+    all_give(rt.alloc(), Family::Mq, &FACTS)
+}
+
+/// What has the form of a name, and what hasn't.
+static FORMS: [(&[u8], bool); 9] = [
+    (b"", false),
+    (b"ab", false),
+    (b"//", false),
+    (b"/a/", false),
+    (b"/\0", false),
+    (b"/a", true),
+    (b"/...", true),
+    (b"/.a", true),
+    (b"/ \xff\n", true),
+];
+
+#[test]
+fn names_have_a_form(_rt: HostRuntime) -> Result<(), Fail> {
+    for (text, fine) in &FORMS {
+        let wanted = if *fine { Ok(()) } else { Err(Rule::NameForm) };
+        if has_form(text) != *fine
+            || check(Family::Mq, text) != wanted
+            || check(Family::Sem, text) != wanted
+        {
+            return Err(Fail::new(format_args!("at {text:?}")));
         }
     }
     Ok(())
 }
 
-#[test]
-fn names_have_a_form(rt: HostRuntime) {
-    for (text, fine) in [
-        (b"".as_slice(), false),
-        (b"ab".as_slice(), false),
-        (b"//".as_slice(), false),
-        (b"/a/".as_slice(), false),
-        (b"/\0".as_slice(), false),
-        (b"/a".as_slice(), true),
-        (b"/...".as_slice(), true),
-        (b"/.a".as_slice(), true),
-        (b"/ \xff\n".as_slice(), true),
-    ] {
-        let wanted = if fine { Ok(()) } else { Err(Rule::NameForm) };
-        assert!(rt; has_form(text) == fine);
-        assert!(rt; check(Family::Mq, text) == wanted);
-        assert!(rt; check(Family::Sem, text) == wanted);
-    }
+/// Whether a name of so many bytes is long in the family, which is asked only where it has the form.
+fn is_long_as(
+    alloc: Global,
+    family: Family,
+    length: usize,
+    long: bool,
+) -> Result<bool, AllocError> {
+    let mut name = Vec::from_elem(alloc, b'a', length)?;
+    let is_formless = check(family, &name) == Err(Rule::NameForm);
+    let Some(first) = name.first_mut() else {
+        return Ok(false);
+    };
+    *first = b'/';
+    let wanted = if long { Err(Rule::NameLong) } else { Ok(()) };
+    Ok(is_formless && is_long(family, &name) == long && check(family, &name) == wanted)
 }
 
 #[test]
 fn names_have_a_greatest_length(rt: HostRuntime) -> Result<(), Fail> {
-    for (family, length, wanted) in [
-        (Family::Mq, 256, Ok(())),
-        (Family::Mq, 257, Err(Rule::NameLong)),
-        (Family::Sem, 252, Ok(())),
-        (Family::Sem, 253, Err(Rule::NameLong)),
-    ] {
-        let mut name = Vec::from_elem(rt.alloc(), b'a', length)?;
-        assert!(rt; check(family, &name) == Err(Rule::NameForm));
-        assert!(rt; is_long(family, &name) == wanted.is_err());
-        name[0] = b'/';
-        assert!(rt; check(family, &name) == wanted);
-    }
+    assert!(rt; is_long_as(rt.alloc(), Family::Mq, 256, false)?);
+    assert!(rt; is_long_as(rt.alloc(), Family::Mq, 257, true)?);
+    assert!(rt; is_long_as(rt.alloc(), Family::Sem, 252, false)?);
+    assert!(rt; is_long_as(rt.alloc(), Family::Sem, 253, true)?);
     Ok(())
 }

@@ -1,7 +1,8 @@
-//! Queues, as tables of steps.
+//! Queues, as a table of steps.
 
 use ipc_queue::{Queue, ReceiveOutcome, SendOutcome};
 use ipc_terms::{NoMemory, Sid};
+use std::alloc::Global;
 use std::test::Fail;
 
 const ANN: Sid = Sid(0);
@@ -11,8 +12,9 @@ const BOB: Sid = Sid(1);
 const CY: Sid = Sid(2);
 
 /// One step on a queue, and what it is to give.
-#[derive(Clone, Copy)]
 enum Step {
+    /// Starts again, with an empty queue of at most so many messages.
+    New(u32),
     Send(u64, u32, Sid, SendOutcome),
     Receive(Sid, ReceiveOutcome),
     Withdraw(Sid, bool),
@@ -23,48 +25,27 @@ enum Step {
     Sender(Option<Sid>),
     /// A call that does nothing.
     OneKind,
+    /// Sends so many messages, to a queue that isn't full before.
+    Fill(u64),
+    /// Four messages by their places and priorities, which fill a queue of four, and the places in the
+    /// order in which they come out.
+    ComeOut(&'static [(u64, u32)], &'static [u64]),
 }
 
-use Step::{Full, Length, Next, OneKind, Receive, Receiver, Send, Sender, Withdraw};
+use Step::{
+    ComeOut, Fill, Full, Length, New, Next, OneKind, Receive, Receiver, Send, Sender, Withdraw,
+};
 
-/// Does the step, and says whether it gave what it is to give.
-fn gives(queue: &mut Queue, step: Step) -> Result<bool, NoMemory> {
-    Ok(match step {
-        Send(place, priority, who, wanted) => queue.send(place, priority, who)? == wanted,
-        Receive(who, wanted) => queue.receive(who)? == wanted,
-        Withdraw(who, wanted) => queue.withdraw(who) == wanted,
-        Length(wanted) => queue.len() == wanted,
-        Full(wanted) => queue.is_full() == wanted,
-        Next(wanted) => queue.next() == wanted,
-        Receiver(wanted) => queue.receiver() == wanted,
-        Sender(wanted) => queue.sender() == wanted,
-        OneKind => {
-            queue.parks_one_kind();
-            true
-        }
-    })
-}
-
-const OVERTAKEN: [Step; 8] = [
-    Send(0, 1, ANN, SendOutcome::Queued),
-    Send(1, 1, ANN, SendOutcome::Queued),
-    Receive(BOB, ReceiveOutcome::Took(0)),
-    Send(5, 1, ANN, SendOutcome::Queued),
-    Send(6, 2, ANN, SendOutcome::Queued),
-    Receive(BOB, ReceiveOutcome::Took(6)),
-    Receive(BOB, ReceiveOutcome::Took(1)),
-    Receive(BOB, ReceiveOutcome::Took(5)),
-];
-
-const EMPTY: [Step; 5] = [
+static STEPS: [Step; 118] = [
+    // Nothing is in an empty queue.
+    New(2),
     Length(0),
     Next(None),
     Receiver(None),
     Sender(None),
     Full(false),
-];
-
-const ENTER_AND_LEAVE: [Step; 14] = [
+    // Messages enter and leave.
+    New(2),
     Send(10, 1, ANN, SendOutcome::Queued),
     Length(1),
     Next(Some(10)),
@@ -79,9 +60,8 @@ const ENTER_AND_LEAVE: [Step; 14] = [
     Receive(BOB, ReceiveOutcome::Took(10)),
     Length(0),
     Next(None),
-];
-
-const PARKED_AND_SERVED: [Step; 17] = [
+    // A call that can't be served waits, and is served by the next of the other kind.
+    New(2),
     Send(10, 1, ANN, SendOutcome::Queued),
     Send(11, 5, ANN, SendOutcome::Queued),
     Send(12, 9, BOB, SendOutcome::Parked),
@@ -99,9 +79,8 @@ const PARKED_AND_SERVED: [Step; 17] = [
     Receiver(None),
     Length(0),
     Next(None),
-];
-
-const FIRST_RECEIVE_FIRST: [Step; 8] = [
+    // The receive that waits longest is served first.
+    New(1),
     Receive(CY, ReceiveOutcome::Parked),
     Receive(ANN, ReceiveOutcome::Parked),
     Receiver(Some(CY)),
@@ -110,9 +89,8 @@ const FIRST_RECEIVE_FIRST: [Step; 8] = [
     Send(6, 0, BOB, SendOutcome::HandedTo(ANN)),
     Receiver(None),
     Send(7, 0, BOB, SendOutcome::Queued),
-];
-
-const FIRST_SEND_FIRST: [Step; 11] = [
+    // The send that waits longest enters first, whatever its priority.
+    New(2),
     Send(0, 3, ANN, SendOutcome::Queued),
     Send(1, 3, ANN, SendOutcome::Queued),
     Send(2, 3, CY, SendOutcome::Parked),
@@ -124,9 +102,8 @@ const FIRST_SEND_FIRST: [Step; 11] = [
     Sender(None),
     Receive(BOB, ReceiveOutcome::Took(3)),
     Receive(BOB, ReceiveOutcome::Took(2)),
-];
-
-const WITHDRAWN_SEND: [Step; 15] = [
+    // A withdrawn send leaves nothing.
+    New(1),
     Send(0, 0, ANN, SendOutcome::Queued),
     Send(1, 0, CY, SendOutcome::Parked),
     Send(2, 0, ANN, SendOutcome::Parked),
@@ -142,9 +119,8 @@ const WITHDRAWN_SEND: [Step; 15] = [
     Withdraw(CY, false),
     Withdraw(ANN, false),
     Receive(BOB, ReceiveOutcome::Took(2)),
-];
-
-const WITHDRAWN_RECEIVE: [Step; 9] = [
+    // A withdrawn receive gets nothing.
+    New(1),
     Withdraw(CY, false),
     Receive(CY, ReceiveOutcome::Parked),
     Receive(ANN, ReceiveOutcome::Parked),
@@ -154,9 +130,8 @@ const WITHDRAWN_RECEIVE: [Step; 9] = [
     Receiver(Some(ANN)),
     Send(4, 0, BOB, SendOutcome::HandedTo(ANN)),
     Send(5, 0, BOB, SendOutcome::Queued),
-];
-
-const ONE: [Step; 7] = [
+    // A queue of one message.
+    New(1),
     Full(false),
     Send(4, 32_767, ANN, SendOutcome::Queued),
     Full(true),
@@ -164,84 +139,107 @@ const ONE: [Step; 7] = [
     Full(false),
     Send(6, 0, ANN, SendOutcome::Queued),
     Next(Some(6)),
-];
-
-#[test]
-fn worked_queues(rt: HostRuntime) -> Result<(), Fail> {
-    for (maxmsg, steps) in [
-        (2, EMPTY.as_slice()),
-        (2, ENTER_AND_LEAVE.as_slice()),
-        (2, PARKED_AND_SERVED.as_slice()),
-        (1, FIRST_RECEIVE_FIRST.as_slice()),
-        (2, FIRST_SEND_FIRST.as_slice()),
-        (1, WITHDRAWN_SEND.as_slice()),
-        (1, WITHDRAWN_RECEIVE.as_slice()),
-        (1, ONE.as_slice()),
-        (3, OVERTAKEN.as_slice()),
-    ] {
-        assert!(rt; maxmsg > 0);
-        let mut queue = Queue::new(rt.alloc(), maxmsg, 8);
-        for step in steps {
-            assert!(rt; gives(&mut queue, *step)?);
-        }
-    }
-    Ok(())
-}
-
-/// Four messages by their places and priorities, and the places in the order in which they come out.
-const ORDERS: [([(u64, u32); 4], [u64; 4]); 8] = [
-    ([(3, 1), (4, 5), (5, 5), (6, 0)], [4, 5, 3, 6]),
-    ([(0, 0), (1, 1), (2, 2), (3, 3)], [3, 2, 1, 0]),
-    ([(0, 3), (1, 2), (2, 1), (3, 0)], [0, 1, 2, 3]),
-    ([(7, 4), (8, 4), (9, 4), (10, 4)], [7, 8, 9, 10]),
-    ([(1, 0), (2, 9), (3, 0), (4, 9)], [2, 4, 1, 3]),
-    (
-        [(0, 32_766), (1, 32_767), (2, 0), (3, 32_767)],
-        [1, 3, 0, 2],
+    // A later message of a greater priority overtakes.
+    New(3),
+    Send(0, 1, ANN, SendOutcome::Queued),
+    Send(1, 1, ANN, SendOutcome::Queued),
+    Receive(BOB, ReceiveOutcome::Took(0)),
+    Send(5, 1, ANN, SendOutcome::Queued),
+    Send(6, 2, ANN, SendOutcome::Queued),
+    Receive(BOB, ReceiveOutcome::Took(6)),
+    Receive(BOB, ReceiveOutcome::Took(1)),
+    Receive(BOB, ReceiveOutcome::Took(5)),
+    // The greatest priority comes out first, and of one priority the oldest.
+    ComeOut(&[(3, 1), (4, 5), (5, 5), (6, 0)], &[4, 5, 3, 6]),
+    ComeOut(&[(0, 0), (1, 1), (2, 2), (3, 3)], &[3, 2, 1, 0]),
+    ComeOut(&[(0, 3), (1, 2), (2, 1), (3, 0)], &[0, 1, 2, 3]),
+    ComeOut(&[(7, 4), (8, 4), (9, 4), (10, 4)], &[7, 8, 9, 10]),
+    ComeOut(&[(1, 0), (2, 9), (3, 0), (4, 9)], &[2, 4, 1, 3]),
+    ComeOut(
+        &[(0, 32_766), (1, 32_767), (2, 0), (3, 32_767)],
+        &[1, 3, 0, 2],
     ),
-    ([(9, 2), (8, 2), (7, 3), (6, 3)], [7, 6, 9, 8]),
-    ([(5, 0), (5, 1), (5, 1), (5, 0)], [5, 5, 5, 5]),
-];
-
-#[test]
-fn priority_decides_and_then_age(rt: HostRuntime) -> Result<(), Fail> {
-    for (messages, order) in ORDERS.as_slice() {
-        let mut queue = Queue::new(rt.alloc(), 4, 8);
-        for (place, priority) in messages.as_slice() {
-            assert!(rt;
-                gives(
-                    &mut queue,
-                    Send(*place, *priority, ANN, SendOutcome::Queued)
-                )?
-            );
-        }
-        assert!(rt; queue.is_full());
-        for place in order.as_slice() {
-            assert!(rt; queue.next() == Some(*place));
-            assert!(rt; gives(&mut queue, Receive(BOB, ReceiveOutcome::Took(*place)))?);
-        }
-    }
-    Ok(())
-}
-
-#[test]
-fn a_queue_of_1000_fills_at_the_last(rt: HostRuntime) -> Result<(), Fail> {
-    let mut queue = Queue::new(rt.alloc(), 1_000, 8);
-    for place in 0..1_000u64 {
-        assert!(rt; !queue.is_full());
-        let priority = place as u32 % 2;
-        assert!(rt; gives(&mut queue, Send(place, priority, ANN, SendOutcome::Queued))?);
-    }
-    for step in FULL_OF_1000.as_slice() {
-        assert!(rt; gives(&mut queue, *step)?);
-    }
-    Ok(())
-}
-
-const FULL_OF_1000: [Step; 5] = [
+    ComeOut(&[(9, 2), (8, 2), (7, 3), (6, 3)], &[7, 6, 9, 8]),
+    ComeOut(&[(5, 0), (5, 1), (5, 1), (5, 0)], &[5, 5, 5, 5]),
+    // A queue of 1,000 fills at the last.
+    New(1_000),
+    Fill(1_000),
     Full(true),
     Length(1_000),
     Receive(BOB, ReceiveOutcome::Took(1)),
     Receive(BOB, ReceiveOutcome::Took(3)),
     Length(998),
 ];
+
+/// Does the step, and says whether it gave what it is to give.
+fn gives(alloc: Global, queue: &mut Queue, step: &Step) -> Result<bool, NoMemory> {
+    Ok(match step {
+        New(maxmsg) => starts(alloc, queue, *maxmsg),
+        Send(place, priority, who, wanted) => queue.send(*place, *priority, *who)? == *wanted,
+        Receive(who, wanted) => queue.receive(*who)? == *wanted,
+        Withdraw(who, wanted) => queue.withdraw(*who) == *wanted,
+        Length(wanted) => queue.len() == *wanted,
+        Full(wanted) => queue.is_full() == *wanted,
+        Next(wanted) => queue.next() == *wanted,
+        Receiver(wanted) => queue.receiver() == *wanted,
+        Sender(wanted) => queue.sender() == *wanted,
+        OneKind => {
+            queue.parks_one_kind();
+            true
+        }
+        Fill(count) => fills(queue, *count)?,
+        ComeOut(messages, order) => come_out(alloc, messages, order)?,
+    })
+}
+
+/// Starts again, and says whether a queue may be of so many messages.
+fn starts(alloc: Global, queue: &mut Queue, maxmsg: u32) -> bool {
+    if maxmsg > 0 {
+        *queue = Queue::new(alloc, maxmsg, 8);
+    }
+    maxmsg > 0
+}
+
+fn fills(queue: &mut Queue, count: u64) -> Result<bool, NoMemory> {
+    for place in 0..count {
+        let priority = u32::from(place % 2 == 1);
+        if queue.is_full() || queue.send(place, priority, ANN)? != SendOutcome::Queued {
+            return Ok(false);
+        }
+    }
+    Ok(true)
+}
+
+fn come_out(alloc: Global, messages: &[(u64, u32)], order: &[u64]) -> Result<bool, NoMemory> {
+    let mut queue = Queue::new(alloc, 4, 8);
+    for (place, priority) in messages {
+        if queue.send(*place, *priority, ANN)? != SendOutcome::Queued {
+            return Ok(false);
+        }
+    }
+    if !queue.is_full() {
+        return Ok(false);
+    }
+    for place in order {
+        if queue.next() != Some(*place) || queue.receive(BOB)? != ReceiveOutcome::Took(*place) {
+            return Ok(false);
+        }
+    }
+    Ok(true)
+}
+
+/// Does the steps in order.
+fn all_give(alloc: Global, steps: &[Step]) -> Result<(), Fail> {
+    let mut queue = Queue::new(alloc, 1, 8);
+    for (row, step) in steps.iter().enumerate() {
+        if !gives(alloc, &mut queue, step)? {
+            return Err(Fail::new(format_args!("row {row} gives something else")));
+        }
+    }
+    Ok(())
+}
+
+#[test]
+fn worked_queues(rt: HostRuntime) -> Result<(), Fail> {
+    all_give(rt.alloc(), &STEPS)
+}

@@ -1,16 +1,17 @@
 //! What no script shows: readers and writers that fail, the longest line, and when answers are
 //! written.
 
+use crate::made::shows;
 use ipc_access::UserFault;
 use ipc_core::{Field, Limits};
 use ipc_script::{ScriptFault, run_script};
-use std::alloc::Global;
+use std::alloc::{AllocError, Global};
 use std::cell::Cell;
 use std::io;
 use std::io::{ErrorKind, Read, Write};
 use std::test::Fail;
 
-const FAULTS: [(ScriptFault, &str, u8); 8] = [
+static FAULTS: [(ScriptFault, &str, u8); 8] = [
     (
         ScriptFault::Users(UserFault::BadLine(2)),
         "users BadLine 2",
@@ -28,9 +29,10 @@ const FAULTS: [(ScriptFault, &str, u8); 8] = [
 #[test]
 fn faults_have_words_and_statuses(rt: HostRuntime) -> Result<(), Fail> {
     for (fault, words, status) in &FAULTS {
-        let shown = format!(in rt.alloc(); "{fault}")?;
-        assert!(rt; shown.as_str() == *words, "{shown}");
-        assert!(rt; fault.status() == *status, "{shown}");
+        shows(rt.alloc(), fault, words)?;
+        if fault.status() != *status {
+            return Err(Fail::new(format_args!("{words} has another status")));
+        }
     }
     Ok(())
 }
@@ -47,35 +49,45 @@ fn ends_by(alloc: Global, input: &[u8], wanted: ScriptFault) -> bool {
 
 #[test]
 fn limits_are_tested_after_users(rt: HostRuntime) {
-    for (input, fault) in [
-        (b".\n".as_slice(), ScriptFault::Config(Field::MsgMax)),
-        (
-            b"bad\n.\n".as_slice(),
-            ScriptFault::Users(UserFault::BadLine(1)),
-        ),
-    ] {
-        assert!(rt; ends_by(rt.alloc(), input, fault), "at {fault}");
-    }
+    assert!(rt; ends_by(rt.alloc(), b".\n", ScriptFault::Config(Field::MsgMax)));
+    assert!(rt;
+        ends_by(
+            rt.alloc(),
+            b"bad\n.\n",
+            ScriptFault::Users(UserFault::BadLine(1))
+        )
+    );
 }
 
 /// A script whose fourth line is a comment of so many bytes, what it writes, and how it ends.
-const LONG_LINES: [(usize, &str, Result<(), ScriptFault>); 3] = [
+static LONG_LINES: [(usize, &str, Result<(), ScriptFault>); 3] = [
     (1_048_575, "a started 0\n", Ok(())),
     (1_048_576, "a started 0\n", Ok(())),
     (1_048_577, "", Err(ScriptFault::Line(3))),
 ];
 
+fn script_with_comment(alloc: Global, length: usize) -> Result<Vec<u8>, AllocError> {
+    let comment = Vec::from_elem(alloc, b'#', length)?;
+    let mut script = Vec::from_slice(alloc, b"ann:ka1:1000:1000::\n.\n")?;
+    script.extend_from_slice(&comment)?;
+    script.extend_from_slice(b"\na hello ka1\n")?;
+    Ok(script)
+}
+
+/// Whether a run over the script writes this and ends so.
+fn runs(alloc: Global, script: &[u8], written: &str, outcome: Result<(), ScriptFault>) -> bool {
+    let mut output = Vec::new(alloc);
+    run_script(alloc, Limits::STANDARD, script, &mut output) == outcome
+        && output.as_slice() == written.as_bytes()
+}
+
 #[test]
 fn a_line_has_at_most_1_048_576_bytes(rt: HostRuntime) -> Result<(), Fail> {
-    let alloc = rt.alloc();
-    for (length, written, outcome) in LONG_LINES {
-        let mut input = Vec::from_slice(alloc, b"ann:ka1:1000:1000::\n.\n")?;
-        input.extend_from_slice(&vec![in alloc; b'#'; length]?)?;
-        input.extend_from_slice(b"\na hello ka1\n")?;
-        let mut output = Vec::new(alloc);
-        let ended = run_script(alloc, Limits::STANDARD, input.as_slice(), &mut output);
-        assert!(rt; ended == outcome, "with {length}");
-        assert!(rt; output.as_slice() == written.as_bytes(), "with {length}");
+    for (length, written, outcome) in &LONG_LINES {
+        let script = script_with_comment(rt.alloc(), *length)?;
+        if !runs(rt.alloc(), &script, written, *outcome) {
+            return Err(Fail::new(format_args!("with {length}")));
+        }
     }
     Ok(())
 }
@@ -138,21 +150,42 @@ fn read_with_failure(alloc: Global, fails_at: u64, kind: ErrorKind) -> Result<bo
         kind,
     };
     let mut output = Vec::new(alloc);
-    match run_script(alloc, Limits::STANDARD, reader, &mut output) {
-        Ok(()) if output.as_slice() == WRITTEN.as_bytes() => Ok(true),
-        Err(ScriptFault::Read) if WRITTEN.as_bytes().starts_with(&output) => Ok(false),
+    let outcome = run_script(alloc, Limits::STANDARD, reader, &mut output);
+    is_whole(outcome, ScriptFault::Read, &output)
+}
+
+/// Whether all was written; or by this fault a part.
+fn is_whole(
+    outcome: Result<(), ScriptFault>,
+    wanted: ScriptFault,
+    written: &[u8],
+) -> Result<bool, Fail> {
+    let whole = WRITTEN.as_bytes();
+    match outcome {
+        Ok(()) if written == whole => Ok(true),
+        Err(fault) if fault == wanted && whole.starts_with(written) => Ok(false),
         _ => Err(Fail::new("another outcome")),
     }
 }
 
 #[test]
 fn each_read_fails_once(rt: HostRuntime) -> Result<(), Fail> {
-    // 54 bytes by sevens, and the read that finds the end. One that is interrupted is made again.
+    // 54 bytes by sevens, and the read that finds the end.
     for fails_at in 1..=12u64 {
         let is_whole = read_with_failure(rt.alloc(), fails_at, ErrorKind::UnexpectedEof)?;
-        assert!(rt; is_whole == (fails_at > 9), "at {fails_at}");
-        let is_whole = read_with_failure(rt.alloc(), fails_at, ErrorKind::Interrupted)?;
-        assert!(rt; is_whole, "at {fails_at}");
+        if is_whole != (fails_at > 9) {
+            return Err(Fail::new(format_args!("at {fails_at}")));
+        }
+    }
+    Ok(())
+}
+
+#[test]
+fn a_read_that_is_interrupted_is_made_again(rt: HostRuntime) -> Result<(), Fail> {
+    for fails_at in 1..=12u64 {
+        if !read_with_failure(rt.alloc(), fails_at, ErrorKind::Interrupted)? {
+            return Err(Fail::new(format_args!("at {fails_at}")));
+        }
     }
     Ok(())
 }
@@ -166,20 +199,16 @@ fn write_with_failure(alloc: Global, fails_at: u64) -> Result<bool, Fail> {
         fails_at,
     };
     let outcome = run_script(alloc, Limits::STANDARD, SCRIPT.as_bytes(), &mut writer);
-    let written = writer.written.as_slice();
-    match outcome {
-        Ok(()) if written == WRITTEN.as_bytes() => Ok(true),
-        Err(ScriptFault::Write) if WRITTEN.as_bytes().starts_with(written) => Ok(false),
-        _ => Err(Fail::new("another outcome")),
-    }
+    is_whole(outcome, ScriptFault::Write, &writer.written)
 }
 
 #[test]
 fn each_write_fails_once(rt: HostRuntime) -> Result<(), Fail> {
     // One block of 38 bytes by fives.
     for fails_at in 1..=12u64 {
-        let is_whole = write_with_failure(rt.alloc(), fails_at)?;
-        assert!(rt; is_whole == (fails_at > 8), "at {fails_at}");
+        if write_with_failure(rt.alloc(), fails_at)? != (fails_at > 8) {
+            return Err(Fail::new(format_args!("at {fails_at}")));
+        }
     }
     Ok(())
 }
@@ -199,7 +228,7 @@ fn a_writer_s_fault_comes_before_a_later_line_s(rt: HostRuntime) {
 
 /// What a person types, each with the answers to the lines that it ends; the first two are the user
 /// file.
-const TYPED: [(&str, &str); 9] = [
+static TYPED: [(&str, &str); 9] = [
     ("ann:ka1:1000:1000::\n", ""),
     (".\n", ""),
     ("a hello ka1\n", "a started 0\n"),

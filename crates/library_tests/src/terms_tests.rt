@@ -32,17 +32,22 @@ fn same(alloc: Global, one: &str, other: &str) -> Result<Option<bool>, NoMemory>
     )
 }
 
+/// Two texts, and whether they are the same.
+static TEXTS: [(&str, &str, bool); 5] = [
+    ("/a", "/a", true),
+    ("/a", "/b", false),
+    ("/a", "/ab", false),
+    ("\0\u{80}", "\0", false),
+    ("", "", true),
+];
+
 #[test]
 fn bytes_and_names_are_kept_and_compared(rt: HostRuntime) -> Result<(), Fail> {
-    for (one, other, wanted) in [
-        ("/a", "/a", true),
-        ("/a", "/b", false),
-        ("/a", "/ab", false),
-        ("\0\u{80}", "\0", false),
-        ("", "", true),
-    ] {
-        assert!(rt; keeps_bytes(rt.alloc(), one)? && keeps_name(rt.alloc(), one)?);
-        assert!(rt; same(rt.alloc(), one, other)? == Some(wanted));
+    for (one, other, alike) in &TEXTS {
+        let kept = keeps_bytes(rt.alloc(), one)? && keeps_name(rt.alloc(), one)?;
+        if !kept || same(rt.alloc(), one, other)? != Some(*alike) {
+            return Err(Fail::new(format_args!("at {one:?} and {other:?}")));
+        }
     }
     Ok(())
 }
@@ -55,42 +60,71 @@ fn names(alloc: Global, first: &str, second: &str) -> Result<Names, NoMemory> {
     Ok(Names::new(names))
 }
 
+/// Whether the lists of these names are equal.
+fn are_equal(alloc: Global, one: (&str, &str), other: (&str, &str)) -> Result<bool, NoMemory> {
+    let one = names(alloc, one.0, one.1)?;
+    let other = names(alloc, other.0, other.1)?;
+    Ok(one == other)
+}
+
+fn come_back(alloc: Global, first: &str, second: &str, wanted: &[u8]) -> Result<bool, NoMemory> {
+    let listed = names(alloc, first, second)?;
+    let is_shown = joined(alloc, listed.as_slice())?.as_slice() == wanted;
+    Ok(joined(alloc, &listed.into_vec())?.as_slice() == wanted && is_shown)
+}
+
 #[test]
 fn lists_of_names_are_their_names_in_order(rt: HostRuntime) -> Result<(), Fail> {
-    let listed = names(rt.alloc(), "/b", "/a")?;
-    assert!(rt; listed == names(rt.alloc(), "/b", "/a")?);
-    assert!(rt; listed != names(rt.alloc(), "/a", "/b")?);
-    assert!(rt; joined(rt.alloc(), listed.as_slice())?.as_slice() == b"/b/a".as_slice());
-    assert!(rt; joined(rt.alloc(), &listed.into_vec())?.as_slice() == b"/b/a".as_slice());
+    assert!(rt; are_equal(rt.alloc(), ("/b", "/a"), ("/b", "/a"))?);
+    assert!(rt; !are_equal(rt.alloc(), ("/b", "/a"), ("/a", "/b"))?);
+    assert!(rt; come_back(rt.alloc(), "/b", "/a", b"/b/a")?);
+    Ok(())
+}
+
+/// Rules, their numbers and their error words.
+static RULES: [(Rule, u16, &str); 5] = [
+    (Rule::NoSession, 1, "ESRCH"),
+    (Rule::NameLong, 5, "ENAMETOOLONG"),
+    (Rule::Sticky, 17, "EACCES"),
+    (Rule::WouldBlock, 29, "EAGAIN"),
+    (Rule::BadKey, 31, "EACCES"),
+];
+
+#[test]
+fn rules_have_numbers_and_error_words(_rt: HostRuntime) -> Result<(), Fail> {
+    for (rule, number, word) in &RULES {
+        if rule.number() != *number || rule.errno() != *word {
+            return Err(Fail::new(format_args!("at {word}")));
+        }
+    }
+    Ok(())
+}
+
+/// Bits, and whether they create, exclude, and refuse where others wait.
+static FLAGS: [(u8, bool, bool, bool); 5] = [
+    (0, false, false, false),
+    (1, true, false, false),
+    (2, false, true, false),
+    (5, true, false, true),
+    (6, false, true, true),
+];
+
+#[test]
+fn flags_are_bits(_rt: HostRuntime) -> Result<(), Fail> {
+    for (bits, creates, exclusive, nonblock) in &FLAGS {
+        let flags = OpenFlags::from_bits_retain(*bits);
+        if flags.creates() != *creates
+            || flags.is_exclusive() != *exclusive
+            || flags.is_nonblock() != *nonblock
+        {
+            return Err(Fail::new(format_args!("at {bits}")));
+        }
+    }
     Ok(())
 }
 
 #[test]
-fn rules_have_numbers_and_error_words(rt: HostRuntime) {
-    for (rule, number, word) in [
-        (Rule::NoSession, 1, "ESRCH"),
-        (Rule::NameLong, 5, "ENAMETOOLONG"),
-        (Rule::Sticky, 17, "EACCES"),
-        (Rule::WouldBlock, 29, "EAGAIN"),
-        (Rule::BadKey, 31, "EACCES"),
-    ] {
-        assert!(rt; rule.number() == number && rule.errno() == word);
-    }
-}
-
-#[test]
-fn flags_are_bits(rt: HostRuntime) {
-    for (bits, creates, exclusive, nonblock) in [
-        (0, false, false, false),
-        (1, true, false, false),
-        (2, false, true, false),
-        (5, true, false, true),
-        (6, false, true, true),
-    ] {
-        let flags = OpenFlags::from_bits_retain(bits);
-        assert!(rt; flags.creates() == creates);
-        assert!(rt; flags.is_exclusive() == exclusive && flags.is_nonblock() == nonblock);
-    }
+fn flags_join(rt: HostRuntime) {
     assert!(rt; (OpenFlags::CREATE | OpenFlags::NONBLOCK).bits() == 5);
 }
 

@@ -6,7 +6,6 @@ use std::alloc::Global;
 use std::test::Fail;
 
 /// A record, and what is to stand at its place.
-#[derive(Clone, Copy)]
 enum Pushed {
     /// A hello of this user.
     Hello(u32),
@@ -16,62 +15,70 @@ enum Pushed {
 
 use Pushed::{Hello, Send};
 
-/// The record: session 0 acts, by description 0.
-fn made(alloc: Global, pushed: Pushed) -> Result<Record, NoMemory> {
-    Ok(match pushed {
-        Hello(user) => Record {
-            event: Event::Hello {
-                found: Some(Uid(user)),
-            },
-            rule: None,
-        },
-        Send(priority, bytes, rule) => Record {
-            event: Event::Do {
-                sid: Sid(0),
-                call: Call::MqSend {
-                    desc: Desc(0),
-                    priority,
-                    bytes: Bytes::from_slice(alloc, bytes)?,
-                },
-            },
-            rule,
+fn send(alloc: Global, priority: u32, bytes: &[u8]) -> Result<Event, NoMemory> {
+    Ok(Event::Do {
+        sid: Sid(0),
+        call: Call::MqSend {
+            desc: Desc(0),
+            priority,
+            bytes: Bytes::from_slice(alloc, bytes)?,
         },
     })
 }
 
+/// The record: session 0 acts, by description 0.
+fn made(alloc: Global, pushed: &Pushed) -> Result<Record, NoMemory> {
+    Ok(match pushed {
+        Hello(user) => Record {
+            event: Event::Hello {
+                found: Some(Uid(*user)),
+            },
+            rule: None,
+        },
+        Send(priority, bytes, rule) => Record {
+            event: send(alloc, *priority, bytes)?,
+            rule: *rule,
+        },
+    })
+}
+
+/// Pushes the record at the end, where nothing stood before.
+fn pushes(alloc: Global, trail: &mut Trail, pushed: &Pushed) -> Result<bool, NoMemory> {
+    let place = trail.len();
+    let is_free = trail.get(place).is_none();
+    let added = made(alloc, pushed)?;
+    trail.reserve_one()?;
+    trail.push_reserved(added);
+    Ok(is_free && trail.len() == place + 1)
+}
+
 /// Whether this stands at the place. The message of a send is read by its place.
-fn stands(trail: &Trail, place: usize, pushed: Pushed) -> bool {
-    match (trail.get(place), pushed) {
+fn stands(trail: &Trail, place: usize, pushed: &Pushed) -> bool {
+    let Some(record) = trail.get(place) else {
+        return false;
+    };
+    match (&record.event, pushed) {
+        (Event::Hello { found: Some(found) }, Hello(user)) => {
+            found.0 == *user && record.rule == None
+        }
         (
-            Some(
-                Record {
-                    event: Event::Hello { found: Some(found) },
-                    rule: None,
-                },
-            ),
-            Hello(user),
-        ) => found.0 == user,
-        (
-            Some(
-                Record {
-                    event: Event::Do {
-                        call: Call::MqSend { .. },
-                        ..
-                    },
-                    rule,
-                },
-            ),
-            Send(priority, bytes, wanted),
+            Event::Do {
+                call: Call::MqSend { .. },
+                ..
+            },
+            Send(priority, bytes, rule),
         ) => {
             let place = place as u64;
-            *rule == wanted && trail.prio_at(place) == priority && trail.bytes_at(place) == bytes
+            record.rule == *rule
+                && trail.prio_at(place) == *priority
+                && trail.bytes_at(place) == *bytes
         }
         _ => false,
     }
 }
 
 /// Refused sends have messages too, and a message may be empty.
-const PUSHED: [Pushed; 8] = [
+static PUSHED: [Pushed; 8] = [
     Hello(0),
     Send(3, b"old", None),
     Hello(1000),
@@ -85,17 +92,20 @@ const PUSHED: [Pushed; 8] = [
 #[test]
 fn what_was_pushed_stands_at_its_place(rt: HostRuntime) -> Result<(), Fail> {
     let mut trail = Trail::new(rt.alloc());
-    for pushed in PUSHED.as_slice() {
-        let place = trail.len();
-        assert!(rt; trail.get(place).is_none());
-        let added = made(rt.alloc(), *pushed)?;
-        trail.reserve_one()?;
-        trail.push_reserved(added);
-        assert!(rt; trail.len() == place + 1);
-    }
-    for (place, pushed) in PUSHED.iter().enumerate() {
-        assert!(rt; stands(&trail, place, *pushed), "at {place}");
+    for pushed in &PUSHED {
+        if !pushes(rt.alloc(), &mut trail, pushed)? {
+            return Err(Fail::new("a place was taken"));
+        }
     }
     assert!(rt; trail.get(usize::MAX).is_none());
+    all_stand(&trail)
+}
+
+fn all_stand(trail: &Trail) -> Result<(), Fail> {
+    for (place, pushed) in PUSHED.iter().enumerate() {
+        if !stands(trail, place, pushed) {
+            return Err(Fail::new(format_args!("at {place}")));
+        }
+    }
     Ok(())
 }

@@ -2,14 +2,12 @@
 //! writes its answers to standard output.
 #![tactic(auto)]
 
-mod fault;
 mod guidance;
 
 use clap::Command;
-use fault::ProgramFault;
 use guidance::{help_text, hint};
 use ipc_core::Limits;
-use ipc_script::run_script;
+use ipc_script::{ProgramFault, run_script};
 use std::alloc::Global;
 use std::env;
 use std::process::ExitCode;

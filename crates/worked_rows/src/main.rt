@@ -10,7 +10,7 @@ use row::judge;
 use std::io;
 
 /// The scripts, in the order in which they are run.
-const ROWS: [&str; 48] = [
+const ROWS: [&str; 52] = [
     "first_run",
     "present_before_mode",
     "name_forms",
@@ -39,6 +39,10 @@ const ROWS: [&str; 48] = [
     "parked_without_the_name",
     "others_leave_while_one_is_parked",
     "refused_while_parked",
+    "semaphore_posts_and_waits",
+    "name_lengths_by_family",
+    "queue_and_semaphore_of_one_name",
+    "waiters_served_in_order",
     "nonblock_where_others_park",
     "parked_under_an_older_label",
     "labels_and_sessions",

@@ -1,7 +1,8 @@
 use Rattle.std.proofs.Common.{refl}
-use Rattle.ipc_terms.specs.declared.call.Call.TheVariants.{Umask, MqSend}
+use Rattle.ipc_terms.specs.declared.ids.Family.TheVariants.{Mq, Sem}
+use Rattle.ipc_terms.specs.declared.call.Call.TheVariants.{Umask, MqSend, MqReceive, SemPost, SemWait, SemGetvalue}
 use Rattle.ipc_policy.proofs.Unforbidden.{caller_live, call_free}
-use Rattle.ipc_core.proofs.Answering.{free_held}
+use Rattle.ipc_core.proofs.Answering.{free_queue, free_semaphore, free_held}
 use Rattle.ipc_core.proofs.answer.call_answers.Goals as goal
 
 pub mask-requires : goal.mask-requires
@@ -13,4 +14,28 @@ pub send_answers-requires : goal.send_answers-requires
 send_answers-requires c =
     let w = c.in-MqSend in
     let accepted = rw w.is at c.requires in
-    free_held _ _ c.args.sid.0 w.desc.0 (call_free _ _ c.args.sid (MqSend w.desc w.priority w.bytes) w.desc refl refl accepted).held
+    free_queue _ _ c.args.sid.0 w.desc.0 (call_free _ _ c.args.sid (MqSend w.desc w.priority w.bytes) Mq w.desc refl refl accepted).held
+
+pub receive_answers-requires : goal.receive_answers-requires
+receive_answers-requires c =
+    let w = c.in-MqReceive in
+    let accepted = rw w.is at c.requires in
+    free_queue _ _ c.args.sid.0 w.desc.0 (call_free _ _ c.args.sid (MqReceive w.desc w.length) Mq w.desc refl refl accepted).held
+
+pub post_answers-requires : goal.post_answers-requires
+post_answers-requires c =
+    let w = c.in-SemPost in
+    let accepted = rw w.is at c.requires in
+    free_semaphore _ _ c.args.sid.0 w.desc.0 (call_free _ _ c.args.sid (SemPost w.desc) Sem w.desc refl refl accepted).held
+
+pub wait_answers-requires : goal.wait_answers-requires
+wait_answers-requires c =
+    let w = c.in-SemWait in
+    let accepted = rw w.is at c.requires in
+    free_held _ _ c.args.sid.0 w.desc.0 (call_free _ _ c.args.sid (SemWait w.desc) Sem w.desc refl refl accepted).held
+
+pub value_told-requires : goal.value_told-requires
+value_told-requires c =
+    let w = c.in-SemGetvalue in
+    let accepted = rw w.is at c.requires in
+    free_semaphore _ _ c.args.sid.0 w.desc.0 (call_free _ _ c.args.sid (SemGetvalue w.desc) Sem w.desc refl refl accepted).held

@@ -1,7 +1,7 @@
 use Rattle.std.proofs.Common.{sym, ap, ◌∙◌}
 use Rattle.std.specs.List.{position}
 use Rattle.ipc_queue.specs.Tickets.{is_ticket}
-use Rattle.ipc_queue.proofs.Removing.{none_passes, one_leaves}
+use Rattle.ipc_terms.proofs.Removing.{none_passes, one_leaves}
 use Rattle.ipc_queue.proofs.queue.remove_ticket.Goals as goal
 
 pub unreachable-requires : goal.unreachable-requires

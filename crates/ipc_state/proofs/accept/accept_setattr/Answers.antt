@@ -1,6 +1,7 @@
-use Rattle.std.proofs.Common.{◌≡◌, Bool, true, ◌∷◌, Option, Some, None, is_some, refl}
+use Rattle.std.proofs.Common.{◌≡◌, Bool, true, Option, Some, None, is_some, refl}
 use Rattle.ipc_terms.specs.declared.ids.Sid.{Sid}
 use Rattle.ipc_terms.specs.declared.ids.Desc.{Desc}
+use Rattle.ipc_terms.specs.declared.ids.Family.TheVariants.{Mq}
 use Rattle.ipc_terms.specs.declared.call.Call.TheVariants.{MqSetattr}
 use Rattle.ipc_terms.specs.declared.record.Event.TheVariants.{Do}
 use Rattle.ipc_policy.specs.declared.config.Config.{Config}
@@ -24,7 +25,7 @@ set_held c h t sid desc nonblock a there = at (holds h sid.0 desc.0) refl there 
   at (Some x) e k = agrees_set c h t sid desc nonblock x a e
 
 pub returns : goal.returns
-returns c = rw c.set_nonblock.ensures (set_held c.args.config.now c.args.past.now.history c.args.tables.now c.args.sid c.args.desc c.args.nonblock c.requires.core.agrees (not_bad_held c.args.config.now c.args.past.now.history c.args.sid.0 c.args.desc.0 (call_free _ _ c.args.sid (MqSetattr c.args.desc c.args.nonblock) c.args.desc refl refl c.requires.accepted).held))
+returns c = rw c.set_nonblock.ensures (set_held c.args.config.now c.args.past.now.history c.args.tables.now c.args.sid c.args.desc c.args.nonblock c.requires.core.agrees (not_bad_held c.args.config.now c.args.past.now.history c.args.sid.0 Mq c.args.desc.0 (call_free _ _ c.args.sid (MqSetattr c.args.desc c.args.nonblock) Mq c.args.desc refl refl c.requires.accepted).held))
 
 pub set_nonblock-requires : goal.set_nonblock-requires
-set_nonblock-requires c = held_row c.args.config.now c.args.past.now.history c.args.tables.now c.args.sid.0 c.args.desc.0 c.requires.core.agrees (not_bad_held c.args.config.now c.args.past.now.history c.args.sid.0 c.args.desc.0 (call_free _ _ c.args.sid (MqSetattr c.args.desc c.args.nonblock) c.args.desc refl refl c.requires.accepted).held)
+set_nonblock-requires c = held_row c.args.config.now c.args.past.now.history c.args.tables.now c.args.sid.0 c.args.desc.0 c.requires.core.agrees (not_bad_held c.args.config.now c.args.past.now.history c.args.sid.0 Mq c.args.desc.0 (call_free _ _ c.args.sid (MqSetattr c.args.desc c.args.nonblock) Mq c.args.desc refl refl c.requires.accepted).held)

@@ -5,4 +5,4 @@ use Rattle.ipc_state.proofs.QueueLookups.{held_empty_is}
 use Rattle.ipc_state.proofs.states.State.is_empty.Goals as goal
 
 pub returns : goal.returns
-returns c = c.is_empty.ensures ∙ ap (there_is (λ (q : Tickets). eqb (length q.tickets) 0)) c.queue_held.ensures.found ∙ held_empty_is _ _ c.args.sid.0 c.args.desc.0
+returns c = c.is_empty.ensures ∙ ap (there_is (λ (q : Tickets). eqb (length q.tickets) 0)) c.queue_held.ensures ∙ held_empty_is _ _ c.args.sid.0 c.args.desc.0

@@ -6,10 +6,10 @@ use Rattle.ipc_state.proofs.states.State.messages_held.Goals as goal
 
 pub returns-in_err-queue : goal.returns-in_err-queue
 returns-in_err-queue c =
-    let queue = sym (ap option_copied c.in_err-queue.was) ∙ c.queue_held.ensures.found in
-    c.from_residual.ensures ∙ ap (option_map (λ (q : Tickets). length q.tickets)) queue ∙ held_length _ _ c.args.sid.0 c.args.desc.0 c.queue_held.ensures.legal
+    let queue = sym (ap option_copied c.in_err-queue.was) ∙ c.queue_held.ensures in
+    c.from_residual.ensures ∙ ap (option_map (λ (q : Tickets). length q.tickets)) queue ∙ held_length _ _ c.args.sid.0 c.args.desc.0
 
 pub returns : goal.returns
 returns c =
-    let queue = sym (ap option_copied c.in_ok-queue.was) ∙ c.queue_held.ensures.found in
-    ap Some c.len.ensures.count ∙ ap (option_map (λ (q : Tickets). length q.tickets)) queue ∙ held_length _ _ c.args.sid.0 c.args.desc.0 c.queue_held.ensures.legal
+    let queue = sym (ap option_copied c.in_ok-queue.was) ∙ c.queue_held.ensures in
+    ap Some c.len.ensures.count ∙ ap (option_map (λ (q : Tickets). length q.tickets)) queue ∙ held_length _ _ c.args.sid.0 c.args.desc.0

@@ -9,10 +9,10 @@ use Rattle.ipc_state.proofs.states.State.sender_held.Goals as goal
 
 pub returns-in_err-queue : goal.returns-in_err-queue
 returns-in_err-queue c =
-    let queue = sym (ap option_copied c.in_err-queue.was) ∙ c.queue_held.ensures.found in
-    c.from_residual.ensures ∙ ap (option_and_then (λ (q : Tickets). option_map (λ (m : ParkedSend). m.session) (first q.senders))) queue ∙ held_sender _ _ c.args.sid.0 c.args.desc.0 c.queue_held.ensures.legal
+    let queue = sym (ap option_copied c.in_err-queue.was) ∙ c.queue_held.ensures in
+    c.from_residual.ensures ∙ ap (option_and_then (λ (q : Tickets). option_map (λ (m : ParkedSend). m.session) (first q.senders))) queue ∙ held_sender _ _ c.args.sid.0 c.args.desc.0
 
 pub returns : goal.returns
 returns c =
-    let queue = sym (ap option_copied c.in_ok-queue.was) ∙ c.queue_held.ensures.found in
-    c.sender.ensures ∙ ap (option_and_then (λ (q : Tickets). option_map (λ (m : ParkedSend). m.session) (first q.senders))) queue ∙ held_sender _ _ c.args.sid.0 c.args.desc.0 c.queue_held.ensures.legal
+    let queue = sym (ap option_copied c.in_ok-queue.was) ∙ c.queue_held.ensures in
+    c.sender.ensures ∙ ap (option_and_then (λ (q : Tickets). option_map (λ (m : ParkedSend). m.session) (first q.senders))) queue ∙ held_sender _ _ c.args.sid.0 c.args.desc.0

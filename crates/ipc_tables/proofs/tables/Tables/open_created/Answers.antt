@@ -3,8 +3,11 @@ use Rattle.std.specs.Option.{option_map}
 use Rattle.std.proofs.lemmas.Slice.Eq.{bytes_eq-Decides}
 use Rattle.ipc_terms.specs.Names.{same_name}
 use Rattle.ipc_terms.specs.declared.binding.Binding.{Binding}
-use Rattle.ipc_names.specs.Directory.{Directory, object_named, without_name}
-use Rattle.ipc_tables.specs.Kept.{Kept}
+use Rattle.ipc_terms.specs.declared.ids.Family.{Family}
+use Rattle.ipc_terms.specs.declared.ids.Family.TheVariants.{Mq, Sem}
+use Rattle.ipc_names.specs.Directory.{object_named, without_name}
+use Rattle.ipc_tables.specs.Kept.{Kept, directory_kept}
+use Rattle.ipc_tables.specs.Steps.{with_binding, without_binding}
 use Rattle.ipc_tables.proofs.tables.Tables.open_created.Goals as goal
 
 -- a name that was bound last, and is unbound again
@@ -21,14 +24,16 @@ again name o (x ∷ xs) e =
     let other = unbound_at name x xs (same_name x.name name) e in
     rw other (ap (λ l. x ∷ l) (again name o xs (later_at name x xs (same_name x.name name) other e)))
 
+-- so the tables are as they were
+undone : (f : Family) (name : List ℕ) (o : ℕ) (t : Kept) → object_named (directory_kept f t).bindings name ≡ None → without_binding f name (with_binding f name o t) ≡ t
+undone Mq name o t e = ap (λ (l : List Binding). record t { queues = record t.queues { bindings = l } }) (again name o t.queues.bindings e)
+undone Sem name o t e = ap (λ (l : List Binding). record t { semaphores = record t.semaphores { bindings = l } }) (again name o t.semaphores.bindings e)
+
 pub returns-then-is_err-clause-err : goal.returns-then-is_err-clause-err
 returns-then-is_err-clause-err c =
-    let inside = c.self.inside in
-    let name = c.args.name.now in
-    let unopened : c.open.new.self ≡ c.self.inside.descriptions = search rules in
-    let unbound : object_named c.self.inside.queues.bindings c.args.name.now ≡ None = ap (λ (t : Kept). object_named t.queues.bindings c.args.name.now) c.self.view_is ∙ c.requires.unbound in
-    let names : c.unbind.new.self ≡ c.self.inside.queues =
-    c.unbind.ensures.rest
-    ∙ ap (λ (d : Directory). record d { bindings = without_name d.bindings c.args.name.now }) (c.in_ok-bind.ensures.ok ∙ ap (λ n. record c.self.inside.queues { bindings = c.self.inside.queues.bindings ++ record { name = n; object = c.self.inside.created } ∷ [] }) c.in_ok-try_clone.ensures)
-    ∙ ap (λ l. record c.self.inside.queues { bindings = l }) (again c.args.name.now c.self.inside.created c.self.inside.queues.bindings unbound) in
-    rw (names, c.reserve.ensures.items, unopened) c.self.view_is
+    let t = c.args.self.now in
+    let family = c.family-family.result in
+    let unopened : c.add.new.self ≡ c.bind.new.self = search rules in
+    let unbound : object_named (directory_kept family t).bindings c.args.name.now ≡ None = ap (λ f. object_named (directory_kept f t).bindings c.args.name.now) c.family-family.ensures ∙ c.requires.unbound in
+    let bound = c.in_ok-bind.ensures.ok ∙ ap (λ n. with_binding family n c.self.inside.created t) c.in_ok-try_clone.ensures in
+    c.unbind.ensures ∙ ap (without_binding family c.args.name.now) (unopened ∙ bound) ∙ undone family c.args.name.now c.self.inside.created t unbound

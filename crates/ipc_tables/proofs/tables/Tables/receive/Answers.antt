@@ -14,6 +14,12 @@ unreachable-requires c =
     let place = ap (position (is_number c.args.object)) (sym c.deref.ensures.value) ∙ sym c.find_index.ensures ∙ c.in_default.is in
     no_place c.self.inside.objects.items c.args.object place (ap (λ (t : Kept). is_some (queue_at t.objects c.args.object)) c.self.view_is ∙ c.requires.queue)
 
+pub receive-requires : goal.receive-requires
+receive-requires c =
+    let place = ap (position (is_number c.args.object)) (sym c.deref.ensures.value) ∙ sym c.find_index.ensures ∙ c.in-Some.is in
+    let there = at_place c.self.inside.objects.items c.args.object c.in-Some.index c.index_mut.result.now place c.index_mut.ensures.value in
+    ap is_some (sym there) ∙ ap (λ (t : Kept). is_some (queue_at t.objects c.args.object)) c.self.view_is ∙ c.requires.queue
+
 pub set_parked-requires : goal.set_parked-requires
 set_parked-requires c =
     let place = ap (position (is_number c.args.object)) (sym c.deref.ensures.value) ∙ sym c.find_index.ensures ∙ c.in-Some.is in

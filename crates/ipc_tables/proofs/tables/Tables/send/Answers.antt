@@ -1,7 +1,6 @@
-use Rattle.std.proofs.Common.{◌∙◌, sym, ap, subst, refl, Some, ◌<◌, length, is_some}
+use Rattle.std.proofs.Common.{◌∙◌, sym, ap, refl, Some, length, is_some}
 use Rattle.std.specs.Prelude.{position}
 use Rattle.std.specs.Option.{option_map}
-use Rattle.ipc_terms.specs.declared.ids.Sid.{Sid}
 use Rattle.ipc_queue.specs.Tickets.{send_outcome, sent}
 use Rattle.ipc_tables.specs.Objects.{is_number, queue_at, with_queue}
 use Rattle.ipc_tables.specs.Kept.{Kept}
@@ -13,6 +12,12 @@ pub unreachable-requires : goal.unreachable-requires
 unreachable-requires c =
     let place = ap (position (is_number c.args.object)) (sym c.deref.ensures.value) ∙ sym c.find_index.ensures ∙ c.in_default.is in
     no_place c.self.inside.objects.items c.args.object place (ap (λ (t : Kept). is_some (queue_at t.objects c.args.object)) c.self.view_is ∙ c.requires.queue)
+
+pub send-requires : goal.send-requires
+send-requires c =
+    let place = ap (position (is_number c.args.object)) (sym c.deref.ensures.value) ∙ sym c.find_index.ensures ∙ c.in-Some.is in
+    let there = at_place c.self.inside.objects.items c.args.object c.in-Some.index c.index_mut.result.now place c.index_mut.ensures.value in
+    ap is_some (sym there) ∙ ap (λ (t : Kept). is_some (queue_at t.objects c.args.object)) c.self.view_is ∙ c.requires.queue
 
 pub set_parked-requires : goal.set_parked-requires
 set_parked-requires c =

@@ -1,0 +1,94 @@
+//! Why a program that runs a script ends.
+
+ghost use Rattle.std.specs.Prelude.{◌≡◌};
+ghost use Rattle.std.specs.IoError.{error_kind};
+ghost use Rattle.clap.specs.Words.{kind_of};
+ghost use Rattle.ipc_script.specs.declared.fault.ScriptFault.TheVariants.{Memory};
+ghost use Rattle.ipc_script.specs.declared.program.ProgramFault.TheVariants.{Script};
+ghost use Rattle.ipc_script.specs.Arguments.{of_arguments, of_reading};
+ghost use Rattle.ipc_script.specs.Statuses.{status_of_fault, status_of_arguments};
+
+use crate::fault::ScriptFault;
+use clap::error::ErrorKind;
+use std::alloc::AllocError;
+use std::io;
+
+/// Why a program ends before the end of its script, or without one.
+#[derive(Debug, Drop)]
+pub enum ProgramFault {
+    /// The arguments ask for nothing that there is, or for help.
+    Arguments(clap::Error),
+    /// An argument isn't UTF-8.
+    NotUtf8,
+    Script(ScriptFault),
+}
+
+impl ProgramFault {
+    /// The status to exit with.
+    pub fn status(&self) -> u8
+        ensures { result ≡ status_of_fault self.now }
+    {
+        match self {
+            ProgramFault::Arguments(error) => status_of_arguments(error.kind()),
+            ProgramFault::NotUtf8 => 2,
+            ProgramFault::Script(fault) => fault.status(),
+        }
+    }
+
+    /// Says why. A standard error that can't be written to is passed over.
+    pub fn print(&self, rt: &(impl Print + Eprint)) {
+        let _ = match self {
+            ProgramFault::Arguments(error) => error.print(rt),
+            ProgramFault::NotUtf8 => eprintln!(rt; "error: an argument is not UTF-8"),
+            ProgramFault::Script(fault) => eprintln!(rt; "mqserve: {fault}"),
+        };
+    }
+}
+
+fn status_of_arguments(kind: ErrorKind) -> u8
+    ensures { result ≡ status_of_arguments kind }
+{
+    match kind {
+        ErrorKind::DisplayHelp | ErrorKind::DisplayVersion => 0,
+        _ => 2,
+    }
+}
+
+impl From<AllocError> for ProgramFault {
+    ghost from_gives = { λ _ made. made ≡ Script Memory };
+
+    fn from(_error: AllocError) -> Self {
+        ProgramFault::Script(ScriptFault::Memory)
+    }
+}
+
+impl From<clap::Error> for ProgramFault {
+    ghost from_gives = { λ error made. made ≡ of_arguments error (kind_of error) };
+
+    fn from(error: clap::Error) -> Self {
+        match error.kind() {
+            ErrorKind::OutOfMemory => ProgramFault::Script(ScriptFault::Memory),
+            _ => ProgramFault::Arguments(error),
+        }
+    }
+}
+
+/// Of reading the arguments.
+impl From<io::Error> for ProgramFault {
+    ghost from_gives = { λ error made. made ≡ of_reading (error_kind error) };
+
+    fn from(error: io::Error) -> Self {
+        match error.kind() {
+            io::ErrorKind::OutOfMemory => ProgramFault::Script(ScriptFault::Memory),
+            _ => ProgramFault::NotUtf8,
+        }
+    }
+}
+
+impl From<ScriptFault> for ProgramFault {
+    ghost from_gives = { λ fault made. made ≡ Script fault };
+
+    fn from(fault: ScriptFault) -> Self {
+        ProgramFault::Script(fault)
+    }
+}
