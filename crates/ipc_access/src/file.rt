@@ -1,8 +1,8 @@
 //! The user file.
 
-ghost use Rattle.std.specs.Prelude.{◌≡◌, ◌+◌, ◌≢◌, IfOk, IfErr, Some, None, length, map};
+ghost use Rattle.std.specs.Prelude.{◌≡◌, ◌+◌, ◌≢◌, IfOk, IfErr, Some, None, length, map, nat_lt};
 ghost use Rattle.ipc_access.specs.UserLine.{user_of};
-ghost use Rattle.ipc_access.specs.UserFile.{ends_empty, lines_of, users_of, has_name, has_key, has_uid, fault_after, user_fault};
+ghost use Rattle.ipc_access.specs.UserFile.{ends_empty, lines_of, users_of, has_name, has_key, has_uid, fault_after, fault_of_user, user_fault};
 
 use crate::fault::UserFault;
 use crate::line::{parts_of, user_of};
@@ -62,21 +62,38 @@ fn next_user(alloc: Global, earlier: &[User], line: &[u8]) -> Result<User, UserF
     ensures faultless { IfOk result (λ _. fault_after earlier.now (length earlier.now + 1) line.now ≡ None) }
     ensures fault { IfErr result (λ fault. fault ≢ UserFault.NoMemory → fault_after earlier.now (length earlier.now + 1) line.now ≡ Some fault) }
 {
-    let number = earlier.len() as u64 + 1;
-    if earlier.len() >= MOST_USERS {
+    if is_full(earlier) {
         return Err(UserFault::TooMany);
     }
+    let number = earlier.len() as u64 + 1;
     let Some(user) = user_of(alloc, line)? else {
         return Err(UserFault::BadLine(number));
     };
+    match fault_of(earlier, number, &user) {
+        Some(fault) => Err(fault),
+        None => Ok(user),
+    }
+}
+
+/// Whether there are as many users as a file may have.
+fn is_full(users: &[User]) -> bool
+    ensures { result ≡ nat_lt 4096 (length users.now + 1) }
+{
+    users.len() >= MOST_USERS
+}
+
+/// What is wrong with the user of the line of this number, behind these.
+fn fault_of(earlier: &[User], number: u64, user: &User) -> Option<UserFault>
+    ensures { result ≡ fault_of_user earlier.now number (Some user.now) }
+{
     if has_name(earlier, user.name.as_slice()) {
-        Err(UserFault::DuplicateName(number))
+        Some(UserFault::DuplicateName(number))
     } else if has_key(earlier, user.key.as_slice()) {
-        Err(UserFault::DuplicateKey(number))
+        Some(UserFault::DuplicateKey(number))
     } else if has_uid(earlier, user.cred.uid) {
-        Err(UserFault::DuplicateUid(number))
+        Some(UserFault::DuplicateUid(number))
     } else {
-        Ok(user)
+        None
     }
 }
 

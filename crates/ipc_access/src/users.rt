@@ -2,6 +2,7 @@
 
 ghost use Rattle.std.specs.Prelude.{◌≡◌};
 ghost use Rattle.std.specs.Option.{option_copied};
+ghost use Rattle.ipc_terms.specs.Names.{same_name};
 ghost use Rattle.ipc_access.specs.Users.{user_of_key, cred_of};
 
 use crate::class::Cred;
@@ -64,8 +65,14 @@ fn find_key(rows: &[User], key: &[u8]) -> Option<Uid>
     ensures { result ≡ user_of_key rows.now key.now }
 {
     rows.iter()
-        .find(|user| user.key.as_slice() == key)
+        .find(|user| is_key(user, key))
         .map(|user| user.cred.uid)
+}
+
+fn is_key(user: &User, key: &[u8]) -> bool
+    ensures { result ≡ same_name user.now.key key.now }
+{
+    user.key.as_slice() == key
 }
 
 fn find_cred(rows: &[User], uid: Uid) -> Option<&Cred>

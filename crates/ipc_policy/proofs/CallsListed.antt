@@ -27,7 +27,8 @@ use Rattle.ipc_policy.specs.Laws.{IsListed, ParkedIsListed, place_listed}
 use Rattle.ipc_policy.proofs.EachItem.{each_map, each_parked_sender, each_parked_receiver, each_parked_waiter}
 use Rattle.ipc_policy.proofs.Gathering.{find_kept}
 use Rattle.ipc_policy.proofs.Queueing.{refused_parked}
-use Rattle.ipc_policy.proofs.Waits.{or_right, or_left, or_neither, act_waits, cancels, withdraws_alike, posts_no_send, posts_no_receive, not_ended_wait, is_zero-at}
+use Rattle.ipc_policy.proofs.Waits.{or_right, or_left, or_neither, act_waits, cancels, withdraws_alike, posts_no_send, posts_no_receive, not_ended_wait}
+use Rattle.ipc_policy.proofs.ValueCounts.{value_counted, zero_at}
 use Rattle.ipc_policy.proofs.Unforbidden.{unforbidden}
 use Rattle.ipc_policy.proofs.ActsOf.{act_sends, act_receives, held_queue, held_semaphore}
 use Rattle.ipc_policy.proofs.ParkedPlaces.{parked_by_place, first_keeps}
@@ -115,12 +116,12 @@ receive_parks c h o e legal w k f =
     let now = gets_parked c h e a.sid.0 (record { object = o; place = length h; kind = Receiving }) parks_now in
     subst (λ (v : Wait). parked c (record { event = e; rule = None } ∷ h) v.session ≡ Some (record { object = o; place = v.place; kind = Receiving })) (sym a.wait) now
 
-wait_parks : (c : Config) (h : History) (o : ℕ) (e : Event) → None ≡ verdict c h e → (w : Wait) → semaphore_act o e h ≡ Waits w → eqb (value h o) 0 ≡ true → parked c (record { event = e; rule = None } ∷ h) w.session ≡ Some (record { object = o; place = w.place; kind = Waiting })
-wait_parks c h o e legal w k f =
+wait_parks : (c : Config) (h : History) (o : ℕ) (e : Event) → ((i : ℕ) → value h i ≡ (semaphore h i).value) → None ≡ verdict c h e → (w : Wait) → semaphore_act o e h ≡ Waits w → eqb (semaphore h o).value 0 ≡ true → parked c (record { event = e; rule = None } ∷ h) w.session ≡ Some (record { object = o; place = w.place; kind = Waiting })
+wait_parks c h o e counted legal w k f =
     let a = act_waits o e h w k in
     let legal' : None ≡ verdict c h (Do a.sid (SemWait a.desc)) = rw a.event at legal in
     let there = held_semaphore c h a.sid (SemWait a.desc) a.desc a.x legal' refl a.held in
-    let zero' : is_zero c h a.x.object ≡ true = is_zero-at c h a.x.object there ∙ subst (λ (n : ℕ). eqb (value h n) 0 ≡ true) (sym a.object) f in
+    let zero' : is_zero c h a.x.object ≡ true = zero_at c h a.x.object (counted a.x.object) there ∙ subst (λ (n : ℕ). eqb (semaphore h n).value 0 ≡ true) (sym a.object) f in
     let parks_now : parks c a.sid.0 e h ≡ Some (record { object = o; place = length h; kind = Waiting }) =
     ap (λ (d : Event). parks c a.sid.0 d h) a.event
     ∙ parks_wait_of c h a.sid a.desc a.x a.held zero'
@@ -222,22 +223,22 @@ new_receive c h sid desc length' s x known legal none same held empty =
     ∙ ap (λ b. place_of_session (λ (y : Wait). y.place) (λ y. y.session) s (cond b (q.receivers ++ w ∷ []) q.receivers)) nothing
     ∙ place_new (λ (y : Wait). y.place) (λ y. y.session) (parked c h) (λ y. record { object = x.object; place = y.place; kind = Receiving }) s q.receivers w (known.each_receive x.object) none same
 
-new_wait : (c : Config) (h : History) (sid : Sid) (desc : Desc) (s : ℕ) (x : Held) → IsListed c h → None ≡ verdict c h (Do sid (SemWait desc)) → parked c h s ≡ None → sid.0 ≡ s → holds h sid.0 desc.0 ≡ Some x → is_zero c h x.object ≡ true → place_listed Waiting s (queue c (record { event = Do sid (SemWait desc); rule = None } ∷ h) x.object) (semaphore (record { event = Do sid (SemWait desc); rule = None } ∷ h) x.object) ≡ Some (length h)
+new_wait : (c : Config) (h : History) (sid : Sid) (desc : Desc) (s : ℕ) (x : Held) → IsListed c h → ((i : ℕ) → value h i ≡ (semaphore h i).value) → None ≡ verdict c h (Do sid (SemWait desc)) → parked c h s ≡ None → sid.0 ≡ s → holds h sid.0 desc.0 ≡ Some x → is_zero c h x.object ≡ true → place_listed Waiting s (queue c (record { event = Do sid (SemWait desc); rule = None } ∷ h) x.object) (semaphore (record { event = Do sid (SemWait desc); rule = None } ∷ h) x.object) ≡ Some (length h)
 unfolding semaphore
-new_wait c h sid desc s x known legal none same held at_zero =
+new_wait c h sid desc s x known counted legal none same held at_zero =
     let w : Wait = record { place = length h; session = sid.0; desc = desc.0 } in
     let u : Semaphore = semaphore h x.object in
     let acts : semaphore_act x.object (Do sid (SemWait desc)) h ≡ Waits (record { place = length h; session = sid.0; desc = desc.0 }) = (let self : eqb x.object x.object ≡ true = eq-eqb _ _ refl in rw (held, self) refl) in
     let there = held_semaphore c h sid (SemWait desc) desc x legal refl held in
-    let nothing : eqb (value h x.object) 0 ≡ true = sym (is_zero-at c h x.object there) ∙ at_zero in
+    let nothing : eqb (semaphore h x.object).value 0 ≡ true = sym (zero_at c h x.object (counted x.object) there) ∙ at_zero in
     ap (place_of_session (λ (y : Wait). y.place) (λ y. y.session) s) (first_keeps (gives_value x.object (Do sid (SemWait desc)) h) (semaphore_after (semaphore_act x.object (Do sid (SemWait desc)) h) u))
     ∙ ap (λ a. place_of_session (λ (y : Wait). y.place) (λ y. y.session) s (waiters_after a u)) acts
     ∙ ap (λ b. place_of_session (λ (y : Wait). y.place) (λ y. y.session) s (cond b (u.waiters ++ w ∷ []) u.waiters)) nothing
     ∙ place_new (λ (y : Wait). y.place) (λ y. y.session) (parked c h) (λ y. record { object = x.object; place = y.place; kind = Waiting }) s u.waiters w (known.each_wait x.object) none same
 
 -- the call that parks is listed
-listed_new : (c : Config) (h : History) (e : Event) (s : ℕ) (p : Parked) → IsListed c h → None ≡ verdict c h e → parked c h s ≡ None → parks c s e h ≡ Some p → place_listed p.kind s (queue c (record { event = e; rule = None } ∷ h) p.object) (semaphore (record { event = e; rule = None } ∷ h) p.object) ≡ Some p.place
-listed_new c h (Do sid (MqSend desc priority bytes)) s p known legal none k = mine (eqb sid.0 s) refl k where
+listed_new : (c : Config) (h : History) (e : Event) (s : ℕ) (p : Parked) → IsListed c h → ((i : ℕ) → value h i ≡ (semaphore h i).value) → None ≡ verdict c h e → parked c h s ≡ None → parks c s e h ≡ Some p → place_listed p.kind s (queue c (record { event = e; rule = None } ∷ h) p.object) (semaphore (record { event = e; rule = None } ∷ h) p.object) ≡ Some p.place
+listed_new c h (Do sid (MqSend desc priority bytes)) s p known counted legal none k = mine (eqb sid.0 s) refl k where
   given : sid.0 ≡ s → (y : Option Held) → holds h sid.0 desc.0 ≡ y → option_and_then (parked_on (is_full c h) Sending (length h)) y ≡ Some p → place_listed p.kind s (queue c (record { event = Do sid (MqSend desc priority bytes); rule = None } ∷ h) p.object) (semaphore (record { event = Do sid (MqSend desc priority bytes); rule = None } ∷ h) p.object) ≡ Some p.place
   given same None q j = absurd cc
   given same (Some x) q j = full (is_full c h x.object) refl j where
@@ -248,7 +249,7 @@ listed_new c h (Do sid (MqSend desc priority bytes)) s p known legal none k = mi
   mine : (b : Bool) → eqb sid.0 s ≡ b → cond b (option_and_then (parked_on (is_full c h) Sending (length h)) (holds h sid.0 desc.0)) None ≡ Some p → place_listed p.kind s (queue c (record { event = Do sid (MqSend desc priority bytes); rule = None } ∷ h) p.object) (semaphore (record { event = Do sid (MqSend desc priority bytes); rule = None } ∷ h) p.object) ≡ Some p.place
   mine true q j = given (eqb-true _ _ q) (holds h sid.0 desc.0) refl j
   mine false q j = absurd cc
-listed_new c h (Do sid (MqReceive desc length')) s p known legal none k = mine (eqb sid.0 s) refl k where
+listed_new c h (Do sid (MqReceive desc length')) s p known counted legal none k = mine (eqb sid.0 s) refl k where
   given : sid.0 ≡ s → (y : Option Held) → holds h sid.0 desc.0 ≡ y → option_and_then (parked_on (is_empty c h) Receiving (length h)) y ≡ Some p → place_listed p.kind s (queue c (record { event = Do sid (MqReceive desc length'); rule = None } ∷ h) p.object) (semaphore (record { event = Do sid (MqReceive desc length'); rule = None } ∷ h) p.object) ≡ Some p.place
   given same None q j = absurd cc
   given same (Some x) q j = empty (is_empty c h x.object) refl j where
@@ -259,20 +260,20 @@ listed_new c h (Do sid (MqReceive desc length')) s p known legal none k = mine (
   mine : (b : Bool) → eqb sid.0 s ≡ b → cond b (option_and_then (parked_on (is_empty c h) Receiving (length h)) (holds h sid.0 desc.0)) None ≡ Some p → place_listed p.kind s (queue c (record { event = Do sid (MqReceive desc length'); rule = None } ∷ h) p.object) (semaphore (record { event = Do sid (MqReceive desc length'); rule = None } ∷ h) p.object) ≡ Some p.place
   mine true q j = given (eqb-true _ _ q) (holds h sid.0 desc.0) refl j
   mine false q j = absurd cc
-listed_new c h (Do sid (SemWait desc)) s p known legal none k = mine (eqb sid.0 s) refl k where
+listed_new c h (Do sid (SemWait desc)) s p known counted legal none k = mine (eqb sid.0 s) refl k where
   given : sid.0 ≡ s → (y : Option Held) → holds h sid.0 desc.0 ≡ y → option_and_then (parked_on (is_zero c h) Waiting (length h)) y ≡ Some p → place_listed p.kind s (queue c (record { event = Do sid (SemWait desc); rule = None } ∷ h) p.object) (semaphore (record { event = Do sid (SemWait desc); rule = None } ∷ h) p.object) ≡ Some p.place
   given same None q j = absurd cc
   given same (Some x) q j = at_zero (is_zero c h x.object) refl j where
     at_zero : (b : Bool) → is_zero c h x.object ≡ b → cond b (Some (record { object = x.object; place = length h; kind = Waiting })) None ≡ Some p → place_listed p.kind s (queue c (record { event = Do sid (SemWait desc); rule = None } ∷ h) p.object) (semaphore (record { event = Do sid (SemWait desc); rule = None } ∷ h) p.object) ≡ Some p.place
-    at_zero true f i = let is : record { object = x.object; place = length h; kind = Waiting } ≡ p = cc in subst (λ (z : Parked). place_listed z.kind s (queue c (record { event = Do sid (SemWait desc); rule = None } ∷ h) z.object) (semaphore (record { event = Do sid (SemWait desc); rule = None } ∷ h) z.object) ≡ Some z.place) is (new_wait c h sid desc s x known legal none same q f)
+    at_zero true f i = let is : record { object = x.object; place = length h; kind = Waiting } ≡ p = cc in subst (λ (z : Parked). place_listed z.kind s (queue c (record { event = Do sid (SemWait desc); rule = None } ∷ h) z.object) (semaphore (record { event = Do sid (SemWait desc); rule = None } ∷ h) z.object) ≡ Some z.place) is (new_wait c h sid desc s x known counted legal none same q f)
     at_zero false f i = absurd cc
 
   mine : (b : Bool) → eqb sid.0 s ≡ b → cond b (option_and_then (parked_on (is_zero c h) Waiting (length h)) (holds h sid.0 desc.0)) None ≡ Some p → place_listed p.kind s (queue c (record { event = Do sid (SemWait desc); rule = None } ∷ h) p.object) (semaphore (record { event = Do sid (SemWait desc); rule = None } ∷ h) p.object) ≡ Some p.place
   mine true q j = given (eqb-true _ _ q) (holds h sid.0 desc.0) refl j
   mine false q j = absurd cc
-listed_new c h (Do sid call) s p known legal none k = absurd cc
-listed_new c h (Hello found) s p known legal none k = absurd cc
-listed_new c h (Hangup sid) s p known legal none k = absurd cc
+listed_new c h (Do sid call) s p known counted legal none k = absurd cc
+listed_new c h (Hello found) s p known counted legal none k = absurd cc
+listed_new c h (Hangup sid) s p known counted legal none k = absurd cc
 
 -- a session that is parked after an event parks by it, or was parked and is not ended
 kept_parts : (f : Parked → Bool) (o : Option Parked) (p : Parked) → kept f o ≡ Some p → (o ≡ Some p) × (f p ≡ false)
@@ -289,20 +290,20 @@ parked_cases c h e s p k = at (parks c s e h) k where
   at None j = inr (kept_parts (λ x. ends_parked c s x e h) (parked c h s) p j)
   at (Some x) j = inl j
 
-listed_after : (c : Config) (h : History) (e : Event) (s : ℕ) (p : Parked) → IsListed c h → None ≡ verdict c h e → (parks c s e h ≡ Some p) ⊎ ((parked c h s ≡ Some p) × (ends_parked c s p e h ≡ false)) → place_listed p.kind s (queue c (record { event = e; rule = None } ∷ h) p.object) (semaphore (record { event = e; rule = None } ∷ h) p.object) ≡ Some p.place
+listed_after : (c : Config) (h : History) (e : Event) (s : ℕ) (p : Parked) → IsListed c h → ((i : ℕ) → value h i ≡ (semaphore h i).value) → None ≡ verdict c h e → (parks c s e h ≡ Some p) ⊎ ((parked c h s ≡ Some p) × (ends_parked c s p e h ≡ false)) → place_listed p.kind s (queue c (record { event = e; rule = None } ∷ h) p.object) (semaphore (record { event = e; rule = None } ∷ h) p.object) ≡ Some p.place
 unfolding queue semaphore
-listed_after c h e s p known legal (inl k) = listed_new c h e s p known legal (parks_when_free c h e s p legal k) k
-listed_after c h e s p known legal (inr k) = listed_stays (maxmsg c h p.object) (act p.object e h) (queue c h p.object) (semaphore_act p.object e h) (semaphore h p.object) (semaphore (record { event = e; rule = None } ∷ h) p.object) (first_keeps (gives_value p.object e h) (semaphore_after (semaphore_act p.object e h) (semaphore h p.object))) s p.object p.place p.kind (withdraws_alike p.object e h s) (known.each_parked s p k.0) k.1
+listed_after c h e s p known counted legal (inl k) = listed_new c h e s p known counted legal (parks_when_free c h e s p legal k) k
+listed_after c h e s p known counted legal (inr k) = listed_stays (maxmsg c h p.object) (act p.object e h) (queue c h p.object) (semaphore_act p.object e h) (semaphore h p.object) (semaphore (record { event = e; rule = None } ∷ h) p.object) (first_keeps (gives_value p.object e h) (semaphore_after (semaphore_act p.object e h) (semaphore h p.object))) s p.object p.place p.kind (withdraws_alike p.object e h s) (known.each_parked s p k.0) k.1
 
-listed_more : (c : Config) (h : History) → IsListed c h → (e : Event) (r : Option Rule) → r ≡ verdict c h e → IsListed c (record { event = e; rule = r } ∷ h)
+listed_more : (c : Config) (h : History) → IsListed c h → ((i : ℕ) → value h i ≡ (semaphore h i).value) → (e : Event) (r : Option Rule) → r ≡ verdict c h e → IsListed c (record { event = e; rule = r } ∷ h)
 unfolding queue semaphore
-listed_more c h known e (Some rule) legal = record {
+listed_more c h known counted e (Some rule) legal = record {
   each_send = λ o. each_map (λ (m : Send). parked c h m.session ≡ Some (record { object = o; place = m.place; kind = Sending })) (λ m. parked c (record { event = e; rule = Some rule } ∷ h) m.session ≡ Some (record { object = o; place = m.place; kind = Sending })) (senders c h o) (λ m p. refused_parked c h e rule m.session ∙ p) (known.each_send o);
   each_receive = λ o. each_map (λ (w : Wait). parked c h w.session ≡ Some (record { object = o; place = w.place; kind = Receiving })) (λ w. parked c (record { event = e; rule = Some rule } ∷ h) w.session ≡ Some (record { object = o; place = w.place; kind = Receiving })) (receivers c h o) (λ w p. refused_parked c h e rule w.session ∙ p) (known.each_receive o);
   each_wait = λ o. each_map (λ (w : Wait). parked c h w.session ≡ Some (record { object = o; place = w.place; kind = Waiting })) (λ w. parked c (record { event = e; rule = Some rule } ∷ h) w.session ≡ Some (record { object = o; place = w.place; kind = Waiting })) (waiters h o) (λ w p. refused_parked c h e rule w.session ∙ p) (known.each_wait o);
   each_parked = λ s p k. known.each_parked s p (sym (refused_parked c h e rule s) ∙ k);
 }
-listed_more c h known e None legal = record {
+listed_more c h known counted e None legal = record {
   each_send = λ o. each_parked_sender (λ (m : Send). parked c h m.session ≡ Some (record { object = o; place = m.place; kind = Sending })) (λ m. parked c (record { event = e; rule = None } ∷ h) m.session ≡ Some (record { object = o; place = m.place; kind = Sending })) (maxmsg c h o) (act o e h) (queue c h o) (length h) (parked_by_place c h o).sends_rise
       (λ m p keeps. stays_parked c h e m.session (record { object = o; place = m.place; kind = Sending }) p (parks_no_other c h e m.session legal (ap is_some p)) (or_neither _ _ (posts_no_send (semaphore_act o e h) m.place (semaphore h o)) (not_ended_send o m (act o e h) (queue c h o) keeps)))
       (send_parks c h o e legal) (known.each_send o);
@@ -312,11 +313,11 @@ listed_more c h known e None legal = record {
   each_wait = λ o. subst (Each (λ (w : Wait). parked c (record { event = e; rule = None } ∷ h) w.session ≡ Some (record { object = o; place = w.place; kind = Waiting }))) (sym (first_keeps (gives_value o e h) (semaphore_after (semaphore_act o e h) (semaphore h o))))
       (each_parked_waiter (λ (w : Wait). parked c h w.session ≡ Some (record { object = o; place = w.place; kind = Waiting })) (λ w. parked c (record { event = e; rule = None } ∷ h) w.session ≡ Some (record { object = o; place = w.place; kind = Waiting })) (semaphore_act o e h) (semaphore h o) (length h) (parked_by_place c h o).waits_rise
       (λ w p keeps. stays_parked c h e w.session (record { object = o; place = w.place; kind = Waiting }) p (parks_no_other c h e w.session legal (ap is_some p)) (not_ended_wait o w (semaphore_act o e h) (semaphore h o) (act o e h) (queue c h o) (withdraws_alike o e h w.session) keeps))
-      (wait_parks c h o e legal) (known.each_wait o));
-  each_parked = λ s p k. listed_after c h e s p known legal (parked_cases c h e s p k);
+      (wait_parks c h o e counted legal) (known.each_wait o));
+  each_parked = λ s p k. listed_after c h e s p known counted legal (parked_cases c h e s p k);
 }
 
 pub calls_listed : ParkedIsListed
 unfolding queue semaphore parked
 calls_listed c [] legal = record { each_send = λ o. tt; each_receive = λ o. tt; each_wait = λ o. tt; each_parked = λ s p k. absurd cc }
-calls_listed c (r ∷ h) legal = listed_more c h (calls_listed c h legal.1) r.event r.rule legal.0
+calls_listed c (r ∷ h) legal = listed_more c h (calls_listed c h legal.1) (λ i. value_counted c h i legal.1) r.event r.rule legal.0

@@ -13,14 +13,14 @@ use Rattle.ipc_policy.specs.Objects.{object, owner, group, mode, facts, director
 use Rattle.ipc_policy.specs.Descriptions.{opens, held, holds, held_count, is_nonblock}
 use Rattle.ipc_policy.specs.Life.{named, bindings, names, alive}
 use Rattle.ipc_policy.specs.Queues.{queue}
-use Rattle.ipc_policy.specs.Semaphores.{semaphore}
+use Rattle.ipc_policy.specs.Semaphores.{semaphore, value}
 use Rattle.ipc_policy.specs.Parking.{parked}
 use Rattle.ipc_policy.specs.Rules.{forbids, no_session, in_call, not_in_call, name_form, name_long, bad_descr, not_for_write, not_for_read, dir_search, dir_read, absent, present, mode_denied, dir_write, sticky, attr_range, value_range, descr_limit, prio_range, message_long, buffer_short, would_block, overflow, bad_key}
 use Rattle.ipc_policy.specs.Verdict.{verdict}
 use Rattle.ipc_policy.specs.Laws.{SameValues}
 
 same_verdict : (c : Config) (h : History) (e' : Event) (rule : Rule) (e : Event) → verdict c (after_refused h e' rule) e ≡ verdict c h e
-unfolding user live cred is_bound creating creations bound object owner group mode facts directory_owner directory_group directory_mode directory opens held holds held_count is_nonblock queue semaphore parked verdict forbids no_session in_call not_in_call name_form name_long bad_descr not_for_write not_for_read dir_search dir_read absent present mode_denied dir_write sticky attr_range value_range descr_limit prio_range message_long buffer_short would_block overflow bad_key
+unfolding user live cred is_bound creating creations bound object owner group mode facts directory_owner directory_group directory_mode directory opens held holds held_count is_nonblock queue semaphore value parked verdict forbids no_session in_call not_in_call name_form name_long bad_descr not_for_write not_for_read dir_search dir_read absent present mode_denied dir_write sticky attr_range value_range descr_limit prio_range message_long buffer_short would_block overflow bad_key
 same_verdict c h e' rule (Hello found) = refl
 same_verdict c h e' rule (Do sid (Umask mode')) = refl
 same_verdict c h e' rule (Do sid (MqOpen asked)) = refl
@@ -44,7 +44,7 @@ same_verdict c h e' rule (Do sid Interrupt) = refl
 same_verdict c h e' rule (Hangup sid) = refl
 
 pub same_values : (c : Config) (h : History) (e : Event) (rule : Rule) → SameValues c (after_refused h e rule) h
-unfolding hellos user live cred mask is_bound bound creations object owner group mode facts directory_owner directory_group directory_mode directory opens held holds held_count is_nonblock named bindings names alive queue semaphore parked
+unfolding hellos user live cred mask is_bound bound creations object owner group mode facts directory_owner directory_group directory_mode directory opens held holds held_count is_nonblock named bindings names alive queue semaphore value parked
 same_values c h e rule = record {
   hellos = refl;
   user = λ s. refl;
@@ -71,6 +71,7 @@ same_values c h e rule = record {
   alive = λ o. refl;
   queue = λ o. refl;
   semaphore = λ o. refl;
+  value = λ o. refl;
   parked = λ s. refl;
   verdict = same_verdict c h e rule;
 }

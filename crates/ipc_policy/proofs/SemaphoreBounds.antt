@@ -6,7 +6,7 @@ use Rattle.std.proofs.lemmas.Bool.{eqb-true, eqb-false}
 use Rattle.std.proofs.lemmas.Bool.Decides.{nat_tests}
 use Rattle.ipc_terms.specs.declared.object.TheConstants.{SEM_VALUE_MAX}
 use Rattle.ipc_terms.specs.declared.rule.Rule.{Rule}
-use Rattle.ipc_terms.specs.declared.call.Call.TheVariants.{MqOpen, SemOpen, SemPost, SemTryWait}
+use Rattle.ipc_terms.specs.declared.call.Call.TheVariants.{MqOpen, SemOpen, SemPost}
 use Rattle.ipc_terms.specs.declared.record.Event.{Event}
 use Rattle.ipc_terms.specs.declared.record.Event.TheVariants.{Hello, Do, Hangup}
 use Rattle.ipc_policy.specs.declared.config.Config.{Config}
@@ -15,17 +15,18 @@ use Rattle.ipc_policy.specs.History.{History, there_is}
 use Rattle.ipc_policy.specs.Names.{queue_opening, semaphore_opening, is_bound, creations}
 use Rattle.ipc_policy.specs.Descriptions.{holds}
 use Rattle.ipc_policy.specs.Queues.{Wait, has_none, queue}
-use Rattle.ipc_policy.specs.Semaphores.{SemaphoreAct, Posts, Waits, Tries, Cancels, Idles, Semaphore, semaphore_act, semaphore_after, with_first, semaphore, value, is_zero, is_greatest}
+use Rattle.ipc_policy.specs.Semaphores.{SemaphoreAct, Posts, Waits, Tries, Cancels, Idles, Semaphore, semaphore_act, semaphore_after, with_first, semaphore, is_greatest}
 use Rattle.ipc_policy.specs.Parking.{ParkedKind}
 use Rattle.ipc_policy.specs.Grow.{first_value, is_new}
-use Rattle.ipc_policy.specs.Verdict.{verdict}
+use Rattle.ipc_policy.specs.Verdict.{verdict, Legal}
 use Rattle.ipc_policy.specs.Laws.{IsInRange, EachIsInRange, WaitsAtZero, place_listed}
 use Rattle.ipc_policy.proofs.Lengths.{behind_some, filter_some}
 use Rattle.ipc_policy.proofs.Queueing.{semaphore_grows}
 use Rattle.ipc_policy.proofs.Creating.{not_created_still, still_after}
-use Rattle.ipc_policy.proofs.Unforbidden.{semaphore_open_in_range, try_above_zero, post_below_greatest}
+use Rattle.ipc_policy.proofs.Unforbidden.{semaphore_open_in_range, post_below_greatest}
 use Rattle.ipc_policy.proofs.ActsOf.{held_semaphore}
-use Rattle.ipc_policy.proofs.Waits.{act_posts, act_tries, is_zero-at, is_greatest-at}
+use Rattle.ipc_policy.proofs.Waits.{act_posts}
+use Rattle.ipc_policy.proofs.ValueCounts.{value_counted, is_greatest-at}
 use Rattle.ipc_policy.proofs.CallsListed.{calls_listed}
 
 -- an act that raises no greatest value
@@ -83,44 +84,35 @@ first_in_range c h o (Do sid call) legal n k = absurd cc
 first_in_range c h o (Hello found) legal n k = absurd cc
 first_in_range c h o (Hangup sid) legal n k = absurd cc
 
--- a post at the greatest value is refused, and a trywait at 0
-pub post_has_room : (c : Config) (h : History) (o : ℕ) (e : Event) → None ≡ verdict c h e → semaphore_act o e h ≡ Posts → eqb (value h o) SEM_VALUE_MAX ≡ false
-post_has_room c h o e legal k =
+-- a post at the greatest value is refused
+pub post_has_room : (c : Config) (h : History) (o : ℕ) (e : Event) → Legal c h → None ≡ verdict c h e → semaphore_act o e h ≡ Posts → eqb (semaphore h o).value SEM_VALUE_MAX ≡ false
+post_has_room c h o e before legal k =
     let a = act_posts o e h k in
     let legal' : None ≡ verdict c h (Do a.sid (SemPost a.desc)) = rw a.event at legal in
     let there = held_semaphore c h a.sid (SemPost a.desc) a.desc a.x legal' refl a.held in
     let passes : there_is (λ (x : Held). is_greatest c h x.object) (holds h a.sid.0 a.desc.0) ≡ false = post_below_greatest c h a.sid a.desc (sym legal') in
     let passes' : is_greatest c h a.x.object ≡ false = ap (there_is (λ (x : Held). is_greatest c h x.object)) (sym a.held) ∙ passes in
-    subst (λ (n : ℕ). eqb (value h n) SEM_VALUE_MAX ≡ false) a.object (sym (is_greatest-at c h a.x.object there) ∙ passes')
-
-pub try_has_value : (c : Config) (h : History) (o : ℕ) (e : Event) → None ≡ verdict c h e → semaphore_act o e h ≡ Tries → eqb (value h o) 0 ≡ false
-try_has_value c h o e legal k =
-    let a = act_tries o e h k in
-    let legal' : None ≡ verdict c h (Do a.sid (SemTryWait a.desc)) = rw a.event at legal in
-    let there = held_semaphore c h a.sid (SemTryWait a.desc) a.desc a.x legal' refl a.held in
-    let passes : there_is (λ (x : Held). is_zero c h x.object) (holds h a.sid.0 a.desc.0) ≡ false = try_above_zero c h a.sid a.desc (sym legal') in
-    let passes' : is_zero c h a.x.object ≡ false = ap (there_is (λ (x : Held). is_zero c h x.object)) (sym a.held) ∙ passes in
-    subst (λ (n : ℕ). eqb (value h n) 0 ≡ false) a.object (sym (is_zero-at c h a.x.object there) ∙ passes')
+    subst (λ (n : ℕ). eqb (semaphore h n).value SEM_VALUE_MAX ≡ false) a.object (sym (is_greatest-at c h a.x.object before there) ∙ passes')
 
 one_more : (n m : ℕ) → n ≤ m → eqb n m ≡ false → n + 1 ≤ m
 one_more n m le e = let other = eqb-false n m e in grind (arith, nat_tests)
 
-range_more : (c : Config) (h : History) (o : ℕ) → IsInRange (semaphore h o) → (e : Event) (r : Option Rule) → r ≡ verdict c h e → IsInRange (semaphore (record { event = e; rule = r } ∷ h) o)
+range_more : (c : Config) (h : History) (o : ℕ) → Legal c h → IsInRange (semaphore h o) → (e : Event) (r : Option Rule) → r ≡ verdict c h e → IsInRange (semaphore (record { event = e; rule = r } ∷ h) o)
 unfolding semaphore
-range_more c h o known e (Some rule) legal = known
-range_more c h o known e None legal = subst IsInRange (sym now) (range_first (first_value o e (is_bound h) (creations h)) (semaphore_after (semaphore_act o e h) (semaphore h o)) stepped (λ n k.
+range_more c h o before known e (Some rule) legal = known
+range_more c h o before known e None legal = subst IsInRange (sym now) (range_first (first_value o e (is_bound h) (creations h)) (semaphore_after (semaphore_act o e h) (semaphore h o)) stepped (λ n k.
     let first = first_in_range c h o e legal n k in
     (first.0, ap (λ (q : Semaphore). q.waiters) (ap (semaphore_after (semaphore_act o e h)) (not_created_still h o first.1) ∙ still_after h o e first.1)))) where
       now : semaphore (record { event = e; rule = None } ∷ h) o ≡ with_first (first_value o e (is_bound h) (creations h)) (semaphore_after (semaphore_act o e h) (semaphore h o))
       now = semaphore_grows h e o
 
       stepped : IsInRange (semaphore_after (semaphore_act o e h) (semaphore h o))
-      stepped = range_step (semaphore_act o e h) (semaphore h o) (λ k. one_more (value h o) SEM_VALUE_MAX known.within (post_has_room c h o e legal k)) known
+      stepped = range_step (semaphore_act o e h) (semaphore h o) (λ k. one_more (semaphore h o).value SEM_VALUE_MAX known.within (post_has_room c h o e before legal k)) known
 
 pub each_in_range : EachIsInRange
 unfolding semaphore
 each_in_range c [] o legal = record { within = omega arith; waiters_wait = λ e. absurd cc }
-each_in_range c (r ∷ h) o legal = range_more c h o (each_in_range c h o legal.1) r.event r.rule legal.0
+each_in_range c (r ∷ h) o legal = range_more c h o legal.1 (each_in_range c h o legal.1) r.event r.rule legal.0
 
 -- a session that is parked in a wait is listed, and so the semaphore has a waiter
 found_some : (s i : ℕ) (xs : List Wait) → option_map (λ (w : Wait). w.place) (find (λ w. eqb w.session s) xs) ≡ Some i → has_none xs ≡ false
@@ -128,6 +120,6 @@ found_some s i [] e = absurd cc
 found_some s i (x ∷ xs) e = refl
 
 pub waits_at_zero : WaitsAtZero
-waits_at_zero c h legal s p k kind = (each_in_range c h p.object legal).waiters_wait (found_some s p.place (semaphore h p.object).waiters listed) where
+waits_at_zero c h legal s p k kind = value_counted c h p.object legal ∙ (each_in_range c h p.object legal).waiters_wait (found_some s p.place (semaphore h p.object).waiters listed) where
   listed : option_map (λ (w : Wait). w.place) (find (λ w. eqb w.session s) (semaphore h p.object).waiters) ≡ Some p.place
   listed = ap (λ (z : ParkedKind). place_listed z s (queue c h p.object) (semaphore h p.object)) (sym kind) ∙ (calls_listed c h legal).each_parked s p k

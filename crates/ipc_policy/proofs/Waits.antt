@@ -1,21 +1,17 @@
 -- Which events wait for a semaphore, and what ends a parked wait.
-use Rattle.std.proofs.Common.{◌≡◌, ℕ, Bool, true, false, ◌||◌, eqb, length, cond, Option, Some, None, is_some, refl}
+use Rattle.std.proofs.Common.{◌≡◌, ℕ, Bool, true, false, ◌||◌, eqb, length, cond, Option, Some, None, refl}
 use Rattle.std.proofs.lemmas.Bool.{eqb-true}
-use Rattle.ipc_terms.specs.Objects.{as_semaphore}
-use Rattle.ipc_terms.specs.declared.object.TheConstants.{SEM_VALUE_MAX}
 use Rattle.ipc_terms.specs.declared.ids.Sid.{Sid}
 use Rattle.ipc_terms.specs.declared.ids.Desc.{Desc}
 use Rattle.ipc_terms.specs.declared.call.Call.TheVariants.{MqSend, MqReceive, SemPost, SemWait, SemTryWait, Interrupt}
 use Rattle.ipc_terms.specs.declared.record.Event.{Event}
 use Rattle.ipc_terms.specs.declared.record.Event.TheVariants.{Hello, Do, Hangup}
-use Rattle.ipc_policy.specs.declared.config.Config.{Config}
 use Rattle.ipc_policy.specs.declared.config.Held.{Held}
-use Rattle.ipc_policy.specs.History.{History, there_is}
-use Rattle.ipc_policy.specs.Objects.{object}
+use Rattle.ipc_policy.specs.History.{History}
 use Rattle.ipc_policy.specs.Descriptions.{holds}
 use Rattle.ipc_policy.specs.Life.{gives_object}
 use Rattle.ipc_policy.specs.Queues.{Wait, Act, Sends, Receives, Rests, Queue, act}
-use Rattle.ipc_policy.specs.Semaphores.{SemaphoreAct, Posts, Waits, Tries, Cancels, Idles, Semaphore, semaphore_act, value, is_zero, is_greatest}
+use Rattle.ipc_policy.specs.Semaphores.{SemaphoreAct, Posts, Waits, Tries, Cancels, Idles, Semaphore, semaphore_act}
 use Rattle.ipc_policy.specs.Parking.{Sending, Receiving, Waiting, withdraws, ends_call, is_posted}
 use Rattle.ipc_policy.specs.Readings.{ends_wait}
 
@@ -171,14 +167,3 @@ not_ended_wait o w (Waits v) u a q alike e = stays_waiting _ _ alike refl
 not_ended_wait o w Tries u a q alike e = stays_waiting _ _ alike refl
 not_ended_wait o w (Cancels s) u a q alike e = stays_waiting _ _ alike e
 not_ended_wait o w Idles u a q alike e = stays_waiting _ _ alike refl
-
--- where there is a semaphore, it is at 0 exactly where its value is 0, and has room for no post exactly at the greatest
-test_is : (b : Bool) (x : Option ℕ) → is_some x ≡ true → there_is (λ first_value. b) x ≡ b
-test_is b None e = absurd cc
-test_is b (Some n) e = refl
-
-pub is_zero-at : (c : Config) (h : History) (o : ℕ) → is_some (as_semaphore (object c h o)) ≡ true → is_zero c h o ≡ eqb (value h o) 0
-is_zero-at c h o e = test_is (eqb (value h o) 0) (as_semaphore (object c h o)) e
-
-pub is_greatest-at : (c : Config) (h : History) (o : ℕ) → is_some (as_semaphore (object c h o)) ≡ true → is_greatest c h o ≡ eqb (value h o) SEM_VALUE_MAX
-is_greatest-at c h o e = test_is (eqb (value h o) SEM_VALUE_MAX) (as_semaphore (object c h o)) e

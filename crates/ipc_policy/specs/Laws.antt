@@ -1,5 +1,5 @@
 -- Laws that hold of every history, or of every legal one where they say so.
-use Rattle.std.specs.Prelude.{◌≡◌, ℕ, ◌+◌, ◌≤◌, ◌==◌, true, false, length, IsTrue, List, [], ◌∷◌, ◌++◌, find, Option, Some, is_some, MatchOption, if◌then◌else◌}
+use Rattle.std.specs.Prelude.{◌≡◌, ℕ, ◌≤◌, ◌==◌, true, false, length, IsTrue, List, [], ◌∷◌, ◌++◌, find, Option, Some, is_some, MatchOption, if◌then◌else◌}
 use Rattle.std.specs.Option.{option_map}
 use Rattle.ipc_terms.specs.Names.{same_name}
 use Rattle.ipc_terms.specs.Rules.{number_of}
@@ -19,7 +19,7 @@ use Rattle.ipc_policy.specs.Life.{named, bindings, names, alive}
 use Rattle.ipc_policy.specs.Queues.{Queue, has_none, queue, maxmsg, senders, receivers}
 use Rattle.ipc_policy.specs.Semaphores.{Semaphore, semaphore, value, waiters}
 use Rattle.ipc_policy.specs.Parking.{ParkedKind, Sending, Receiving, Waiting, Parked, parked}
-use Rattle.ipc_policy.specs.Readings.{Each, posts, passes, given_value}
+use Rattle.ipc_policy.specs.Readings.{Each}
 use Rattle.ipc_policy.specs.Rules.{forbids}
 use Rattle.ipc_policy.specs.Verdict.{verdict, caller, Legal, for_session, outbox}
 
@@ -61,6 +61,7 @@ pub record SameValues (c : Config) (h k : History) : Type 0 where
   pub alive : (o : ℕ) → alive h o ≡ alive k o
   pub queue : (o : ℕ) → queue c h o ≡ queue c k o
   pub semaphore : (o : ℕ) → semaphore h o ≡ semaphore k o
+  pub value : (o : ℕ) → value h o ≡ value k o
   pub parked : (s : ℕ) → parked c h s ≡ parked c k s
   pub verdict : (e : Event) → verdict c h e ≡ verdict c k e
 
@@ -130,10 +131,9 @@ EachIsInRange = (c : Config) (h : History) (o : ℕ) → Legal c h → IsInRange
 abbrev pub WaitsAtZero : Type 0
 WaitsAtZero = (c : Config) (h : History) → Legal c h → (s : ℕ) (p : Parked) → parked c h s ≡ Some p → p.kind ≡ Waiting → value h p.object ≡ 0
 
--- in a legal history the value is the first value and the posts, without the trywaits, the waits that did not park, and
--- those that a post served
+-- in a legal history the value is what the acts make of it, one by one
 abbrev pub EachValueIsCounted : Type 0
-EachValueIsCounted = (c : Config) (h : History) (o : ℕ) → Legal c h → value h o + passes h o ≡ given_value h o + posts h o
+EachValueIsCounted = (c : Config) (h : History) (o : ℕ) → Legal c h → value h o ≡ (semaphore h o).value
 
 -- a description that session s holds gives object o
 pub record HoldsFor (h : History) (s o : ℕ) : Type 0 where

@@ -1,12 +1,12 @@
 -- Parked calls and contents, read place by place: which record parks a call and which ends it, at which record a
--- message enters and at which it is taken; and the value of a semaphore, by how many posts and waits there were. What
--- the lists of a queue and a semaphore's are is stated here without `queue_after` and `semaphore_after`.
-use Rattle.std.specs.Prelude.{◌≡◌, Bool, true, false, ℕ, ◌+◌, ◌<◌, ◌≤◌, ◌&&◌, ◌==◌, not, find, List, [], ◌∷◌, ◌++◌, length, Option, Some, None, is_some, unwrap_or, if◌then◌else◌, MatchOption}
+-- message enters and at which it is taken. What the lists of a queue and a semaphore's are is stated here without
+-- `queue_after` and `semaphore_after`.
+use Rattle.std.specs.Prelude.{◌≡◌, Bool, false, ℕ, ◌+◌, ◌<◌, ◌≤◌, ◌&&◌, ◌==◌, not, find, List, [], ◌∷◌, ◌++◌, length, Option, Some, None, is_some, unwrap_or, if◌then◌else◌, MatchOption}
 use Rattle.ipc_terms.specs.Lists.{first}
 use Rattle.ipc_policy.specs.declared.config.Config.{Config}
-use Rattle.ipc_policy.specs.History.{History, newest, kept, unended, how_many}
+use Rattle.ipc_policy.specs.History.{History, newest, kept, unended}
 use Rattle.ipc_policy.specs.Queues.{Send, Wait, Act, Sends, Receives, Withdraws, Queue, has_all, has_none, next, act, queue, maxmsg, contents, senders, receivers}
-use Rattle.ipc_policy.specs.Semaphores.{SemaphoreAct, Posts, Waits, Tries, Cancels, Semaphore, semaphore_act, semaphore, waiters, gives_value}
+use Rattle.ipc_policy.specs.Semaphores.{SemaphoreAct, Posts, Waits, Cancels, Semaphore, semaphore_act, semaphore, waiters}
 use Rattle.ipc_policy.specs.Parking.{stands_at}
 
 -- the send of place i to a full queue parks
@@ -97,30 +97,6 @@ entered c h o i = unwrap_or (newest (λ e before. if is_some (enters (maxmsg c b
 -- the contents stand in the order in which they entered, and no two entered at one record
 abbrev pub EachInsideInOrder : Type 0
 EachInsideInOrder = (c : Config) (h : History) (o : ℕ) → Rising (λ m. entered c h o m.place) 0 (contents c h o) (length h)
-
--- a post to semaphore o
-abbrev pub is_post : SemaphoreAct → Bool
-is_post Posts = true
-is_post _ = false
-
--- a trywait, a wait that does not park, or a post that serves a parked wait: by each of them one call gets what it wants
-abbrev pub is_pass : SemaphoreAct → Semaphore → Bool
-is_pass Tries q = true
-is_pass (Waits w) q = not (q.value == 0)
-is_pass Posts q = not (has_none q.waiters)
-is_pass _ q = false
-
--- how many posts to semaphore o were accepted
-abbrev pub posts : History → ℕ → ℕ
-posts h o = how_many (λ e before. is_post (semaphore_act o e before)) h
-
--- how many calls got what they want of semaphore o
-abbrev pub passes : History → ℕ → ℕ
-passes h o = how_many (λ e before. is_pass (semaphore_act o e before) (semaphore before o)) h
-
--- the value that the creation of semaphore o gave it
-abbrev pub given_value : History → ℕ → ℕ
-given_value h o = unwrap_or (newest (gives_value o) h) 0
 
 -- it holds of each item
 abbrev pub Each : {A : Type 0} → (A → Type 0) → List A → Type 0

@@ -1,5 +1,5 @@
 -- What posts, waits, interrupts and hang-ups make of a semaphore.
-use Rattle.std.specs.Prelude.{Bool, ℕ, ◌+◌, ◌-◌, ◌==◌, not, List, [], ◌∷◌, ◌++◌, length, filter, Option, Some, None, if◌then◌else◌, option_and_then}
+use Rattle.std.specs.Prelude.{Bool, true, false, ℕ, ◌+◌, ◌-◌, ◌==◌, not, List, [], ◌∷◌, ◌++◌, length, filter, Option, Some, None, if◌then◌else◌, option_and_then, unwrap_or}
 use Rattle.ipc_terms.specs.Objects.{as_semaphore, value_asked}
 use Rattle.ipc_terms.specs.declared.object.TheConstants.{SEM_VALUE_MAX}
 use Rattle.ipc_terms.specs.declared.call.Call.TheVariants.{SemPost, SemWait, SemTryWait, Interrupt}
@@ -7,7 +7,7 @@ use Rattle.ipc_terms.specs.declared.record.Event.{Event}
 use Rattle.ipc_terms.specs.declared.record.Event.TheVariants.{Do, Hangup}
 use Rattle.ipc_policy.specs.declared.config.Config.{Config}
 use Rattle.ipc_policy.specs.declared.config.Held.{Held}
-use Rattle.ipc_policy.specs.History.{History, is_accepted, there_is}
+use Rattle.ipc_policy.specs.History.{History, is_accepted, newest, how_many, there_is}
 use Rattle.ipc_policy.specs.Objects.{object, creation_of}
 use Rattle.ipc_policy.specs.Descriptions.{holds}
 use Rattle.ipc_policy.specs.Life.{gives_object}
@@ -35,7 +35,7 @@ semaphore_act_by place holds o _ = Idles
 abbrev pub semaphore_act : ℕ → Event → History → SemaphoreAct
 semaphore_act o e before = semaphore_act_by (length before) (holds before) o e
 
--- the value of a semaphore, and the waits that are parked on it, longest parked first
+-- a semaphore, act by act: its value, and the waits that are parked on it, longest parked first
 pub record Semaphore : Type 0 where
   pub value : ℕ
   pub waiters : List Wait
@@ -74,7 +74,7 @@ with_first (Some first_value) q = record q { value = first_value }
 abbrev pub gives_value : ℕ → Event → History → Option ℕ
 gives_value o e before = option_and_then (λ asked. value_asked asked.kind) (creation_of o e before)
 
--- semaphore o
+-- semaphore o, act by act; the law `counted` says that this is its value
 unfoldable pub semaphore : History → ℕ → Semaphore
 semaphore [] o = no_semaphore
 semaphore (r ∷ before) o =
@@ -82,9 +82,34 @@ semaphore (r ∷ before) o =
     then with_first (gives_value o r.event before) (semaphore_after (semaphore_act o r.event before) (semaphore before o))
     else semaphore before o
 
--- the value of semaphore o
-abbrev pub value : History → ℕ → ℕ
-value h o = (semaphore h o).value
+-- a post
+abbrev pub is_post : SemaphoreAct → Bool
+is_post Posts = true
+is_post _ = false
+
+-- a trywait, a wait that does not park, or a post that serves a parked wait: by each of them one call gets what it wants
+abbrev pub is_pass : SemaphoreAct → Semaphore → Bool
+is_pass Tries q = true
+is_pass (Waits w) q = not (q.value == 0)
+is_pass Posts q = not (has_none q.waiters)
+is_pass _ q = false
+
+-- how many posts to semaphore o were accepted
+abbrev pub posts : History → ℕ → ℕ
+posts h o = how_many (λ e before. is_post (semaphore_act o e before)) h
+
+-- how many calls got what they want of semaphore o
+abbrev pub passes : History → ℕ → ℕ
+passes h o = how_many (λ e before. is_pass (semaphore_act o e before) (semaphore before o)) h
+
+-- the value that the creation of semaphore o gave it
+abbrev pub given_value : History → ℕ → ℕ
+given_value h o = unwrap_or (newest (gives_value o) h) 0
+
+-- the value of semaphore o: its first value and the accepted posts, less the accepted trywaits, the accepted waits that
+-- did not park, and those that a post served
+unfoldable pub value : History → ℕ → ℕ
+value h o = (given_value h o + posts h o) - passes h o
 
 -- the waits that are parked on semaphore o, longest parked first
 abbrev pub waiters : History → ℕ → List Wait

@@ -72,8 +72,8 @@ pub fn in_range()
     ensures waits { WaitsAtZero }
 {}
 
-/// In a legal history a semaphore's value is its first value and the accepted posts, without the accepted trywaits and
-/// the accepted waits that did not park or that a post served.
+/// In a legal history a semaphore's value, which counts posts and waits, is what its acts make of it one by one: a
+/// post serves a parked wait or raises it, a wait and a trywait lower it.
 pub fn counted()
     ensures { EachValueIsCounted }
 {}

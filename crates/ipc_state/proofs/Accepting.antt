@@ -239,7 +239,7 @@ agrees_waited c h t sid desc o k here =
     (left_alone c h _ t _ _ u g.nonblock_of
     (sessions_parked c h _ e _ _ g refl (λ s. refl) (λ s. refl) (λ s. refl)
     (λ s. column_by_wait c h sid desc here.x s here.held)
-    (sessions_waited c h t here.x.object here.given sid k.agrees here.lives here.made here.within))
+    (sessions_waited c h t here.x.object here.given sid k.legal k.agrees here.lives here.made here.within))
     (record {
       rows = rows_changed c h (after_accepted h e) (inside c (after_accepted h e)) t.objects t.created here.x.object (with_counter (waited sid)) (alive_same c h _ u) u.object' u.facts'
           (λ i ne. inside_same c h (after_accepted h e) i (queue_by_wait c h sid desc i) (semaphore_by_wait h sid desc here.x i here.held ∙ rw (ne_eqb here.x.object i (λ q. ne (sym q))) refl))

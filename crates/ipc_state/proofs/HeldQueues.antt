@@ -15,13 +15,15 @@ use Rattle.ipc_policy.specs.History.{History}
 use Rattle.ipc_policy.specs.Objects.{object}
 use Rattle.ipc_policy.specs.Descriptions.{holds}
 use Rattle.ipc_policy.specs.Queues.{Send, Queue, next, queue, contents}
+use Rattle.ipc_policy.specs.Verdict.{Legal}
+use Rattle.ipc_policy.proofs.ValueCounts.{value_counted}
 use Rattle.ipc_policy.proofs.Sent.{next_sent}
 use Rattle.ipc_terms.specs.Objects.{as_semaphore}
 use Rattle.ipc_terms.specs.declared.call.Attributes.{Attributes}
 use Rattle.ipc_policy.specs.Queues.{attributes}
-use Rattle.ipc_policy.specs.Semaphores.{Semaphore, semaphore}
+use Rattle.ipc_policy.specs.Semaphores.{Semaphore, semaphore, value}
 use Rattle.ipc_sem.specs.Counters.{Counter}
-use Rattle.ipc_state.specs.Past.{brought, queue_by, semaphore_by}
+use Rattle.ipc_state.specs.Past.{brought, queue_by, semaphore_by, value_by}
 use Rattle.ipc_state.specs.Agrees.{ticket_of, tickets_of, sender_of, receiver_of, queue_meant, counter_of, semaphore_meant}
 use Rattle.ipc_state.proofs.QueueSteps.{next_same}
 use Rattle.ipc_state.proofs.Mapped.{longest_mapped}
@@ -67,11 +69,15 @@ pub held_waiter : (c : Config) (h : History) (s d : ℕ) → option_and_then (λ
 held_waiter c h s d = semaphore_reads c h s d (λ q. first q.waiters) (λ q. option_map receiver_of (first q.waiters)) (λ q. longest_mapped receiver_of q.waiters)
 
 -- the value of the semaphore
-pub held_value : (c : Config) (h : History) (s d : ℕ) → option_map (λ (q : Counter). q.value) (semaphore_held c h s d) ≡ option_map (λ q. q.value) (semaphore_by c h s d)
-held_value c h s d =
-    sym (some_mapped (λ (q : Counter). q.value) (semaphore_held c h s d))
-    ∙ semaphore_reads c h s d (λ q. Some q.value) (λ q. Some q.value) (λ q. refl)
-    ∙ some_mapped (λ (q : Semaphore). q.value) (semaphore_by c h s d)
+value_at : (c : Config) (h : History) → Legal c h → (w : Option Held) → option_map (λ (q : Counter). q.value) (option_and_then (semaphore_meant c h) (option_map (λ (x : Held). x.object) w)) ≡ option_and_then (λ (x : Held). option_map (λ first_value. value h x.object) (as_semaphore (object c h x.object))) w
+value_at c h legal None = refl
+value_at c h legal (Some x) = at (as_semaphore (object c h x.object)) where
+  at : (v : Option ℕ) → option_map (λ (q : Counter). q.value) (option_map (λ first_value. counter_of (semaphore h x.object)) v) ≡ option_map (λ first_value. value h x.object) v
+  at None = refl
+  at (Some first) = ap Some (sym (value_counted c h x.object legal))
+
+pub held_value : (c : Config) (h : History) (s d : ℕ) → Legal c h → option_map (λ (q : Counter). q.value) (semaphore_held c h s d) ≡ value_by c h s d
+held_value c h s d legal = value_at c h legal (holds h s d)
 
 -- whose send it is
 abbrev pub session_of : Send → Sid

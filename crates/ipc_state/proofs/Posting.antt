@@ -20,13 +20,13 @@ use Rattle.ipc_policy.specs.Objects.{object}
 use Rattle.ipc_policy.specs.Descriptions.{holds}
 use Rattle.ipc_policy.specs.Life.{alive}
 use Rattle.ipc_policy.specs.Queues.{Wait}
-use Rattle.ipc_policy.specs.Semaphores.{Posts, Waits, Tries, Cancels, Semaphore, semaphore, semaphore_after, value, waiters, is_zero, is_greatest}
+use Rattle.ipc_policy.specs.Semaphores.{Posts, Waits, Tries, Cancels, Semaphore, semaphore, semaphore_after, waiters, is_zero, is_greatest}
 use Rattle.ipc_policy.specs.Verdict.{verdict, Legal}
 use Rattle.ipc_policy.proofs.EachItem.{each_first, each_map}
 use Rattle.ipc_policy.proofs.CallsListed.{calls_listed}
 use Rattle.ipc_policy.proofs.ParkedSessions.{waiters_differ}
 use Rattle.ipc_policy.proofs.Unforbidden.{post_below_greatest}
-use Rattle.ipc_policy.proofs.Waits.{is_zero-at, is_greatest-at}
+use Rattle.ipc_policy.proofs.ValueCounts.{is_zero-at, is_greatest-at}
 use Rattle.ipc_policy.proofs.WaitSteps.{semaphore_by_post, semaphore_by_wait, semaphore_by_try}
 use Rattle.ipc_tables.specs.declared.rows.Session.{Session}
 use Rattle.ipc_tables.specs.Objects.{semaphore_at}
@@ -76,10 +76,10 @@ overflow_at : (q : Semaphore) → eqb q.value SEM_VALUE_MAX ≡ false → overfl
 unfolding overflows
 overflow_at q e = no_overflow (has_no_waiter (map receiver_of q.waiters)) (eqb q.value SEM_VALUE_MAX) e
 
-pub post_room : (c : Config) (h : History) (t : Kept) (sid : Sid) (desc : Desc) (o : ℕ) → Agrees c h t → verdict c h (Do sid (SemPost desc)) ≡ None → IsHereSemaphore c h t sid.0 desc.0 o → option_map overflows (semaphore_at t.objects o) ≡ Some false
-post_room c h t sid desc o a accepted here =
+pub post_room : (c : Config) (h : History) (t : Kept) (sid : Sid) (desc : Desc) (o : ℕ) → Legal c h → Agrees c h t → verdict c h (Do sid (SemPost desc)) ≡ None → IsHereSemaphore c h t sid.0 desc.0 o → option_map overflows (semaphore_at t.objects o) ≡ Some false
+post_room c h t sid desc o legal a accepted here =
     let low : is_greatest c h here.x.object ≡ false = ap (there_is (λ (x : Held). is_greatest c h x.object)) (sym here.held) ∙ post_below_greatest c h sid desc accepted in
-    let below = sym (is_greatest-at c h here.x.object (ap is_some here.made)) ∙ low in
+    let below = sym (is_greatest-at c h here.x.object legal (ap is_some here.made)) ∙ low in
     subst (λ (i : ℕ). option_map overflows (semaphore_at t.objects i) ≡ Some false) here.same
     (ap (option_map overflows) (semaphore_there c h t here.x.object here.given a here.lives here.made) ∙ ap Some (overflow_at (semaphore h here.x.object) below))
 
@@ -100,9 +100,9 @@ outcome_is : (q : Semaphore) → wait_outcome (counter_of q) ≡ cond (eqb q.val
 unfolding wait_outcome
 outcome_is q = refl
 
-pub sessions_waited : (c : Config) (h : History) (t : Kept) (o first_value : ℕ) (sid : Sid) → Agrees c h t → alive h o ≡ true → as_semaphore (object c h o) ≡ Some first_value → sid.0 < length t.sessions → Columns (parked_by_wait o sid (option_map wait_outcome (semaphore_at t.objects o)) t.sessions) (hellos h) (user h) (mask h) (live h) (column_after None (is_zero c h o) sid.0 o (parked_object c h))
-sessions_waited c h t o first_value sid a lives e lt =
-    let zero : eqb (value h o) 0 ≡ is_zero c h o = sym (is_zero-at c h o (ap is_some e)) in
+pub sessions_waited : (c : Config) (h : History) (t : Kept) (o first_value : ℕ) (sid : Sid) → Legal c h → Agrees c h t → alive h o ≡ true → as_semaphore (object c h o) ≡ Some first_value → sid.0 < length t.sessions → Columns (parked_by_wait o sid (option_map wait_outcome (semaphore_at t.objects o)) t.sessions) (hellos h) (user h) (mask h) (live h) (column_after None (is_zero c h o) sid.0 o (parked_object c h))
+sessions_waited c h t o first_value sid legal a lives e lt =
+    let zero : eqb (semaphore h o).value 0 ≡ is_zero c h o = sym (is_zero-at c h o legal (ap is_some e)) in
     let told : option_map wait_outcome (semaphore_at t.objects o) ≡ Some (cond (is_zero c h o) WaitParks Passed) = ap (option_map wait_outcome) (semaphore_there c h t o first_value a lives e) ∙ ap Some (outcome_is (semaphore h o)) ∙ ap (λ b. Some (cond b WaitParks Passed)) zero in
     rw told (waited_column c h t.sessions o sid a.sessions lt (is_zero c h o))
 

@@ -13,6 +13,8 @@ use Rattle.ipc_policy.specs.Objects.{object}
 use Rattle.ipc_policy.specs.Descriptions.{if_of, held, holds, is_nonblock}
 use Rattle.ipc_policy.specs.Queues.{has_none, attributes, queue, contents}
 use Rattle.ipc_policy.specs.Semaphores.{Semaphore, semaphore, value}
+use Rattle.ipc_policy.specs.Verdict.{Legal}
+use Rattle.ipc_policy.proofs.ValueCounts.{value_counted}
 use Rattle.ipc_policy.specs.Life.{alive}
 use Rattle.ipc_policy.specs.Rules.{there_is, object_held, is_full, is_empty}
 use Rattle.ipc_tables.specs.declared.rows.ObjectRow.{ObjectRow}
@@ -81,15 +83,15 @@ semaphore_is c h t s d a = at (holds h s d) refl where
   at (Some x) e = semaphore_alive c h t x.object a (holds_alive h s d x e)
 
 -- whether its value is 0, and whether it is the greatest
-test_is : (test : ℕ → Bool) (u : Semaphore) (w : Option ℕ) → there_is (λ (q : Counter). test q.value) (option_map (λ first_value. counter_of u) w) ≡ there_is (λ first_value. test u.value) w
-test_is test u None = refl
-test_is test u (Some n) = refl
+test_is : (test : ℕ → Bool) (u : Semaphore) (n : ℕ) (w : Option ℕ) → n ≡ u.value → there_is (λ (q : Counter). test q.value) (option_map (λ first_value. counter_of u) w) ≡ there_is (λ first_value. test n) w
+test_is test u n None e = refl
+test_is test u n (Some first) e = ap test (sym e)
 
-pub held_test_is : (c : Config) (h : History) (test : ℕ → Bool) (s d : ℕ) → there_is (λ (q : Counter). test q.value) (option_and_then (semaphore_meant c h) (option_map (λ (x : Held). x.object) (holds h s d))) ≡ there_is (λ (x : Held). there_is (λ first_value. test (value h x.object)) (as_semaphore (object c h x.object))) (holds h s d)
-held_test_is c h test s d = at (holds h s d) where
+pub held_test_is : (c : Config) (h : History) (test : ℕ → Bool) (s d : ℕ) → Legal c h → there_is (λ (q : Counter). test q.value) (option_and_then (semaphore_meant c h) (option_map (λ (x : Held). x.object) (holds h s d))) ≡ there_is (λ (x : Held). there_is (λ first_value. test (value h x.object)) (as_semaphore (object c h x.object))) (holds h s d)
+held_test_is c h test s d legal = at (holds h s d) where
   at : (w : Option Held) → there_is (λ (q : Counter). test q.value) (option_and_then (semaphore_meant c h) (option_map (λ (x : Held). x.object) w)) ≡ there_is (λ (x : Held). there_is (λ first_value. test (value h x.object)) (as_semaphore (object c h x.object))) w
   at None = refl
-  at (Some x) = test_is test (semaphore h x.object) (as_semaphore (object c h x.object))
+  at (Some x) = test_is test (semaphore h x.object) (value h x.object) (as_semaphore (object c h x.object)) (value_counted c h x.object legal)
 
 -- whether it is full, and whether it is empty
 pub full_is : (c : Config) (h : History) (o : ℕ) → there_is is_full_of (queue_meant c h o) ≡ is_full c h o

@@ -1,3 +1,4 @@
 pub mod Past
 pub mod Ranges
 pub mod Agrees
+pub mod Memory

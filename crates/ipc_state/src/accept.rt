@@ -1,6 +1,6 @@
 //! What an accepted event does to the tables.
 
-ghost use Rattle.std.specs.Prelude.{◌≡◌, ◌+◌, ◌^◌, ◌<◌, ◌∷◌, length, None, IsSome, OnOk, OnErr};
+ghost use Rattle.std.specs.Prelude.{◌≡◌, false, ◌+◌, ◌^◌, ◌<◌, ◌∷◌, length, None, IsSome, OnOk, OnErr};
 ghost use Rattle.ipc_terms.specs.declared.record.Event.TheVariants.{Hello, Do, Hangup};
 ghost use Rattle.ipc_terms.specs.declared.call.Call.TheVariants.{Umask, MqSend, MqReceive, MqSetattr, SemPost, SemWait, SemTryWait, Interrupt};
 ghost use Rattle.ipc_policy.specs.History.{after_accepted};
@@ -8,20 +8,43 @@ ghost use Rattle.ipc_policy.specs.Names.{opening, nonblock_asked};
 ghost use Rattle.ipc_policy.specs.Objects.{made_by, first_facts};
 ghost use Rattle.ipc_policy.specs.Verdict.{verdict};
 ghost use Rattle.ipc_state.specs.Agrees.{Agrees, IsCore};
+ghost use Rattle.ipc_state.specs.Memory.{takes_memory};
 
 use crate::looking::object_number;
 use ipc_access::Cred;
 use ipc_policy::{Config, Opening, opening_of};
 use ipc_tables::{Grant, Tables};
 use ipc_terms::{
-    Asked, Attributes, Bytes, Call, Desc, Event, Facts, Family, Kind, Mode, NoMemory, Object, Sid,
-    Uid,
+    Asked, Attributes, Bytes, Call, Desc, Event, Facts, Family, Kind, Mode, NoMemory, Object, Rule,
+    Sid, Uid,
 };
 use ipc_trail::Trail;
 use std::alloc::Global;
 
-/// Brings the tables up to date with an event that is accepted after this past. An `Err` changes nothing.
-pub fn accept(
+/// Brings the tables up to date with an event after this past, on which this is the verdict. An `Err`
+/// changes nothing.
+pub fn change(
+    alloc: Global,
+    tables: &mut Tables,
+    config: &Config,
+    past: &Trail,
+    event: &Event,
+    rule: Option<Rule>,
+) -> Result<(), NoMemory>
+    requires core { IsCore config.now past.now.history tables.old }
+    requires verdict { rule ≡ verdict config.now past.now.history event.now }
+    requires room { length past.now.history + 1 < 2 ^ 63 }
+    ensures ok { OnOk result (IsCore config.now (record { event = event.now; rule = rule } ∷ past.now.history) tables.new) }
+    ensures err { OnErr result (tables.new ≡ tables.old) }
+{
+    if rule.is_none() {
+        accept(alloc, tables, config, past, event)?;
+    }
+    Ok(())
+}
+
+/// Does the same for an event that is accepted.
+fn accept(
     alloc: Global,
     tables: &mut Tables,
     config: &Config,
@@ -37,12 +60,7 @@ pub fn accept(
     match event {
         Event::Hello { found } => accept_hello(tables, config, past, *found),
         Event::Do { sid, call } => match call {
-            Call::Umask(mask) => {
-                accept_umask(tables, config, past, *sid, *mask);
-                Ok(())
-            }
-            Call::MqOpen(_) => accept_open(alloc, tables, config, past, event),
-            Call::SemOpen(_) => accept_open(alloc, tables, config, past, event),
+            Call::MqOpen(_) | Call::SemOpen(_) => accept_open(alloc, tables, config, past, event),
             Call::MqSend {
                 desc,
                 priority,
@@ -51,41 +69,9 @@ pub fn accept(
             Call::MqReceive { desc, length } => {
                 accept_receive(tables, config, past, *sid, *desc, *length)
             }
-            Call::MqGetattr(_) => Ok(()),
-            Call::MqSetattr { desc, nonblock } => {
-                accept_setattr(tables, config, past, *sid, *desc, *nonblock);
-                Ok(())
-            }
-            Call::SemPost(desc) => {
-                accept_post(tables, config, past, *sid, *desc);
-                Ok(())
-            }
             Call::SemWait(desc) => accept_wait(tables, config, past, *sid, *desc),
-            Call::SemTryWait(desc) => {
-                accept_try_wait(tables, config, past, *sid, *desc);
-                Ok(())
-            }
-            Call::SemGetvalue(_) => Ok(()),
-            Call::MqClose(desc) => {
-                tables.close(*sid, *desc);
-                Ok(())
-            }
-            Call::SemClose(desc) => {
-                tables.close(*sid, *desc);
-                Ok(())
-            }
-            Call::MqUnlink(name) => {
-                tables.unlink(Family::Mq, name);
-                Ok(())
-            }
-            Call::SemUnlink(name) => {
-                tables.unlink(Family::Sem, name);
-                Ok(())
-            }
-            Call::ListNames { .. } => Ok(()),
-            Call::StatName(_) => Ok(()),
-            Call::Interrupt => {
-                accept_interrupt(tables, config, past, *sid);
+            _ => {
+                accept_in_place(tables, config, past, *sid, call);
                 Ok(())
             }
         },
@@ -93,6 +79,37 @@ pub fn accept(
             accept_hangup(tables, config, past, *sid);
             Ok(())
         }
+    }
+}
+
+/// Does the same for the calls that never take memory.
+fn accept_in_place(tables: &mut Tables, config: &Config, past: &Trail, sid: Sid, call: &Call)
+    requires in_place { takes_memory call.now ≡ false }
+    requires core { IsCore config.now past.now.history tables.old }
+    requires accepted { verdict config.now past.now.history (Do sid call.now) ≡ None }
+    ensures { Agrees config.now (after_accepted past.now.history (Do sid call.now)) tables.new }
+{
+    match call {
+        Call::Umask(mask) => accept_umask(tables, config, past, sid, *mask),
+        Call::MqSetattr { desc, nonblock } => {
+            accept_setattr(tables, config, past, sid, *desc, *nonblock);
+        }
+        Call::SemPost(desc) => accept_post(tables, config, past, sid, *desc),
+        Call::SemTryWait(desc) => accept_try_wait(tables, config, past, sid, *desc),
+        Call::MqClose(desc) => tables.close(sid, *desc),
+        Call::SemClose(desc) => tables.close(sid, *desc),
+        Call::MqUnlink(name) => tables.unlink(Family::Mq, name),
+        Call::SemUnlink(name) => tables.unlink(Family::Sem, name),
+        Call::Interrupt => accept_interrupt(tables, config, past, sid),
+        Call::MqGetattr(_) => {}
+        Call::SemGetvalue(_) => {}
+        Call::ListNames { .. } => {}
+        Call::StatName(_) => {}
+        Call::MqOpen(_)
+        | Call::SemOpen(_)
+        | Call::MqSend { .. }
+        | Call::MqReceive { .. }
+        | Call::SemWait(_) => unreachable!(),
     }
 }
 

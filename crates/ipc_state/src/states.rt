@@ -14,10 +14,10 @@ ghost use Rattle.ipc_policy.specs.Parking.{parked};
 ghost use Rattle.ipc_policy.specs.Rules.{there_is, object_held, is_full, is_empty, is_zero, is_greatest};
 ghost use Rattle.ipc_policy.specs.Verdict.{verdict, Legal};
 ghost use Rattle.ipc_state.specs.Ranges.{first_bad};
-ghost use Rattle.ipc_state.specs.Past.{brought, queue_by, semaphore_by, with_event};
+ghost use Rattle.ipc_state.specs.Past.{brought, queue_by, semaphore_by, value_by, with_event};
 ghost use Rattle.ipc_state.specs.Agrees.{queue_meant, semaphore_meant};
 
-use crate::accept::accept;
+use crate::accept::change;
 use crate::looking;
 use crate::message::Message;
 use ipc_access::Cred;
@@ -277,7 +277,7 @@ impl State {
 
     /// The value of the semaphore that the session has by the description.
     pub fn value_held(&self, sid: Sid, desc: Desc) -> Option<u32>
-        ensures { result ≡ option_map (λ q. q.value) (semaphore_by self.now.config self.now.history sid.0 desc.0) }
+        ensures { result ≡ value_by self.now.config self.now.history sid.0 desc.0 }
     {
         let semaphore = self.semaphore_held(sid, desc)?;
         Some(semaphore.value())
@@ -292,9 +292,10 @@ impl State {
         semaphore.waiter()
     }
 
-    /// The semaphore that the session has by the description.
+    /// The semaphore that the session has by the description, in a history that is legal.
     fn semaphore_held(&self, sid: Sid, desc: Desc) -> Option<&Sem>
-        ensures { option_copied result ≡ option_and_then (semaphore_meant self.now.config self.now.history) (option_map (λ x. x.object) (holds self.now.history sid.0 desc.0)) }
+        ensures legal { Legal self.now.config self.now.history }
+        ensures found { option_copied result ≡ option_and_then (semaphore_meant self.now.config self.now.history) (option_map (λ x. x.object) (holds self.now.history sid.0 desc.0)) }
     {
         looking::semaphore(
             &self.tables,
@@ -320,9 +321,14 @@ impl State {
         ensures err { OnErr result (self.new ≡ self.old) }
     {
         self.trail.reserve_one()?;
-        if rule.is_none() {
-            accept(alloc, &mut self.tables, &self.config, &self.trail, &event)?;
-        }
+        change(
+            alloc,
+            &mut self.tables,
+            &self.config,
+            &self.trail,
+            &event,
+            rule,
+        )?;
         self.trail.push_reserved(Record { event, rule });
         Ok(())
     }

@@ -57,7 +57,7 @@ fn push_argument(text: &mut String, argument: &Argument) -> Result<(), AllocErro
 }
 
 fn push_between(text: &mut String, front: &str, name: &str, back: &str) -> Result<(), AllocError>
-    ensures { OnOk result (string_bytes text.new ≡ string_bytes text.old ++ front.now ++ name.now ++ back.now) }
+    ensures { OnOk result (string_bytes text.new ≡ string_bytes text.old ++ (front.now ++ name.now ++ back.now)) }
 {
     text.push_str(front)?;
     text.push_str(name)?;

@@ -1,6 +1,5 @@
 //! Classes, modes and sticky directories, and the user file.
 
-use crate::made::shows;
 use ipc_access::{Class, Cred, DirFacts, Groups, UserFault, Users, class_of, grants, may_remove};
 use ipc_terms::{Gid, Mode, NoMemory, Uid};
 use std::alloc::Global;
@@ -16,38 +15,41 @@ fn cred(alloc: Global, uid: u32, gid: u32) -> Result<Cred, NoMemory> {
     })
 }
 
-/// For user 1000 of the groups 1000, 50 and 51: an object's owner, group and mode, the class, and
-/// whether these bits are granted.
-static CLASSES: [(u32, u32, u16, Class, u8, bool); 8] = [
-    (1000, 1000, 0o077, Class::Owner, 4, false),
-    (1000, 51, 0o600, Class::Owner, 6, true),
-    (1000, 7, 0o400, Class::Owner, 6, false),
-    (7, 1000, 0o040, Class::Group, 4, true),
-    (7, 51, 0o707, Class::Group, 4, false),
-    (7, 51, 0o020, Class::Group, 2, true),
-    (7, 52, 0o1771, Class::Other, 1, true),
-    (7, 7, 0o1771, Class::Other, 2, false),
+/// Whether the user has this class and these rights; user 0 alone is root.
+fn is_classed(alloc: Global, classed: &Classed) -> Result<bool, NoMemory> {
+    let (user, owner, group, mode, class, wanted, granted) = *classed;
+    let who = cred(alloc, user, user)?;
+    Ok(
+        who.is_root() == (user == 0)
+            && class_of(&who, Uid(owner), Gid(group)) == class
+            && grants(&who, Uid(owner), Gid(group), Mode(mode), wanted) == granted,
+    )
+}
+
+type Classed = (u32, u32, u32, u16, Class, u8, bool);
+
+/// A user of its own group and of 50 and 51; an object's owner, group and mode; the class, and whether
+/// these bits are granted.
+static CLASSES: [Classed; 9] = [
+    (1000, 1000, 1000, 0o077, Class::Owner, 4, false),
+    (1000, 1000, 51, 0o600, Class::Owner, 6, true),
+    (1000, 1000, 7, 0o400, Class::Owner, 6, false),
+    (1000, 7, 1000, 0o040, Class::Group, 4, true),
+    (1000, 7, 51, 0o707, Class::Group, 4, false),
+    (1000, 7, 51, 0o020, Class::Group, 2, true),
+    (1000, 7, 52, 0o1771, Class::Other, 1, true),
+    (1000, 7, 7, 0o1771, Class::Other, 2, false),
+    // User 0 is granted everything.
+    (0, 7, 7, 0, Class::Other, 7, true),
 ];
 
 #[test]
 fn one_class_decides(rt: HostRuntime) -> Result<(), Fail> {
-    let ann = cred(rt.alloc(), 1000, 1000)?;
-    for (owner, group, mode, class, wanted, granted) in &CLASSES {
-        let (owner, group, mode) = (Uid(*owner), Gid(*group), Mode(*mode));
-        if class_of(&ann, owner, group) != *class
-            || grants(&ann, owner, group, mode, *wanted) != *granted
-        {
-            return Err(Fail::new(format_args!("at {owner:?}, {group:?}, {mode:?}")));
+    for (row, classed) in CLASSES.iter().enumerate() {
+        if !is_classed(rt.alloc(), classed)? {
+            return Err(Fail::new(format_args!("row {row} gives something else")));
         }
     }
-    Ok(())
-}
-
-#[test]
-fn user_0_is_granted_everything(rt: HostRuntime) -> Result<(), Fail> {
-    let root = cred(rt.alloc(), 0, 0)?;
-    assert!(rt; root.is_root() && class_of(&root, Uid(7), Gid(7)) == Class::Other);
-    assert!(rt; grants(&root, Uid(7), Gid(7), Mode(0), 7));
     Ok(())
 }
 
@@ -78,17 +80,19 @@ fn sticky_directories_restrict_removal(rt: HostRuntime) -> Result<(), Fail> {
     Ok(())
 }
 
-/// Whether the user is in the groups 1001 and 51, but not in 52; 1001 is its own and in no list.
-fn is_in_groups(bob: &Cred) -> bool {
+/// Whether the user, of group 1001 and the list of 50 and 51, is in these three and not in 52, and its
+/// own group is in no list.
+fn is_bob(bob: &Cred) -> bool {
     let is_member = bob.is_in(Gid(1001)) && bob.is_in(Gid(51)) && !bob.is_in(Gid(52));
-    is_member && bob.groups.has(Gid(51)) && !bob.groups.has(Gid(1001))
+    let is_listed = bob.groups.has(Gid(51)) && !bob.groups.has(Gid(1001));
+    let has_groups = bob.groups.as_slice() == [Gid(50), Gid(51)].as_slice();
+    is_member && is_listed && has_groups && bob.gid == Gid(1001) && bob.limit == 819_200
 }
 
 #[test]
 fn groups_are_a_list(rt: HostRuntime) -> Result<(), Fail> {
     let bob = cred(rt.alloc(), 1001, 1001)?;
-    assert!(rt; is_in_groups(&bob));
-    assert!(rt; bob.groups.as_slice() == [Gid(50), Gid(51)].as_slice());
+    assert!(rt; is_bob(&bob));
     assert!(rt; bob.groups.into_vec().as_slice() == [Gid(50), Gid(51)].as_slice());
     Ok(())
 }
@@ -96,35 +100,35 @@ fn groups_are_a_list(rt: HostRuntime) -> Result<(), Fail> {
 const FOUR: &str =
     "root:r00t:0:0::\nann:ka1:1000:1000:50:\nbob:kb1:1001:1001:50,51:\ncy:kc1:1002:1002::\n";
 
-/// Whether the key is this user's.
-fn finds(users: &Users, key: &[u8], user: Option<Uid>) -> bool {
-    users.find(key) == user
-}
+/// Keys, and whose they are.
+static KEYS: [(&[u8], Option<Uid>); 4] = [
+    (b"kb1", Some(Uid(1001))),
+    (b"ka1", Some(Uid(1000))),
+    (b"zz", None),
+    (b"kb", None),
+];
 
-fn are_four(users: &Users) -> bool {
-    users.as_slice().len() == 4
-        && finds(users, b"kb1", Some(Uid(1001)))
-        && finds(users, b"ka1", Some(Uid(1000)))
-        && finds(users, b"zz", None)
-        && finds(users, b"kb", None)
-        && users.cred(Uid(5)).is_none()
-}
-
-fn is_bob(found: Option<&Cred>) -> bool {
-    match found {
-        Some(bob) => {
-            bob.gid == Gid(1001)
-                && bob.limit == 819_200
-                && bob.groups.as_slice() == [Gid(50), Gid(51)].as_slice()
-        }
-        None => false,
+/// Whether each key is its user's.
+fn are_found(users: &Users) -> bool {
+    let mut alike = true;
+    for (key, user) in &KEYS {
+        alike = alike && users.find(key) == *user;
     }
+    alike
+}
+
+/// Whether there are four users, and the user 1001 among them is bob.
+fn are_four(users: &Users) -> bool {
+    let Some(bob) = users.cred(Uid(1001)) else {
+        return false;
+    };
+    users.as_slice().len() == 4 && users.cred(Uid(5)).is_none() && is_bob(bob)
 }
 
 #[test]
 fn users_are_read_and_found(rt: HostRuntime) -> Result<(), Fail> {
     let users = Users::read(rt.alloc(), FOUR.as_bytes())?;
-    assert!(rt; are_four(&users) && is_bob(users.cred(Uid(1001))));
+    assert!(rt; are_four(&users) && are_found(&users));
     Ok(())
 }
 
@@ -190,11 +194,4 @@ fn the_first_line_at_fault_decides(rt: HostRuntime) -> Result<(), Fail> {
         }
     }
     Ok(())
-}
-
-/// Of both errors that a reader of the file may meet.
-#[test]
-fn want_of_memory_has_a_text(rt: HostRuntime) -> Result<(), Fail> {
-    shows(rt.alloc(), &UserFault::NoMemory, "memory")?;
-    shows(rt.alloc(), &NoMemory, "memory")
 }

@@ -1,11 +1,11 @@
 //! The core's calls: what is posted, what stands in outboxes, and what a run gives.
 
+use crate::made::{name, send};
 use bitflags::Flags;
 use ipc_access::Users;
 use ipc_core::{Config, Core, CoreFault, Field, Limits, laws};
 use ipc_terms::{
-    Access, Answer, Bytes, Call, Desc, Event, Mode, Name, NoMemory, OpenFlags, QueueOpen, Rule,
-    Sid, Uid,
+    Access, Answer, Call, Desc, Event, Mode, NoMemory, OpenFlags, QueueOpen, Rule, Sid, Uid,
 };
 use std::alloc::Global;
 use std::test::Fail;
@@ -30,22 +30,14 @@ enum Asked {
     Hangup(u64),
 }
 
-fn create(alloc: Global, name: &[u8]) -> Result<Call, NoMemory> {
+fn create(alloc: Global, text: &[u8]) -> Result<Call, NoMemory> {
     Ok(Call::MqOpen(QueueOpen {
-        name: Name::new(Bytes::from_slice(alloc, name)?),
+        name: name(alloc, text)?,
         access: Access::Both,
         flags: OpenFlags::CREATE,
         mode: Mode(0o666),
         attributes: None,
     }))
-}
-
-fn send(alloc: Global, desc: u64, priority: u32, bytes: &[u8]) -> Result<Call, NoMemory> {
-    Ok(Call::MqSend {
-        desc: Desc(desc),
-        priority,
-        bytes: Bytes::from_slice(alloc, bytes)?,
-    })
 }
 
 fn receive(desc: u64) -> Call {
@@ -90,10 +82,14 @@ enum Step {
     Records(usize),
     /// The limits are the standard ones.
     Standard,
+    /// Starts again, without records.
+    New,
+    /// The events of `RUN`, one after the other, and the answers to each.
+    Run,
 }
 
 use Asked::{Create, Hangup, Hello, Interrupt, Receive, Send, Umask};
-use Step::{Decide, Post, Records, Standard, Take, Waiting};
+use Step::{Decide, New, Post, Records, Run, Standard, Take, Waiting};
 
 const ANN: Option<Sid> = Some(Sid(0));
 
@@ -111,6 +107,56 @@ fn posts(
     Ok(posted.verdict == verdict && posted.caller == caller && posted.other == other)
 }
 
+/// A start, a refusal and the mask before.
+static RUN: [Asked; 3] = [Hello(Some(1000)), Hello(None), Umask(0, 0)];
+
+fn events(alloc: Global, asked: &[Asked]) -> Result<Vec<Event>, NoMemory> {
+    let mut events = Vec::new(alloc);
+    for asked in asked {
+        events.push(event(alloc, asked)?)?;
+    }
+    Ok(events)
+}
+
+/// Whether the run's events are answered by a start, a refusal and the mask before.
+fn are_answers(given: &[Vec<(Sid, Answer)>]) -> bool {
+    let [started, refused, mask] = given else {
+        return false;
+    };
+    match (started.as_slice(), refused.as_slice(), mask.as_slice()) {
+        (
+            [(starter, Answer::Started(sid))],
+            [(nobody, Answer::Refused(rule))],
+            [(caller, Answer::Mask(before))],
+        ) => {
+            (starter.0 == 0 && sid.0 == 0)
+                && (*nobody == Sid::NOBODY && *rule == Rule::BadKey)
+                && (caller.0 == 0 && before.0 == 0o22)
+        }
+        _ => false,
+    }
+}
+
+/// Whether these are the start and the mask before.
+fn are_untaken(answers: &[Answer]) -> bool {
+    matches!(answers, [Answer::Started(Sid(0)), Answer::Mask(Mode(0o22))])
+}
+
+/// Whether a run answers each event, and what was answered to its session waits there.
+fn runs(alloc: Global, core: &mut Core) -> Result<bool, NoMemory> {
+    let events = events(alloc, &RUN)?;
+    match core.run(alloc, events) {
+        Ok(given) => Ok(are_answers(&given) && are_untaken(&core.take(Sid(0)))),
+        Err((_, fault)) => Err(fault),
+    }
+}
+
+/// Starts again, with a core of the standard limits.
+fn starts(alloc: Global, core: &mut Core) -> Result<bool, Fail> {
+    *core = Core::new(alloc, config(alloc, Limits::STANDARD)?)?;
+    Ok(true)
+}
+
 /// Does the step, and says whether it gave what it is to give.
 fn gives(alloc: Global, core: &mut Core, step: &Step) -> Result<bool, Fail> {
     Ok(match step {
@@ -122,12 +168,14 @@ fn gives(alloc: Global, core: &mut Core, step: &Step) -> Result<bool, Fail> {
         Take(sid, count) => core.take(Sid(*sid)).len() == *count,
         Records(count) => core.trail().len() == *count,
         Standard => core.config().limits == Limits::STANDARD,
+        New => starts(alloc, core)?,
+        Run => runs(alloc, core)?,
     })
 }
 
 /// Answers wait in outboxes until they are taken, once; a call that parks is answered later; what is
 /// answered to nobody, or to a session that is not live, stands nowhere.
-static STEPS: [Step; 35] = [
+static STEPS: [Step; 37] = [
     Records(0),
     Post(Hello(Some(1000)), None, ANN, None),
     Post(Hello(None), Some(Rule::BadKey), Some(Sid::NOBODY), None),
@@ -163,13 +211,15 @@ static STEPS: [Step; 35] = [
     Take(0, 1),
     Records(15),
     Standard,
+    // A run answers each event, and what was answered waits.
+    New,
+    Run,
 ];
 
-/// Does the steps in order on a new core.
-fn all_give(alloc: Global, steps: &[Step]) -> Result<(), Fail> {
-    let mut core = Core::new(alloc, config(alloc, Limits::STANDARD)?)?;
+/// Does the steps in order.
+fn all_give(alloc: Global, core: &mut Core, steps: &[Step]) -> Result<(), Fail> {
     for (row, step) in steps.iter().enumerate() {
-        if !gives(alloc, &mut core, step)? {
+        if !gives(alloc, core, step)? {
             return Err(Fail::new(format_args!("row {row} gives something else")));
         }
     }
@@ -177,69 +227,9 @@ fn all_give(alloc: Global, steps: &[Step]) -> Result<(), Fail> {
 }
 
 #[test]
-fn answers_wait_until_they_are_taken(rt: HostRuntime) -> Result<(), Fail> {
-    all_give(rt.alloc(), &STEPS)
-}
-
-fn three_events(alloc: Global) -> Result<Vec<Event>, NoMemory> {
-    let mut events = Vec::with_capacity(alloc, 3)?;
-    events.push(Event::Hello {
-        found: Some(Uid(1000)),
-    })?;
-    events.push(Event::Hello { found: None })?;
-    events.push(made(&0, Call::Umask(Mode(0))))?;
-    Ok(events)
-}
-
-/// Whether one session is answered, and this.
-fn is_told(given: &[(Sid, Answer)], sid: Sid, wanted: Answer) -> bool {
-    match given {
-        [(to, answer)] => *to == sid && *answer == wanted,
-        _ => false,
-    }
-}
-
-/// Whether the three events are answered by a start, a refusal and the mask before.
-fn are_answers(given: &[Vec<(Sid, Answer)>]) -> bool {
-    match given {
-        [started, refused, mask] => {
-            is_told(started, Sid(0), Answer::Started(Sid(0)))
-                && is_told(refused, Sid::NOBODY, Answer::Refused(Rule::BadKey))
-                && is_told(mask, Sid(0), Answer::Mask(Mode(0o22)))
-        }
-        _ => false,
-    }
-}
-
-/// Whether a run answers each of the three events, and what was answered to its session waits there.
-fn run_answers(alloc: Global) -> Result<bool, Fail> {
-    let mut core = Core::new(alloc, config(alloc, Limits::STANDARD)?)?;
-    let are_given = runs(alloc, &mut core)?;
-    Ok(are_given && are_untaken(&core.take(Sid(0))))
-}
-
-fn runs(alloc: Global, core: &mut Core) -> Result<bool, Fail> {
-    let events = three_events(alloc)?;
-    match core.run(alloc, events) {
-        Ok(given) => Ok(are_answers(&given)),
-        Err(_) => Err(Fail::new("out of memory")),
-    }
-}
-
-#[test]
-fn a_run_answers_each_event(rt: HostRuntime) -> Result<(), Fail> {
-    assert!(rt; run_answers(rt.alloc())?);
-    Ok(())
-}
-
-/// Whether these are the start and the mask before.
-fn are_untaken(answers: &[Answer]) -> bool {
-    match answers {
-        [started, mask] => {
-            *started == Answer::Started(Sid(0)) && *mask == Answer::Mask(Mode(0o22))
-        }
-        _ => false,
-    }
+fn worked_cores(rt: HostRuntime) -> Result<(), Fail> {
+    let mut core = Core::new(rt.alloc(), config(rt.alloc(), Limits::STANDARD)?)?;
+    all_give(rt.alloc(), &mut core, &STEPS)
 }
 
 /// Limits, and the field that is at fault.

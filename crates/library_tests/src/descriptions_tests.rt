@@ -11,6 +11,8 @@ const BOB: Sid = Sid(1);
 
 /// One step on the descriptions, and what it is to give.
 enum Step {
+    /// Starts again, without descriptions.
+    New,
     Open(Sid, u64, Access, bool, Desc),
     Get(Sid, Desc, Option<Row>),
     SetNonblock(Sid, Desc, bool),
@@ -24,7 +26,9 @@ enum Step {
     Opened(u64),
 }
 
-use Step::{Close, CloseAll, Count, First, Get, Holder, Open, Opened, SetNonblock, Slot, Uses};
+use Step::{
+    Close, CloseAll, Count, First, Get, Holder, New, Open, Opened, SetNonblock, Slot, Uses,
+};
 
 /// Opens. An open that is refused for want of memory is made again: it used up no number.
 fn retried_open(
@@ -54,70 +58,40 @@ fn sets(descrs: &mut Descrs, sid: Sid, desc: Desc, nonblock: bool) -> bool {
 }
 
 /// Does the step, and says whether it gave what it is to give.
-fn gives(descrs: &mut Descrs, step: &Step) -> Result<bool, Fail> {
-    Ok(match step {
-        Open(sid, object, access, nonblock, wanted) => {
-            retried_open(descrs, *sid, *object, *access, *nonblock)? == *wanted
-        }
-        Get(sid, desc, wanted) => descrs.get(*sid, *desc).copied() == *wanted,
-        SetNonblock(sid, desc, nonblock) => sets(descrs, *sid, *desc, *nonblock),
-        Close(sid, desc, wanted) => descrs.close(*sid, *desc) == *wanted,
-        CloseAll(sid) => {
-            descrs.close_all(*sid);
+fn gives(alloc: Global, descrs: &mut Descrs, step: &Step) -> Result<bool, Fail> {
+    Ok(match *step {
+        New => {
+            *descrs = Descrs::new(alloc);
             true
         }
-        First(sid, wanted) => descrs.first(*sid) == *wanted,
-        Holder(desc, wanted) => descrs.holder(*desc) == *wanted,
-        Count(sid, wanted) => descrs.count(*sid) == *wanted,
-        Uses(object, wanted) => descrs.uses(*object) == *wanted,
-        Slot(sid, desc, wanted) => descrs.slot(*sid, *desc) == *wanted,
-        Opened(wanted) => descrs.opened() == *wanted,
+        Open(sid, object, access, nonblock, wanted) => {
+            retried_open(descrs, sid, object, access, nonblock)? == wanted
+        }
+        Get(sid, desc, wanted) => descrs.get(sid, desc).copied() == wanted,
+        SetNonblock(sid, desc, nonblock) => sets(descrs, sid, desc, nonblock),
+        Close(sid, desc, wanted) => descrs.close(sid, desc) == wanted,
+        CloseAll(sid) => {
+            descrs.close_all(sid);
+            true
+        }
+        First(sid, wanted) => descrs.first(sid) == wanted,
+        Holder(desc, wanted) => descrs.holder(desc) == wanted,
+        Count(sid, wanted) => descrs.count(sid) == wanted,
+        Uses(object, wanted) => descrs.uses(object) == wanted,
+        Slot(sid, desc, wanted) => descrs.slot(sid, desc) == wanted,
+        Opened(wanted) => descrs.opened() == wanted,
     })
 }
 
-/// Does the steps in order on no descriptions.
-fn all_give(alloc: Global, steps: &[Step]) -> Result<(), Fail> {
-    let mut descrs = Descrs::new(alloc);
+/// Does the steps in order.
+fn all_give(alloc: Global, descrs: &mut Descrs, steps: &[Step]) -> Result<(), Fail> {
     for (row, step) in steps.iter().enumerate() {
-        if !gives(&mut descrs, step)? {
+        if !gives(alloc, descrs, step)? {
             return Err(Fail::new(format_args!("row {row} gives something else")));
         }
     }
     Ok(())
 }
-
-static TWO_SESSIONS: [Step; 7] = [
-    Open(ANN, 4, Access::Read, false, Desc(0)),
-    Open(BOB, 4, Access::Both, true, Desc(1)),
-    Get(BOB, Desc(0), None),
-    Uses(4, 2),
-    Holder(Desc(0), Some(ANN)),
-    Close(ANN, Desc(0), Some(4)),
-    First(BOB, Some(Desc(1))),
-];
-
-static SLOTS: [Step; 10] = [
-    Open(ANN, 1, Access::Read, false, Desc(0)),
-    Open(ANN, 2, Access::Write, false, Desc(1)),
-    Open(BOB, 1, Access::Both, false, Desc(2)),
-    Slot(ANN, Desc(0), Some(0)),
-    Close(ANN, Desc(0), Some(1)),
-    Slot(ANN, Desc(0), None),
-    Slot(ANN, Desc(1), Some(1)),
-    Slot(BOB, Desc(2), Some(2)),
-    Open(BOB, 3, Access::Read, false, Desc(3)),
-    Slot(BOB, Desc(3), Some(0)),
-];
-
-static NONE: [Step; 7] = [
-    Opened(0),
-    Get(ANN, Desc(0), None),
-    Close(ANN, Desc(0), None),
-    First(ANN, None),
-    Holder(Desc(0), None),
-    Count(ANN, 0),
-    Uses(0, 0),
-];
 
 const TO_WRITE: Row = Row {
     desc: Desc(0),
@@ -143,7 +117,39 @@ const TO_BOTH: Row = Row {
     nonblock: false,
 };
 
-static HELD_AND_CLOSED: [Step; 17] = [
+static STEPS: [Step; 58] = [
+    // No descriptions.
+    New,
+    Opened(0),
+    Get(ANN, Desc(0), None),
+    Close(ANN, Desc(0), None),
+    First(ANN, None),
+    Holder(Desc(0), None),
+    Count(ANN, 0),
+    Uses(0, 0),
+    // Of two sessions.
+    New,
+    Open(ANN, 4, Access::Read, false, Desc(0)),
+    Open(BOB, 4, Access::Both, true, Desc(1)),
+    Get(BOB, Desc(0), None),
+    Uses(4, 2),
+    Holder(Desc(0), Some(ANN)),
+    Close(ANN, Desc(0), Some(4)),
+    First(BOB, Some(Desc(1))),
+    // A closed description leaves its slot to a later one.
+    New,
+    Open(ANN, 1, Access::Read, false, Desc(0)),
+    Open(ANN, 2, Access::Write, false, Desc(1)),
+    Open(BOB, 1, Access::Both, false, Desc(2)),
+    Slot(ANN, Desc(0), Some(0)),
+    Close(ANN, Desc(0), Some(1)),
+    Slot(ANN, Desc(0), None),
+    Slot(ANN, Desc(1), Some(1)),
+    Slot(BOB, Desc(2), Some(2)),
+    Open(BOB, 3, Access::Read, false, Desc(3)),
+    Slot(BOB, Desc(3), Some(0)),
+    // Held and closed.
+    New,
     Open(BOB, 7, Access::Write, false, Desc(0)),
     Open(ANN, 7, Access::Read, true, Desc(1)),
     Open(BOB, 7, Access::Both, false, Desc(2)),
@@ -168,9 +174,8 @@ static HELD_AND_CLOSED: [Step; 17] = [
     Uses(7, 2),
     First(BOB, Some(Desc(2))),
     Opened(3),
-];
-
-static HUNG_UP: [Step; 12] = [
+    // A session hangs up.
+    New,
     Open(ANN, 5, Access::Read, false, Desc(0)),
     Open(BOB, 5, Access::Read, false, Desc(1)),
     Open(ANN, 6, Access::Read, false, Desc(2)),
@@ -187,9 +192,6 @@ static HUNG_UP: [Step; 12] = [
 
 #[test]
 fn worked_descriptions(rt: HostRuntime) -> Result<(), Fail> {
-    all_give(rt.alloc(), &NONE)?;
-    all_give(rt.alloc(), &TWO_SESSIONS)?;
-    all_give(rt.alloc(), &SLOTS)?;
-    all_give(rt.alloc(), &HELD_AND_CLOSED)?;
-    all_give(rt.alloc(), &HUNG_UP)
+    let mut descrs = Descrs::new(rt.alloc());
+    all_give(rt.alloc(), &mut descrs, &STEPS)
 }

@@ -8,6 +8,8 @@ mod core_tests;
 #[cfg(test)]
 mod descriptions_tests;
 #[cfg(test)]
+mod fault_tests;
+#[cfg(test)]
 mod made;
 #[cfg(test)]
 mod names_tests;

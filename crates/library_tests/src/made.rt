@@ -1,12 +1,21 @@
-//! Names that tests make and show, and the texts of faults.
+//! Names and calls that tests make, and the texts of faults.
 
-use ipc_terms::{Bytes, Name, NoMemory};
+use ipc_terms::{Bytes, Call, Desc, Name, Names, NoMemory};
 use std::alloc::Global;
 use std::fmt::Display;
 use std::test::Fail;
 
-pub(crate) fn name(alloc: Global, text: &str) -> Result<Name, NoMemory> {
-    Ok(Name::new(Bytes::from_slice(alloc, text.as_bytes())?))
+pub(crate) fn name(alloc: Global, text: &[u8]) -> Result<Name, NoMemory> {
+    Ok(Name::new(Bytes::from_slice(alloc, text)?))
+}
+
+/// A list of these names.
+pub(crate) fn names(alloc: Global, texts: &[&[u8]]) -> Result<Names, NoMemory> {
+    let mut listed = Vec::new(alloc);
+    for text in texts {
+        listed.push(name(alloc, text)?)?;
+    }
+    Ok(Names::new(listed))
 }
 
 /// The names, one after the other.
@@ -16,6 +25,19 @@ pub(crate) fn joined(alloc: Global, names: &[Name]) -> Result<Vec<u8>, NoMemory>
         shown.extend_from_slice(name.as_slice())?;
     }
     Ok(shown)
+}
+
+pub(crate) fn send(
+    alloc: Global,
+    desc: u64,
+    priority: u32,
+    bytes: &[u8],
+) -> Result<Call, NoMemory> {
+    Ok(Call::MqSend {
+        desc: Desc(desc),
+        priority,
+        bytes: Bytes::from_slice(alloc, bytes)?,
+    })
 }
 
 /// Whether the value is shown as this text.

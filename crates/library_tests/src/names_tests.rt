@@ -9,6 +9,8 @@ use std::test::Fail;
 
 /// One step on a directory, and what it is to give.
 enum Step {
+    /// Starts again, with an empty directory of the family.
+    New(Family),
     /// Binds a name that is unbound.
     Bind(&'static str, u64),
     Unbind(&'static str, Option<u64>),
@@ -22,7 +24,7 @@ enum Step {
     Facts(u32, u32, u16),
 }
 
-use Step::{Bind, Facts, Get, List, NamesObject, SetMode, SetOwner, Unbind};
+use Step::{Bind, Facts, Get, List, NamesObject, New, SetMode, SetOwner, Unbind};
 
 /// Binds the name, and says whether it was unbound.
 fn binds(directory: &mut NameDir, added: Name, object: u64) -> Result<bool, NoMemory> {
@@ -61,45 +63,50 @@ fn unbinds(
     text: &str,
     wanted: Option<u64>,
 ) -> Result<bool, NoMemory> {
-    let meant = name(alloc, text)?;
+    let meant = name(alloc, text.as_bytes())?;
     Ok(directory.unbind(&meant) == wanted)
 }
 
 /// Does the step, and says whether it gave what it is to give.
 fn gives(alloc: Global, directory: &mut NameDir, step: &Step) -> Result<bool, NoMemory> {
-    Ok(match step {
-        Bind(text, object) => binds(directory, name(alloc, text)?, *object)?,
-        Unbind(text, wanted) => unbinds(alloc, directory, text, *wanted)?,
-        Get(text, wanted) => directory.get(&name(alloc, text)?) == *wanted,
-        NamesObject(object, wanted) => directory.names_object(*object) == *wanted,
-        List(start, count, wanted) => lists(alloc, directory, *start, *count, wanted)?,
+    Ok(match *step {
+        New(family) => starts(alloc, directory, family),
+        Bind(text, object) => binds(directory, name(alloc, text.as_bytes())?, object)?,
+        Unbind(text, wanted) => unbinds(alloc, directory, text, wanted)?,
+        Get(text, wanted) => directory.get(&name(alloc, text.as_bytes())?) == wanted,
+        NamesObject(object, wanted) => directory.names_object(object) == wanted,
+        List(start, count, wanted) => lists(alloc, directory, start, count, wanted)?,
         SetMode(mode) => {
-            directory.set_mode(Mode(*mode));
+            directory.set_mode(Mode(mode));
             true
         }
         SetOwner(owner, group) => {
-            directory.set_owner(Uid(*owner), Gid(*group));
+            directory.set_owner(Uid(owner), Gid(group));
             true
         }
-        Facts(owner, group, mode) => has_facts(directory, *owner, *group, *mode),
+        Facts(owner, group, mode) => has_facts(directory, owner, group, mode),
     })
 }
 
-/// Does the steps in order on an empty directory of the family.
-fn all_give(alloc: Global, family: Family, steps: &[Step]) -> Result<(), Fail> {
-    let mut directory = NameDir::new(alloc, family);
-    if directory.family() != family {
-        return Err(Fail::new("another family"));
-    }
+/// Starts again, and says whether the directory is of the family.
+fn starts(alloc: Global, directory: &mut NameDir, family: Family) -> bool {
+    *directory = NameDir::new(alloc, family);
+    directory.family() == family
+}
+
+/// Does the steps in order.
+fn all_give(alloc: Global, directory: &mut NameDir, steps: &[Step]) -> Result<(), Fail> {
     for (row, step) in steps.iter().enumerate() {
-        if !gives(alloc, &mut directory, step)? {
+        if !gives(alloc, directory, step)? {
             return Err(Fail::new(format_args!("row {row} gives something else")));
         }
     }
     Ok(())
 }
 
-static BOUND_AND_BOUND_AGAIN: [Step; 18] = [
+static STEPS: [Step; 41] = [
+    // Names are listed in the order in which they were bound.
+    New(Family::Mq),
     List(0, 10, ""),
     Bind("/b", 7),
     Bind("/a", 8),
@@ -118,9 +125,8 @@ static BOUND_AND_BOUND_AGAIN: [Step; 18] = [
     Unbind("/b", None),
     Bind("/b", 9),
     List(0, 10, "/a/b"),
-];
-
-static PAGES: [Step; 13] = [
+    // Pages.
+    New(Family::Sem),
     Bind("/d", 0),
     Bind("/c", 1),
     Bind("/b", 2),
@@ -134,9 +140,8 @@ static PAGES: [Step; 13] = [
     List(4, 1, ""),
     List(5, 1, ""),
     List(u32::MAX, u16::MAX, ""),
-];
-
-static FACTS: [Step; 7] = [
+    // Facts.
+    New(Family::Mq),
     Bind("/a", 8),
     Facts(0, 0, 0o1777),
     SetMode(0o755),
@@ -148,9 +153,8 @@ static FACTS: [Step; 7] = [
 
 #[test]
 fn worked_directories(rt: HostRuntime) -> Result<(), Fail> {
-    all_give(rt.alloc(), Family::Mq, &BOUND_AND_BOUND_AGAIN)?;
-    all_give(rt.alloc(), Family::Sem, &PAGES)?;
-    all_give(rt.alloc(), Family::Mq, &FACTS)
+    let mut directory = NameDir::new(rt.alloc(), Family::Mq);
+    all_give(rt.alloc(), &mut directory, &STEPS)
 }
 
 /// What has the form of a name, and what hasn't.

@@ -27,16 +27,18 @@ enum Step {
     OneKind,
     /// Sends so many messages, to a queue that isn't full before.
     Fill(u64),
-    /// Four messages by their places and priorities, which fill a queue of four, and the places in the
-    /// order in which they come out.
-    ComeOut(&'static [(u64, u32)], &'static [u64]),
+    /// Messages by their places and priorities, which all enter.
+    Enter(&'static [(u64, u32)]),
+    /// The places in the order in which they come out, as `next` says of each before.
+    ComeOut(&'static [u64]),
 }
 
 use Step::{
-    ComeOut, Fill, Full, Length, New, Next, OneKind, Receive, Receiver, Send, Sender, Withdraw,
+    ComeOut, Enter, Fill, Full, Length, New, Next, OneKind, Receive, Receiver, Send, Sender,
+    Withdraw,
 };
 
-static STEPS: [Step; 118] = [
+static STEPS: [Step; 142] = [
     // Nothing is in an empty queue.
     New(2),
     Length(0),
@@ -150,17 +152,38 @@ static STEPS: [Step; 118] = [
     Receive(BOB, ReceiveOutcome::Took(1)),
     Receive(BOB, ReceiveOutcome::Took(5)),
     // The greatest priority comes out first, and of one priority the oldest.
-    ComeOut(&[(3, 1), (4, 5), (5, 5), (6, 0)], &[4, 5, 3, 6]),
-    ComeOut(&[(0, 0), (1, 1), (2, 2), (3, 3)], &[3, 2, 1, 0]),
-    ComeOut(&[(0, 3), (1, 2), (2, 1), (3, 0)], &[0, 1, 2, 3]),
-    ComeOut(&[(7, 4), (8, 4), (9, 4), (10, 4)], &[7, 8, 9, 10]),
-    ComeOut(&[(1, 0), (2, 9), (3, 0), (4, 9)], &[2, 4, 1, 3]),
-    ComeOut(
-        &[(0, 32_766), (1, 32_767), (2, 0), (3, 32_767)],
-        &[1, 3, 0, 2],
-    ),
-    ComeOut(&[(9, 2), (8, 2), (7, 3), (6, 3)], &[7, 6, 9, 8]),
-    ComeOut(&[(5, 0), (5, 1), (5, 1), (5, 0)], &[5, 5, 5, 5]),
+    New(4),
+    Enter(&[(3, 1), (4, 5), (5, 5), (6, 0)]),
+    Full(true),
+    ComeOut(&[4, 5, 3, 6]),
+    New(4),
+    Enter(&[(0, 0), (1, 1), (2, 2), (3, 3)]),
+    Full(true),
+    ComeOut(&[3, 2, 1, 0]),
+    New(4),
+    Enter(&[(0, 3), (1, 2), (2, 1), (3, 0)]),
+    Full(true),
+    ComeOut(&[0, 1, 2, 3]),
+    New(4),
+    Enter(&[(7, 4), (8, 4), (9, 4), (10, 4)]),
+    Full(true),
+    ComeOut(&[7, 8, 9, 10]),
+    New(4),
+    Enter(&[(1, 0), (2, 9), (3, 0), (4, 9)]),
+    Full(true),
+    ComeOut(&[2, 4, 1, 3]),
+    New(4),
+    Enter(&[(0, 32_766), (1, 32_767), (2, 0), (3, 32_767)]),
+    Full(true),
+    ComeOut(&[1, 3, 0, 2]),
+    New(4),
+    Enter(&[(9, 2), (8, 2), (7, 3), (6, 3)]),
+    Full(true),
+    ComeOut(&[7, 6, 9, 8]),
+    New(4),
+    Enter(&[(5, 0), (5, 1), (5, 1), (5, 0)]),
+    Full(true),
+    ComeOut(&[5, 5, 5, 5]),
     // A queue of 1,000 fills at the last.
     New(1_000),
     Fill(1_000),
@@ -173,22 +196,23 @@ static STEPS: [Step; 118] = [
 
 /// Does the step, and says whether it gave what it is to give.
 fn gives(alloc: Global, queue: &mut Queue, step: &Step) -> Result<bool, NoMemory> {
-    Ok(match step {
-        New(maxmsg) => starts(alloc, queue, *maxmsg),
-        Send(place, priority, who, wanted) => queue.send(*place, *priority, *who)? == *wanted,
-        Receive(who, wanted) => queue.receive(*who)? == *wanted,
-        Withdraw(who, wanted) => queue.withdraw(*who) == *wanted,
-        Length(wanted) => queue.len() == *wanted,
-        Full(wanted) => queue.is_full() == *wanted,
-        Next(wanted) => queue.next() == *wanted,
-        Receiver(wanted) => queue.receiver() == *wanted,
-        Sender(wanted) => queue.sender() == *wanted,
+    Ok(match *step {
+        New(maxmsg) => starts(alloc, queue, maxmsg),
+        Send(place, priority, who, wanted) => queue.send(place, priority, who)? == wanted,
+        Receive(who, wanted) => queue.receive(who)? == wanted,
+        Withdraw(who, wanted) => queue.withdraw(who) == wanted,
+        Length(wanted) => queue.len() == wanted,
+        Full(wanted) => queue.is_full() == wanted,
+        Next(wanted) => queue.next() == wanted,
+        Receiver(wanted) => queue.receiver() == wanted,
+        Sender(wanted) => queue.sender() == wanted,
         OneKind => {
             queue.parks_one_kind();
             true
         }
-        Fill(count) => fills(queue, *count)?,
-        ComeOut(messages, order) => come_out(alloc, messages, order)?,
+        Fill(count) => fills(queue, count)?,
+        Enter(messages) => enter(queue, messages)?,
+        ComeOut(places) => come_out(queue, places)?,
     })
 }
 
@@ -210,17 +234,17 @@ fn fills(queue: &mut Queue, count: u64) -> Result<bool, NoMemory> {
     Ok(true)
 }
 
-fn come_out(alloc: Global, messages: &[(u64, u32)], order: &[u64]) -> Result<bool, NoMemory> {
-    let mut queue = Queue::new(alloc, 4, 8);
+fn enter(queue: &mut Queue, messages: &[(u64, u32)]) -> Result<bool, NoMemory> {
     for (place, priority) in messages {
         if queue.send(*place, *priority, ANN)? != SendOutcome::Queued {
             return Ok(false);
         }
     }
-    if !queue.is_full() {
-        return Ok(false);
-    }
-    for place in order {
+    Ok(true)
+}
+
+fn come_out(queue: &mut Queue, places: &[u64]) -> Result<bool, NoMemory> {
+    for place in places {
         if queue.next() != Some(*place) || queue.receive(BOB)? != ReceiveOutcome::Took(*place) {
             return Ok(false);
         }
@@ -229,10 +253,9 @@ fn come_out(alloc: Global, messages: &[(u64, u32)], order: &[u64]) -> Result<boo
 }
 
 /// Does the steps in order.
-fn all_give(alloc: Global, steps: &[Step]) -> Result<(), Fail> {
-    let mut queue = Queue::new(alloc, 1, 8);
+fn all_give(alloc: Global, queue: &mut Queue, steps: &[Step]) -> Result<(), Fail> {
     for (row, step) in steps.iter().enumerate() {
-        if !gives(alloc, &mut queue, step)? {
+        if !gives(alloc, queue, step)? {
             return Err(Fail::new(format_args!("row {row} gives something else")));
         }
     }
@@ -241,5 +264,6 @@ fn all_give(alloc: Global, steps: &[Step]) -> Result<(), Fail> {
 
 #[test]
 fn worked_queues(rt: HostRuntime) -> Result<(), Fail> {
-    all_give(rt.alloc(), &STEPS)
+    let mut queue = Queue::new(rt.alloc(), 1, 8);
+    all_give(rt.alloc(), &mut queue, &STEPS)
 }

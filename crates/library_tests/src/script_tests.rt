@@ -1,7 +1,6 @@
 //! What no script shows: readers and writers that fail, the longest line, and when answers are
 //! written.
 
-use crate::made::shows;
 use ipc_access::UserFault;
 use ipc_core::{Field, Limits};
 use ipc_script::{ScriptFault, run_script};
@@ -10,54 +9,6 @@ use std::cell::Cell;
 use std::io;
 use std::io::{ErrorKind, Read, Write};
 use std::test::Fail;
-
-static FAULTS: [(ScriptFault, &str, u8); 8] = [
-    (
-        ScriptFault::Users(UserFault::BadLine(2)),
-        "users BadLine 2",
-        3,
-    ),
-    (ScriptFault::Users(UserFault::TooMany), "users TooMany", 3),
-    (ScriptFault::Config(Field::MsgMax), "config MsgMax", 3),
-    (ScriptFault::Config(Field::QueuesMax), "config QueuesMax", 3),
-    (ScriptFault::Read, "read", 4),
-    (ScriptFault::Write, "write", 4),
-    (ScriptFault::Memory, "memory", 5),
-    (ScriptFault::Line(7), "line 7", 6),
-];
-
-#[test]
-fn faults_have_words_and_statuses(rt: HostRuntime) -> Result<(), Fail> {
-    for (fault, words, status) in &FAULTS {
-        shows(rt.alloc(), fault, words)?;
-        if fault.status() != *status {
-            return Err(Fail::new(format_args!("{words} has another status")));
-        }
-    }
-    Ok(())
-}
-
-/// Whether a run over memory, with a limit that is out of its range, ends by this fault.
-fn ends_by(alloc: Global, input: &[u8], wanted: ScriptFault) -> bool {
-    let limits = Limits {
-        msg_max: 0,
-        ..Limits::STANDARD
-    };
-    let mut output = Vec::new(alloc);
-    run_script(alloc, limits, input, &mut output) == Err(wanted)
-}
-
-#[test]
-fn limits_are_tested_after_users(rt: HostRuntime) {
-    assert!(rt; ends_by(rt.alloc(), b".\n", ScriptFault::Config(Field::MsgMax)));
-    assert!(rt;
-        ends_by(
-            rt.alloc(),
-            b"bad\n.\n",
-            ScriptFault::Users(UserFault::BadLine(1))
-        )
-    );
-}
 
 /// A script whose fourth line is a comment of so many bytes, what it writes, and how it ends.
 static LONG_LINES: [(usize, &str, Result<(), ScriptFault>); 3] = [
@@ -75,17 +26,36 @@ fn script_with_comment(alloc: Global, length: usize) -> Result<Vec<u8>, AllocErr
 }
 
 /// Whether a run over the script writes this and ends so.
-fn runs(alloc: Global, script: &[u8], written: &str, outcome: Result<(), ScriptFault>) -> bool {
+fn runs(
+    alloc: Global,
+    limits: Limits,
+    script: &[u8],
+    written: &str,
+    outcome: Result<(), ScriptFault>,
+) -> bool {
     let mut output = Vec::new(alloc);
-    run_script(alloc, Limits::STANDARD, script, &mut output) == outcome
+    run_script(alloc, limits, script, &mut output) == outcome
         && output.as_slice() == written.as_bytes()
+}
+
+const NO_MESSAGES: Limits = Limits {
+    msg_max: 0,
+    ..Limits::STANDARD
+};
+
+#[test]
+fn limits_are_tested_after_users(rt: HostRuntime) {
+    let bad_limit = Err(ScriptFault::Config(Field::MsgMax));
+    assert!(rt; runs(rt.alloc(), NO_MESSAGES, b".\n", "", bad_limit));
+    let bad_line = Err(ScriptFault::Users(UserFault::BadLine(1)));
+    assert!(rt; runs(rt.alloc(), NO_MESSAGES, b"bad\n.\n", "", bad_line));
 }
 
 #[test]
 fn a_line_has_at_most_1_048_576_bytes(rt: HostRuntime) -> Result<(), Fail> {
     for (length, written, outcome) in &LONG_LINES {
         let script = script_with_comment(rt.alloc(), *length)?;
-        if !runs(rt.alloc(), &script, written, *outcome) {
+        if !runs(rt.alloc(), Limits::STANDARD, &script, written, *outcome) {
             return Err(Fail::new(format_args!("with {length}")));
         }
     }
@@ -117,15 +87,17 @@ impl Read for FailingReader<'_> {
     }
 }
 
-/// A writer to memory of a few bytes at a time, of which one write fails.
+/// A writer to memory of a few bytes at a time, of which one write fails, and which shows at a flush how
+/// many bytes were written.
 #[derive(Drop)]
-struct FailingWriter {
+struct Output<'a> {
     written: Vec<u8>,
     writes: u64,
     fails_at: u64,
+    shown: &'a Cell<usize>,
 }
 
-impl Write for FailingWriter {
+impl Write for Output<'_> {
     fn write(&mut self, buffer: &[u8]) -> io::Result<usize> {
         self.writes = self.writes.saturating_add(1);
         if self.writes == self.fails_at {
@@ -136,6 +108,7 @@ impl Write for FailingWriter {
     }
 
     fn flush(&mut self) -> io::Result<()> {
+        self.shown.set(self.written.len());
         Ok(())
     }
 }
@@ -168,45 +141,34 @@ fn is_whole(
     }
 }
 
-#[test]
-fn each_read_fails_once(rt: HostRuntime) -> Result<(), Fail> {
-    // 54 bytes by sevens, and the read that finds the end.
-    for fails_at in 1..=12u64 {
-        let is_whole = read_with_failure(rt.alloc(), fails_at, ErrorKind::UnexpectedEof)?;
-        if is_whole != (fails_at > 9) {
-            return Err(Fail::new(format_args!("at {fails_at}")));
-        }
-    }
-    Ok(())
-}
-
-#[test]
-fn a_read_that_is_interrupted_is_made_again(rt: HostRuntime) -> Result<(), Fail> {
-    for fails_at in 1..=12u64 {
-        if !read_with_failure(rt.alloc(), fails_at, ErrorKind::Interrupted)? {
-            return Err(Fail::new(format_args!("at {fails_at}")));
-        }
-    }
-    Ok(())
-}
-
-/// Runs the script by a writer whose write of this number fails; by a failing one a part is written,
-/// or all in the end.
-fn write_with_failure(alloc: Global, fails_at: u64) -> Result<bool, Fail> {
-    let mut writer = FailingWriter {
+/// Runs over the script with a writer whose write of this number fails. An `Ok` has written all, and an
+/// `Err` a part.
+fn write_with_failure(alloc: Global, script: &[u8], fails_at: u64) -> Result<bool, Fail> {
+    let shown = Cell::new(0);
+    let mut output = Output {
         written: Vec::new(alloc),
         writes: 0,
         fails_at,
+        shown: &shown,
     };
-    let outcome = run_script(alloc, Limits::STANDARD, SCRIPT.as_bytes(), &mut writer);
-    is_whole(outcome, ScriptFault::Write, &writer.written)
+    let outcome = run_script(alloc, Limits::STANDARD, script, &mut output);
+    is_whole(outcome, ScriptFault::Write, &output.written)
+}
+
+/// By a read or a write of this number that fails, a part is written, or all where no such one is made. A
+/// read that is interrupted is made again.
+fn fails_once(alloc: Global, fails_at: u64) -> Result<bool, Fail> {
+    let reads = read_with_failure(alloc, fails_at, ErrorKind::UnexpectedEof)?;
+    let interrupted = read_with_failure(alloc, fails_at, ErrorKind::Interrupted)?;
+    let writes = write_with_failure(alloc, SCRIPT.as_bytes(), fails_at)?;
+    // 54 bytes by sevens, and the read that finds the end; one block of 38 bytes by fives.
+    Ok(reads == (fails_at > 9) && interrupted && writes == (fails_at > 8))
 }
 
 #[test]
-fn each_write_fails_once(rt: HostRuntime) -> Result<(), Fail> {
-    // One block of 38 bytes by fives.
+fn each_read_and_write_fails_once(rt: HostRuntime) -> Result<(), Fail> {
     for fails_at in 1..=12u64 {
-        if write_with_failure(rt.alloc(), fails_at)? != (fails_at > 8) {
+        if !fails_once(rt.alloc(), fails_at)? {
             return Err(Fail::new(format_args!("at {fails_at}")));
         }
     }
@@ -215,15 +177,10 @@ fn each_write_fails_once(rt: HostRuntime) -> Result<(), Fail> {
 
 /// Where the writer fails, what it lost was answered before the line that is at fault.
 #[test]
-fn a_writer_s_fault_comes_before_a_later_line_s(rt: HostRuntime) {
-    let mut writer = FailingWriter {
-        written: Vec::new(rt.alloc()),
-        writes: 0,
-        fails_at: 1,
-    };
-    let input = b"ann:ka1:1000:1000::\n.\na hello ka1\n\xff\n".as_slice();
-    let outcome = run_script(rt.alloc(), Limits::STANDARD, input, &mut writer);
-    assert!(rt; outcome == Err(ScriptFault::Write));
+fn a_writer_s_fault_comes_before_a_later_line_s(rt: HostRuntime) -> Result<(), Fail> {
+    let script = b"ann:ka1:1000:1000::\n.\na hello ka1\n\xff\n".as_slice();
+    assert!(rt; !write_with_failure(rt.alloc(), script, 1)?);
+    Ok(())
 }
 
 /// What a person types, each with the answers to the lines that it ends; the first two are the user
@@ -239,25 +196,6 @@ static TYPED: [(&str, &str); 9] = [
     ("ask 022\na umask", "a mask 027\n"),
     ("\n", "a fault usage\n"),
 ];
-
-/// What was written and flushed, as a number of bytes.
-#[derive(Drop)]
-struct Screen<'a> {
-    written: usize,
-    shown: &'a Cell<usize>,
-}
-
-impl Write for Screen<'_> {
-    fn write(&mut self, buffer: &[u8]) -> io::Result<usize> {
-        self.written = self.written.saturating_add(buffer.len());
-        Ok(buffer.len())
-    }
-
-    fn flush(&mut self) -> io::Result<()> {
-        self.shown.set(self.written);
-        Ok(())
-    }
-}
 
 /// A reader of what is typed, which fails where an answer to an earlier line isn't shown yet.
 #[derive(Drop)]
@@ -289,8 +227,10 @@ fn answers_are_shown_before_more_is_read(rt: HostRuntime) {
         due: 0,
         shown: &shown,
     };
-    let screen = Screen {
-        written: 0,
+    let screen = Output {
+        written: Vec::new(rt.alloc()),
+        writes: 0,
+        fails_at: 0,
         shown: &shown,
     };
     let outcome = run_script(rt.alloc(), Limits::STANDARD, person, screen);

@@ -83,14 +83,14 @@ static STEPS: [Step; 46] = [
 
 /// Does the step, and says whether it gave what it is to give.
 fn gives(alloc: Global, semaphore: &mut Sem, step: &Step) -> Result<bool, NoMemory> {
-    Ok(match step {
-        New(value) => starts(alloc, semaphore, *value),
-        Post(wanted) => semaphore.post() == *wanted,
-        Wait(who, wanted) => semaphore.wait(*who)? == *wanted,
-        TryWait(wanted) => semaphore.try_wait() == *wanted,
-        Withdraw(who, wanted) => semaphore.withdraw(*who) == *wanted,
-        Value(wanted) => semaphore.value() == *wanted,
-        Waiter(wanted) => semaphore.waiter() == *wanted,
+    Ok(match *step {
+        New(value) => starts(alloc, semaphore, value),
+        Post(wanted) => semaphore.post() == wanted,
+        Wait(who, wanted) => semaphore.wait(who)? == wanted,
+        TryWait(wanted) => semaphore.try_wait() == wanted,
+        Withdraw(who, wanted) => semaphore.withdraw(who) == wanted,
+        Value(wanted) => semaphore.value() == wanted,
+        Waiter(wanted) => semaphore.waiter() == wanted,
         AtZero => {
             semaphore.parks_at_zero();
             true
@@ -107,10 +107,9 @@ fn starts(alloc: Global, semaphore: &mut Sem, value: u32) -> bool {
 }
 
 /// Does the steps in order.
-fn all_give(alloc: Global, steps: &[Step]) -> Result<(), Fail> {
-    let mut semaphore = Sem::new(alloc, 0);
+fn all_give(alloc: Global, semaphore: &mut Sem, steps: &[Step]) -> Result<(), Fail> {
     for (row, step) in steps.iter().enumerate() {
-        if !gives(alloc, &mut semaphore, step)? {
+        if !gives(alloc, semaphore, step)? {
             return Err(Fail::new(format_args!("row {row} gives something else")));
         }
     }
@@ -119,5 +118,6 @@ fn all_give(alloc: Global, steps: &[Step]) -> Result<(), Fail> {
 
 #[test]
 fn worked_semaphores(rt: HostRuntime) -> Result<(), Fail> {
-    all_give(rt.alloc(), &STEPS)
+    let mut semaphore = Sem::new(rt.alloc(), 0);
+    all_give(rt.alloc(), &mut semaphore, &STEPS)
 }

@@ -1,6 +1,6 @@
 //! Bytes, names, flags and rules.
 
-use crate::made::{joined, name};
+use crate::made::{joined, name, names};
 use bitflags::Flags;
 use ipc_terms::{Bytes, Names, NoMemory, OpenFlags, Rule, push_within};
 use std::alloc::Global;
@@ -15,15 +15,15 @@ fn keeps_bytes(alloc: Global, text: &str) -> Result<bool, NoMemory> {
 
 /// Whether a copy of the name is equal to it, and its bytes come back as they went in.
 fn keeps_name(alloc: Global, text: &str) -> Result<bool, NoMemory> {
-    let made = name(alloc, text)?;
+    let made = name(alloc, text.as_bytes())?;
     let copy = made.try_clone()?;
     Ok(made.is(&copy) && made.as_slice() == copy.into_bytes().as_slice())
 }
 
 /// Whether both are the same, on which names and their bytes are to agree.
 fn same(alloc: Global, one: &str, other: &str) -> Result<Option<bool>, NoMemory> {
-    let one = name(alloc, one)?;
-    let other = name(alloc, other)?;
+    let one = name(alloc, one.as_bytes())?;
+    let other = name(alloc, other.as_bytes())?;
     let alike = one.is(&other);
     Ok(
         ((one == other) == alike && (one.into_bytes() == other.into_bytes()) == alike).then_some(
@@ -52,32 +52,28 @@ fn bytes_and_names_are_kept_and_compared(rt: HostRuntime) -> Result<(), Fail> {
     Ok(())
 }
 
-/// A list of these two names.
-fn names(alloc: Global, first: &str, second: &str) -> Result<Names, NoMemory> {
-    let mut names = Vec::with_capacity(alloc, 2)?;
-    names.push(name(alloc, first)?)?;
-    names.push(name(alloc, second)?)?;
-    Ok(Names::new(names))
-}
-
 /// Whether the lists of these names are equal.
-fn are_equal(alloc: Global, one: (&str, &str), other: (&str, &str)) -> Result<bool, NoMemory> {
-    let one = names(alloc, one.0, one.1)?;
-    let other = names(alloc, other.0, other.1)?;
+fn are_equal(alloc: Global, one: &[&[u8]], other: &[&[u8]]) -> Result<bool, NoMemory> {
+    let one = names(alloc, one)?;
+    let other = names(alloc, other)?;
     Ok(one == other)
 }
 
-fn come_back(alloc: Global, first: &str, second: &str, wanted: &[u8]) -> Result<bool, NoMemory> {
-    let listed = names(alloc, first, second)?;
+/// Whether the list gives its names in order, and gives them back so.
+fn come_back(alloc: Global, listed: &[&[u8]], wanted: &[u8]) -> Result<bool, NoMemory> {
+    let listed = names(alloc, listed)?;
     let is_shown = joined(alloc, listed.as_slice())?.as_slice() == wanted;
     Ok(joined(alloc, &listed.into_vec())?.as_slice() == wanted && is_shown)
 }
 
+static DOWN: [&[u8]; 2] = [b"/b", b"/a"];
+
+static UP: [&[u8]; 2] = [b"/a", b"/b"];
+
 #[test]
 fn lists_of_names_are_their_names_in_order(rt: HostRuntime) -> Result<(), Fail> {
-    assert!(rt; are_equal(rt.alloc(), ("/b", "/a"), ("/b", "/a"))?);
-    assert!(rt; !are_equal(rt.alloc(), ("/b", "/a"), ("/a", "/b"))?);
-    assert!(rt; come_back(rt.alloc(), "/b", "/a", b"/b/a")?);
+    assert!(rt; are_equal(rt.alloc(), &DOWN, &DOWN)? && !are_equal(rt.alloc(), &DOWN, &UP)?);
+    assert!(rt; come_back(rt.alloc(), &DOWN, b"/b/a")?);
     Ok(())
 }
 
@@ -110,7 +106,8 @@ static FLAGS: [(u8, bool, bool, bool); 5] = [
 ];
 
 #[test]
-fn flags_are_bits(_rt: HostRuntime) -> Result<(), Fail> {
+fn flags_are_bits(rt: HostRuntime) -> Result<(), Fail> {
+    assert!(rt; (OpenFlags::CREATE | OpenFlags::NONBLOCK).bits() == 5);
     for (bits, creates, exclusive, nonblock) in &FLAGS {
         let flags = OpenFlags::from_bits_retain(*bits);
         if flags.creates() != *creates
@@ -121,11 +118,6 @@ fn flags_are_bits(_rt: HostRuntime) -> Result<(), Fail> {
         }
     }
     Ok(())
-}
-
-#[test]
-fn flags_join(rt: HostRuntime) {
-    assert!(rt; (OpenFlags::CREATE | OpenFlags::NONBLOCK).bits() == 5);
 }
 
 #[test]

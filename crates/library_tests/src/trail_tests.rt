@@ -1,6 +1,7 @@
 //! Trails: what was pushed stands at its place, and a send's message with it.
 
-use ipc_terms::{Bytes, Call, Desc, Event, NoMemory, Record, Rule, Sid, Uid};
+use crate::made::send;
+use ipc_terms::{Call, Event, NoMemory, Record, Rule, Sid, Uid};
 use ipc_trail::Trail;
 use std::alloc::Global;
 use std::test::Fail;
@@ -15,17 +16,6 @@ enum Pushed {
 
 use Pushed::{Hello, Send};
 
-fn send(alloc: Global, priority: u32, bytes: &[u8]) -> Result<Event, NoMemory> {
-    Ok(Event::Do {
-        sid: Sid(0),
-        call: Call::MqSend {
-            desc: Desc(0),
-            priority,
-            bytes: Bytes::from_slice(alloc, bytes)?,
-        },
-    })
-}
-
 /// The record: session 0 acts, by description 0.
 fn made(alloc: Global, pushed: &Pushed) -> Result<Record, NoMemory> {
     Ok(match pushed {
@@ -36,7 +26,10 @@ fn made(alloc: Global, pushed: &Pushed) -> Result<Record, NoMemory> {
             rule: None,
         },
         Send(priority, bytes, rule) => Record {
-            event: send(alloc, *priority, bytes)?,
+            event: Event::Do {
+                sid: Sid(0),
+                call: send(alloc, 0, *priority, bytes)?,
+            },
             rule: *rule,
         },
     })

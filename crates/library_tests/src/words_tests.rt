@@ -1,6 +1,6 @@
 //! Words and the calls that they mean; answers and their lines.
 
-use crate::made::shows;
+use crate::made::names;
 use bitflags::Flags;
 use ipc_rules::EVERY_RULE;
 use ipc_terms::{
@@ -12,7 +12,7 @@ use std::alloc::Global;
 use std::test::Fail;
 
 /// What words must mean.
-#[derive(Clone, Copy)]
+#[derive(Drop)]
 enum Meaning {
     Usage,
     BadValue(&'static str),
@@ -163,6 +163,13 @@ fn all_mean(alloc: Global, rows: &[Row]) -> Result<(), Fail> {
 /// Words with a space between them, and what they mean.
 type Row = (&'static str, Meaning);
 
+/// The flags of an open.
+const CREATE: u8 = 1;
+
+const EXCLUSIVE: u8 = 2;
+
+const NONBLOCK: u8 = 4;
+
 static CALLS: [Row; 38] = [
     ("umask 0", Umask(0)),
     ("umask 22", Umask(0o22)),
@@ -217,12 +224,28 @@ static CALLS: [Row; 38] = [
     ("mq-unlink mq-unlink", Unlink(b"mq-unlink")),
 ];
 
-/// The flags of an open.
-const CREATE: u8 = 1;
-
-const EXCLUSIVE: u8 = 2;
-
-const NONBLOCK: u8 = 4;
+static SEMAPHORES: [Row; 14] = [
+    ("sem-open /a", SemOpen(b"/a", 0, 0o600, 0)),
+    ("sem-open /a --create", SemOpen(b"/a", CREATE, 0o600, 0)),
+    ("sem-open /a --excl", SemOpen(b"/a", EXCLUSIVE, 0o600, 0)),
+    (
+        "sem-open --value 2147483648 /a --mode 0666 --create",
+        SemOpen(b"/a", CREATE, 0o666, 2_147_483_648),
+    ),
+    (
+        "sem-open hex:2f2d --excl --create --value 4294967295",
+        SemOpen(b"/-", CREATE + EXCLUSIVE, 0o600, u32::MAX),
+    ),
+    ("sem-close 0", SemClose(0)),
+    ("sem-unlink /a", SemUnlink(b"/a")),
+    ("sem-post 18446744073709551615", SemPost(u64::MAX)),
+    ("sem-wait 17", SemWait(17)),
+    ("sem-trywait 1", SemTryWait(1)),
+    ("sem-getvalue 2", SemGetvalue(2)),
+    ("sem-open /a --nonblock", Usage),
+    ("sem-open /a --value 4294967296 --mode 8", BadValue("mode")),
+    ("sem-open /a --value 4294967296", BadValue("value")),
+];
 
 static OPENS: [Row; 11] = [
     (
@@ -275,34 +298,49 @@ static OPENS: [Row; 11] = [
     ),
 ];
 
-static SEMAPHORES: [Row; 14] = [
-    ("sem-open /a", SemOpen(b"/a", 0, 0o600, 0)),
-    ("sem-open /a --create", SemOpen(b"/a", CREATE, 0o600, 0)),
-    ("sem-open /a --excl", SemOpen(b"/a", EXCLUSIVE, 0o600, 0)),
-    (
-        "sem-open --value 2147483648 /a --mode 0666 --create",
-        SemOpen(b"/a", CREATE, 0o666, 2_147_483_648),
-    ),
-    (
-        "sem-open hex:2f2d --excl --create --value 4294967295",
-        SemOpen(b"/-", CREATE + EXCLUSIVE, 0o600, u32::MAX),
-    ),
-    ("sem-close 0", SemClose(0)),
-    ("sem-unlink /a", SemUnlink(b"/a")),
-    ("sem-post 18446744073709551615", SemPost(u64::MAX)),
-    ("sem-wait 17", SemWait(17)),
-    ("sem-trywait 1", SemTryWait(1)),
-    ("sem-getvalue 2", SemGetvalue(2)),
-    ("sem-open /a --nonblock", Usage),
-    ("sem-open /a --value 4294967296 --mode 8", BadValue("mode")),
-    ("sem-open /a --value 4294967296", BadValue("value")),
-];
-
 #[test]
 fn commands_mean_their_calls(rt: HostRuntime) -> Result<(), Fail> {
     all_mean(rt.alloc(), &CALLS)?;
     all_mean(rt.alloc(), &SEMAPHORES)?;
     all_mean(rt.alloc(), &OPENS)
+}
+
+/// Of several values that don't read, the first in the command's order is named.
+static FIRST_UNREAD: [Row; 20] = [
+    (
+        "mq-open hex:2 x --msgsize x --maxmsg x --mode x",
+        BadValue("name"),
+    ),
+    (
+        "mq-open /a x --msgsize x --maxmsg x --mode x",
+        BadValue("access"),
+    ),
+    (
+        "mq-open /a r --msgsize x --maxmsg x --mode x",
+        BadValue("mode"),
+    ),
+    ("mq-open /a r --msgsize x --maxmsg x", BadValue("maxmsg")),
+    ("mq-open /a r --msgsize x", BadValue("msgsize")),
+    ("mq-open /a r --msgsize 1", BadValue("attributes")),
+    ("mq-open /a r --maxmsg 1", BadValue("attributes")),
+    ("mq-open /a x --maxmsg 1", BadValue("access")),
+    ("mq-open /a r --maxmsg 1 --mode 8", BadValue("mode")),
+    ("mq-send x x hex:2", BadValue("d")),
+    ("mq-send 0 x hex:2", BadValue("prio")),
+    ("mq-send 0 0 hex:2", BadValue("bytes")),
+    ("mq-receive x x", BadValue("d")),
+    ("mq-receive 0 x", BadValue("len")),
+    ("mq-setattr x x", BadValue("d")),
+    ("ls x x x", BadValue("family")),
+    ("ls mq x x", BadValue("start")),
+    ("ls mq 0 x", BadValue("count")),
+    ("stat x hex:2", BadValue("family")),
+    ("stat mq hex:2", BadValue("name")),
+];
+
+#[test]
+fn the_first_value_that_does_not_read_is_named(rt: HostRuntime) -> Result<(), Fail> {
+    all_mean(rt.alloc(), &FIRST_UNREAD)
 }
 
 /// A word that begins with a hyphen and is no option.
@@ -524,51 +562,6 @@ fn values_that_do_not_read_are_named(rt: HostRuntime) -> Result<(), Fail> {
     Ok(())
 }
 
-/// Of several values that don't read, the first in the command's order is named.
-static FIRST_UNREAD: [Row; 20] = [
-    (
-        "mq-open hex:2 x --msgsize x --maxmsg x --mode x",
-        BadValue("name"),
-    ),
-    (
-        "mq-open /a x --msgsize x --maxmsg x --mode x",
-        BadValue("access"),
-    ),
-    (
-        "mq-open /a r --msgsize x --maxmsg x --mode x",
-        BadValue("mode"),
-    ),
-    ("mq-open /a r --msgsize x --maxmsg x", BadValue("maxmsg")),
-    ("mq-open /a r --msgsize x", BadValue("msgsize")),
-    ("mq-open /a r --msgsize 1", BadValue("attributes")),
-    ("mq-open /a r --maxmsg 1", BadValue("attributes")),
-    ("mq-open /a x --maxmsg 1", BadValue("access")),
-    ("mq-open /a r --maxmsg 1 --mode 8", BadValue("mode")),
-    ("mq-send x x hex:2", BadValue("d")),
-    ("mq-send 0 x hex:2", BadValue("prio")),
-    ("mq-send 0 0 hex:2", BadValue("bytes")),
-    ("mq-receive x x", BadValue("d")),
-    ("mq-receive 0 x", BadValue("len")),
-    ("mq-setattr x x", BadValue("d")),
-    ("ls x x x", BadValue("family")),
-    ("ls mq x x", BadValue("start")),
-    ("ls mq 0 x", BadValue("count")),
-    ("stat x hex:2", BadValue("family")),
-    ("stat mq hex:2", BadValue("name")),
-];
-
-#[test]
-fn the_first_value_that_does_not_read_is_named(rt: HostRuntime) -> Result<(), Fail> {
-    all_mean(rt.alloc(), &FIRST_UNREAD)
-}
-
-#[test]
-fn faults_are_shown(rt: HostRuntime) -> Result<(), Fail> {
-    shows(rt.alloc(), &WordFault::Usage, "usage")?;
-    shows(rt.alloc(), &WordFault::BadValue("access"), "value access")?;
-    shows(rt.alloc(), &WordFault::NoMemory, "memory")
-}
-
 /// An answer, without memory of its own.
 enum Said {
     Started(u64),
@@ -605,7 +598,7 @@ fn answer_of(alloc: Global, said: &Said) -> Result<Answer, NoMemory> {
             messages: *messages,
         },
         Said::Value(value) => Answer::Value(*value),
-        Said::Listed(names) => Answer::Names(names_of(alloc, names)?),
+        Said::Listed(texts) => Answer::Names(names(alloc, texts)?),
         Said::Facts(owner, group, mode) => Answer::Stat(Facts {
             owner: Uid(*owner),
             group: Gid(*group),
@@ -614,14 +607,6 @@ fn answer_of(alloc: Global, said: &Said) -> Result<Answer, NoMemory> {
         Said::Refused(rule) => Answer::Refused(*rule),
         Said::Interrupted => Answer::Interrupted,
     })
-}
-
-fn names_of(alloc: Global, names: &[&[u8]]) -> Result<Names, NoMemory> {
-    let mut listed = Vec::new(alloc);
-    for name in names {
-        listed.push(Name::new(Bytes::from_slice(alloc, name)?))?;
-    }
-    Ok(Names::new(listed))
 }
 
 static LINES: [(Said, &str); 47] = [
@@ -690,20 +675,16 @@ static LINES: [(Said, &str); 47] = [
     (Said::Refused(Rule::Sticky), "refused 17 EACCES Sticky"),
 ];
 
-fn has_line(alloc: Global, said: &Said, line: &str) -> Result<bool, Fail> {
+fn has_line(alloc: Global, (said, line): &(Said, &str)) -> Result<bool, Fail> {
     let answer = answer_of(alloc, said)?;
-    Ok(line_of_answer(alloc, &answer)?.as_str() == line)
+    Ok(line_of_answer(alloc, &answer)?.as_str() == *line)
 }
 
 #[test]
 fn answers_have_lines(rt: HostRuntime) -> Result<(), Fail> {
-    all_have_lines(rt.alloc(), &LINES)
-}
-
-fn all_have_lines(alloc: Global, rows: &[(Said, &str)]) -> Result<(), Fail> {
-    for (said, line) in rows {
-        if !has_line(alloc, said, line)? {
-            return Err(Fail::new(format_args!("no line {line}")));
+    for (row, shown) in LINES.iter().enumerate() {
+        if !has_line(rt.alloc(), shown)? {
+            return Err(Fail::new(format_args!("row {row} has another line")));
         }
     }
     Ok(())

@@ -15,7 +15,7 @@ unreachable-requires c =
     number_there _ (not_bad_held c.args.config.now c.args.past.now.history c.args.sid.0 Sem c.args.desc.0 (call_free _ _ c.args.sid (SemPost c.args.desc) Sem c.args.desc refl refl c.requires.accepted).held) none
 
 pub post-requires-clause-room : goal.post-requires-clause-room
-post-requires-clause-room c = post_room c.args.config.now c.args.past.now.history c.args.tables.now c.args.sid c.args.desc c.in-Some.object c.requires.core.agrees c.requires.accepted (semaphore_here c.args.config.now c.args.past.now.history c.args.tables.now c.args.sid.0 c.args.desc.0 c.in-Some.object c.requires.core.agrees (call_free _ _ c.args.sid (SemPost c.args.desc) Sem c.args.desc refl refl c.requires.accepted) (sym (c.object_number.ensures ∙ number_is c.args.config.now c.args.past.now.history c.args.tables.now c.args.sid.0 c.args.desc.0 c.requires.core.agrees) ∙ c.in-Some.is))
+post-requires-clause-room c = post_room c.args.config.now c.args.past.now.history c.args.tables.now c.args.sid c.args.desc c.in-Some.object c.requires.core.legal c.requires.core.agrees c.requires.accepted (semaphore_here c.args.config.now c.args.past.now.history c.args.tables.now c.args.sid.0 c.args.desc.0 c.in-Some.object c.requires.core.agrees (call_free _ _ c.args.sid (SemPost c.args.desc) Sem c.args.desc refl refl c.requires.accepted) (sym (c.object_number.ensures ∙ number_is c.args.config.now c.args.past.now.history c.args.tables.now c.args.sid.0 c.args.desc.0 c.requires.core.agrees) ∙ c.in-Some.is))
 
 pub post-requires-clause-waiter : goal.post-requires-clause-waiter
 post-requires-clause-waiter c = waiter_is c.args.config.now c.args.past.now.history c.args.tables.now c.args.sid.0 c.args.desc.0 c.in-Some.object c.requires.core.legal c.requires.core.agrees (semaphore_here c.args.config.now c.args.past.now.history c.args.tables.now c.args.sid.0 c.args.desc.0 c.in-Some.object c.requires.core.agrees (call_free _ _ c.args.sid (SemPost c.args.desc) Sem c.args.desc refl refl c.requires.accepted) (sym (c.object_number.ensures ∙ number_is c.args.config.now c.args.past.now.history c.args.tables.now c.args.sid.0 c.args.desc.0 c.requires.core.agrees) ∙ c.in-Some.is))

@@ -8,10 +8,10 @@ use Rattle.ipc_state.proofs.states.State.waiter_held.Goals as goal
 
 pub returns-in_err-semaphore : goal.returns-in_err-semaphore
 returns-in_err-semaphore c =
-    let semaphore = sym (ap option_copied c.in_err-semaphore.was) ∙ c.semaphore_held.ensures in
+    let semaphore = sym (ap option_copied c.in_err-semaphore.was) ∙ c.semaphore_held.ensures.found in
     c.from_residual.ensures ∙ ap (option_and_then (λ (q : Counter). first q.waiters)) semaphore ∙ held_waiter _ _ c.args.sid.0 c.args.desc.0
 
 pub returns : goal.returns
 returns c =
-    let semaphore = sym (ap option_copied c.in_ok-semaphore.was) ∙ c.semaphore_held.ensures in
+    let semaphore = sym (ap option_copied c.in_ok-semaphore.was) ∙ c.semaphore_held.ensures.found in
     c.waiter.ensures ∙ ap (option_and_then (λ (q : Counter). first q.waiters)) semaphore ∙ held_waiter _ _ c.args.sid.0 c.args.desc.0

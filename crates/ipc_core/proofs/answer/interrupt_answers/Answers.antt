@@ -1,0 +1,5 @@
+use Rattle.std.proofs.Common.{rules}
+use Rattle.ipc_core.proofs.answer.interrupt_answers.Goals as goal
+
+pub returns : goal.returns
+returns c = search rules
