@@ -3,3 +3,4 @@ pub mod Users
 pub mod UserLine
 pub mod UserFile
 pub mod Sticky
+pub mod Ownership

@@ -5,6 +5,7 @@ mod class;
 mod fault;
 mod file;
 mod line;
+mod ownership;
 mod removal;
 mod users;
 
@@ -12,5 +13,6 @@ pub use class::{Class, Cred, Groups, class_of, grants};
 pub use fault::UserFault;
 /// A directory's owner, group and mode.
 pub use ipc_terms::Facts as DirFacts;
+pub use ownership::{may_chmod, may_chown};
 pub use removal::may_remove;
 pub use users::{User, Users};

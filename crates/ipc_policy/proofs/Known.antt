@@ -1,7 +1,7 @@
 -- What holds of every history, or of every legal one.
 use Rattle.std.proofs.Common.{◌≡◌, ℕ, ◌+◌, ◌<◌, ◌≤◌, ◌%◌, Bool, true, false, not, ◌&&◌, eqb, List, [], ◌∷◌, ◌++◌, length, cond, Option, Some, None, is_some, is_none, refl, sym, ap, ◌∙◌, arith}
 use Rattle.std.specs.Prelude.{unwrap_or, option_and_then}
-use Rattle.std.specs.Option.{option_or, option_map, option_flatten}
+use Rattle.std.specs.Option.{option_or, option_flatten}
 use Rattle.std.proofs.lemmas.Bool.{eqb-true, and_parts}
 use Rattle.std.proofs.lemmas.Slice.Eq.{bytes_eq-Decides}
 use Rattle.ipc_terms.specs.Flags.{has_create}
@@ -17,12 +17,11 @@ use Rattle.ipc_access.specs.Users.{cred_of}
 use Rattle.ipc_policy.specs.declared.config.Config.{Config}
 use Rattle.ipc_terms.specs.declared.object.Object.{Object}
 use Rattle.ipc_policy.specs.History.{History, newest, kept, unended, how_many}
-use Rattle.ipc_policy.specs.Sessions.{hellos, is_hello, begins, hangs_up, user, live, cred, mask, sets_mask}
+use Rattle.ipc_policy.specs.Sessions.{hellos, is_hello, begins, hangs_up, user, live, mask, sets_mask}
 use Rattle.ipc_policy.specs.Names.{queue_opening, semaphore_opening, Opening, opening, asks_name, unlinks, is_bound, leaves_bound, creation, creations, binds, bound, creating}
-use Rattle.ipc_policy.specs.Objects.{creation_of, makes, sets_first, object, facts}
+use Rattle.ipc_policy.specs.Objects.{makes, object}
 use Rattle.ipc_policy.specs.Descriptions.{opens}
 use Rattle.ipc_policy.specs.Verdict.{verdict, Legal, answers, after_event, after_events, all_answers}
-use Rattle.ipc_policy.proofs.Facts.{facts_first}
 use Rattle.ipc_policy.proofs.Unforbidden.{hello_known, caller_live}
 use Rattle.ipc_policy.proofs.Holding.{kept_all, kept_some}
 
@@ -107,29 +106,6 @@ pub object_below : (c : Config) (h : History) (o : ℕ) → is_some (object c h 
 unfolding object
 object_below c [] o k = absurd cc
 object_below c (r ∷ h) o k = object_more c h o (object_below c h o) r.event r.rule k
-
--- what an object is and who may do what with it are known together
-newest_alike : {A B : Type 0} (f : Event → History → Option A) (g : Event → History → Option B) (h : History) → ((e : Event) (before : History) → is_some (f e before) ≡ is_some (g e before)) → is_some (newest f h) ≡ is_some (newest g h)
-newest_alike f g [] same = refl
-newest_alike {A = A} {B = B} f g (r ∷ h) same = at (is_none r.rule) (f r.event h) (g r.event h) (same r.event h) (newest_alike f g h same) where
-  at : (b : Bool) (v : Option A) (w : Option B) → is_some v ≡ is_some w → is_some (newest f h) ≡ is_some (newest g h) → is_some (option_or (cond b v None) (newest f h)) ≡ is_some (option_or (cond b w None) (newest g h))
-  at false v w e rest = rest
-  at true None None e rest = rest
-  at true None (Some y) e rest = absurd cc
-  at true (Some x) None e rest = absurd cc
-  at true (Some x) (Some y) e rest = refl
-
-mapped_alike : {A B X : Type 0} (f : X → A) (g : X → B) (w : Option X) → is_some (option_map f w) ≡ is_some (option_map g w)
-mapped_alike f g None = refl
-mapped_alike f g (Some x) = refl
-
-then_alike : {A B X : Type 0} (f : X → Option A) (g : X → Option B) (w : Option X) → ((x : X) → is_some (f x) ≡ is_some (g x)) → is_some (option_and_then f w) ≡ is_some (option_and_then g w)
-then_alike f g None same = refl
-then_alike f g (Some x) same = same x
-
-pub object_with_facts : (c : Config) (h : History) (o : ℕ) → is_some (object c h o) ≡ is_some (facts c h o)
-unfolding object
-object_with_facts c h o = newest_alike (makes c o) (sets_first c o) h (λ e before. then_alike _ _ (creation_of o e before) (λ asked. mapped_alike _ _ (cred c before asked.session.0))) ∙ ap is_some (sym (facts_first c h o))
 
 -- a mask has nine bits
 mask_more : (before : History) (s : ℕ) → mask before s < 512 → (e : Event) (o : Option Rule) → mask (record { event = e; rule = o } ∷ before) s < 512

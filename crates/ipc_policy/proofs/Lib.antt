@@ -33,3 +33,4 @@ pub mod Refused
 pub mod Bindings
 pub mod WaitSteps
 pub mod OpenAccepted
+pub mod HeldRights

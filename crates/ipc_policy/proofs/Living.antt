@@ -8,7 +8,7 @@ use Rattle.ipc_terms.specs.declared.binding.Binding.{Binding}
 use Rattle.ipc_terms.specs.declared.ids.Family.{Family}
 use Rattle.ipc_terms.specs.declared.ids.Family.TheVariants.{Mq, Sem}
 use Rattle.ipc_terms.specs.declared.rule.Rule.{Rule}
-use Rattle.ipc_terms.specs.declared.call.Call.TheVariants.{Umask, MqOpen, MqClose, MqSend, MqReceive, MqGetattr, MqSetattr, MqUnlink, SemOpen, SemClose, SemUnlink, SemPost, SemWait, SemTryWait, SemGetvalue, ListNames, StatName, Interrupt}
+use Rattle.ipc_terms.specs.declared.call.Call.TheVariants.{Umask, MqOpen, MqClose, MqSend, MqReceive, MqGetattr, MqSetattr, MqUnlink, SemOpen, SemClose, SemUnlink, SemPost, SemWait, SemTryWait, SemGetvalue, ListNames, StatName, Chmod, Chown, Interrupt}
 use Rattle.ipc_terms.specs.declared.record.Event.{Event}
 use Rattle.ipc_terms.specs.declared.record.Event.TheVariants.{Hello, Do, Hangup}
 use Rattle.ipc_policy.specs.History.{History, kept, unended, listed, gathered_below, any_below}
@@ -153,6 +153,8 @@ bindings_grow h (Do sid (SemTryWait desc)) f = bindings_quiet h (Do sid (SemTryW
 bindings_grow h (Do sid (SemGetvalue desc)) f = bindings_quiet h (Do sid (SemGetvalue desc)) f refl (λ o. kept_all (named h o))
 bindings_grow h (Do sid (ListNames family start count)) f = bindings_quiet h (Do sid (ListNames family start count)) f refl (λ o. kept_all (named h o))
 bindings_grow h (Do sid (StatName target)) f = bindings_quiet h (Do sid (StatName target)) f refl (λ o. kept_all (named h o))
+bindings_grow h (Do sid (Chmod mode target)) f = bindings_quiet h (Do sid (Chmod mode target)) f refl (λ o. kept_all (named h o))
+bindings_grow h (Do sid (Chown owner group target)) f = bindings_quiet h (Do sid (Chown owner group target)) f refl (λ o. kept_all (named h o))
 bindings_grow h (Do sid Interrupt) f = bindings_quiet h (Do sid Interrupt) f refl (λ o. kept_all (named h o))
 bindings_grow h (Hangup sid) f = bindings_quiet h (Hangup sid) f refl (λ o. kept_all (named h o))
 
@@ -188,6 +190,8 @@ names_grow h (Do sid (SemTryWait desc)) f = ap (map (λ (b : Binding). b.name)) 
 names_grow h (Do sid (SemGetvalue desc)) f = ap (map (λ (b : Binding). b.name)) (bindings_grow h (Do sid (SemGetvalue desc)) f)
 names_grow h (Do sid (ListNames family start count)) f = ap (map (λ (b : Binding). b.name)) (bindings_grow h (Do sid (ListNames family start count)) f)
 names_grow h (Do sid (StatName target)) f = ap (map (λ (b : Binding). b.name)) (bindings_grow h (Do sid (StatName target)) f)
+names_grow h (Do sid (Chmod mode target)) f = ap (map (λ (b : Binding). b.name)) (bindings_grow h (Do sid (Chmod mode target)) f)
+names_grow h (Do sid (Chown owner group target)) f = ap (map (λ (b : Binding). b.name)) (bindings_grow h (Do sid (Chown owner group target)) f)
 names_grow h (Do sid Interrupt) f = ap (map (λ (b : Binding). b.name)) (bindings_grow h (Do sid Interrupt) f)
 names_grow h (Hangup sid) f = ap (map (λ (b : Binding). b.name)) (bindings_grow h (Hangup sid) f)
 

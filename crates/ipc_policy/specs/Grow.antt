@@ -1,21 +1,26 @@
 -- What one accepted event does to each value, by the values before it alone.
-use Rattle.std.specs.Prelude.{◌≡◌, Bool, false, ℕ, ◌+◌, ◌-◌, ◌%◌, ◌&&◌, ◌||◌, ◌==◌, not, List, [], ◌∷◌, ◌++◌, length, filter, Option, Some, None, is_some, if◌then◌else◌}
+use Rattle.std.specs.Prelude.{◌≡◌, Bool, false, ℕ, ◌+◌, ◌-◌, ◌%◌, ◌&&◌, ◌||◌, ◌==◌, not, List, [], ◌∷◌, ◌++◌, length, filter, Option, Some, None, is_some, if◌then◌else◌, unwrap_or}
 use Rattle.std.specs.Option.{option_or, option_map}
 use Rattle.ipc_terms.specs.Flags.{has_create}
 use Rattle.ipc_terms.specs.Names.{same_family, same_name}
 use Rattle.ipc_terms.specs.Objects.{value_asked}
 use Rattle.ipc_terms.specs.declared.binding.Binding.{Binding}
 use Rattle.ipc_terms.specs.declared.ids.Uid.{Uid}
+use Rattle.ipc_terms.specs.declared.ids.Gid.{Gid}
+use Rattle.ipc_terms.specs.declared.ids.Mode.{Mode}
+use Rattle.ipc_terms.specs.declared.ids.Target.{Target}
 use Rattle.ipc_terms.specs.declared.ids.Family.{Family}
 use Rattle.ipc_terms.specs.declared.call.Call.TheVariants.{Umask, MqClose, MqSetattr, SemClose}
 use Rattle.ipc_terms.specs.declared.record.Event.{Event}
 use Rattle.ipc_terms.specs.declared.record.Event.TheVariants.{Hello, Do, Hangup}
+use Rattle.ipc_terms.specs.declared.facts.Facts.{Facts}
+use Rattle.ipc_access.specs.declared.class.Cred.{Cred}
 use Rattle.ipc_policy.specs.declared.config.Config.{Config}
 use Rattle.ipc_policy.specs.declared.config.Held.{Held}
 use Rattle.ipc_policy.specs.History.{History, after_accepted, kept, any_below}
 use Rattle.ipc_policy.specs.Sessions.{hellos, user, live, cred, mask}
 use Rattle.ipc_policy.specs.Names.{Opening, Naming, opening, nonblock_asked, unlinking, unlinks, asks_name, is_bound, creations, bound}
-use Rattle.ipc_policy.specs.Objects.{without_mask, object, owner, group, mode, facts, directory, made_by, first_facts}
+use Rattle.ipc_policy.specs.Objects.{without_mask, object, owner, group, mode, facts, together, directory, made_by, owner_given, group_given, mode_given, means_object, means_directory, object_bits, directory_bits}
 use Rattle.ipc_policy.specs.Descriptions.{opened_by, held_as, opens, held, holds, held_count, is_nonblock, ends_held}
 use Rattle.ipc_policy.specs.Life.{named, bindings, names, alive, gives_object}
 pub use Rattle.ipc_policy.specs.Queues.{act_by}
@@ -70,6 +75,27 @@ made_after {A = A} o e is_bound creations make was = by_open (opening e) where
   by_open : Option Opening → Option A
   by_open None = was
   by_open (Some asked) = if is_new asked is_bound && (creations == o) then option_or (make asked) was else was
+
+-- what a chown gives where it means object o, else what the open that creates it gives, else what it had
+abbrev pub owner_after : ℕ → Event → (Family → List ℕ → Option ℕ) → (Family → List ℕ → Bool) → ℕ → (ℕ → Option Cred) → Option Uid → Option Uid
+owner_after o e bound is_bound creations cred was =
+    option_or (owner_given (means_object bound o) e) (made_after o e is_bound creations (λ asked. option_map (λ who. who.uid) (cred asked.session.0)) was)
+
+abbrev pub group_after : ℕ → Event → (Family → List ℕ → Option ℕ) → (Family → List ℕ → Bool) → ℕ → (ℕ → Option Cred) → Option Gid → Option Gid
+group_after o e bound is_bound creations cred was =
+    option_or (group_given (means_object bound o) e) (made_after o e is_bound creations (λ asked. option_map (λ who. who.gid) (cred asked.session.0)) was)
+
+-- and so the mode, by a chmod
+abbrev pub mode_after : ℕ → Event → (Family → List ℕ → Option ℕ) → (Family → List ℕ → Bool) → ℕ → (ℕ → Option Cred) → (ℕ → ℕ) → Option Mode → Option Mode
+mode_after o e bound is_bound creations cred mask was =
+    option_or (option_map object_bits (mode_given (means_object bound o) e)) (made_after o e is_bound creations (λ asked. option_map (λ who. without_mask asked.mode (mask asked.session.0)) (cred asked.session.0)) was)
+
+-- what a chmod or a chown makes of what it means; anything else it leaves
+abbrev pub facts_changed : (Target → Bool) → (Mode → Mode) → Event → Facts → Facts
+facts_changed meant bits e was = record { owner = unwrap_or (owner_given meant e) was.owner; group = unwrap_or (group_given meant e) was.group; mode = unwrap_or (option_map bits (mode_given meant e)) was.mode }
+
+abbrev pub directory_after : Family → Event → Facts → Facts
+directory_after f e was = facts_changed (means_directory f) directory_bits e was
 
 abbrev pub opens_after : Event → ℕ → ℕ
 opens_after e was = by_open (opening e) where
@@ -152,11 +178,11 @@ pub record Grows (c : Config) (h k : History) (e : Event) : Type 0 where
   pub creation_count : creations k ≡ creations_after e (is_bound h) (creations h)
   pub object_named : (f : Family) (name : List ℕ) → bound k f name ≡ bound_after f name e (is_bound h) (creations h) (bound h f name)
   pub object_of : (o : ℕ) → object c k o ≡ made_after o e (is_bound h) (creations h) (λ asked. option_map (made_by c asked) (cred c h asked.session.0)) (object c h o)
-  pub owner_of : (o : ℕ) → owner c k o ≡ made_after o e (is_bound h) (creations h) (λ asked. option_map (λ who. who.uid) (cred c h asked.session.0)) (owner c h o)
-  pub group_of : (o : ℕ) → group c k o ≡ made_after o e (is_bound h) (creations h) (λ asked. option_map (λ who. who.gid) (cred c h asked.session.0)) (group c h o)
-  pub mode_of : (o : ℕ) → mode c k o ≡ made_after o e (is_bound h) (creations h) (λ asked. option_map (λ who. without_mask asked.mode (mask h asked.session.0)) (cred c h asked.session.0)) (mode c h o)
-  pub facts_of : (o : ℕ) → facts c k o ≡ made_after o e (is_bound h) (creations h) (λ asked. option_map (first_facts asked (mask h asked.session.0)) (cred c h asked.session.0)) (facts c h o)
-  pub directory_of : (f : Family) → directory k f ≡ directory h f
+  pub owner_of : (o : ℕ) → owner c k o ≡ owner_after o e (bound h) (is_bound h) (creations h) (cred c h) (owner c h o)
+  pub group_of : (o : ℕ) → group c k o ≡ group_after o e (bound h) (is_bound h) (creations h) (cred c h) (group c h o)
+  pub mode_of : (o : ℕ) → mode c k o ≡ mode_after o e (bound h) (is_bound h) (creations h) (cred c h) (mask h) (mode c h o)
+  pub facts_of : (o : ℕ) → facts c k o ≡ together (owner_after o e (bound h) (is_bound h) (creations h) (cred c h) (owner c h o)) (group_after o e (bound h) (is_bound h) (creations h) (cred c h) (group c h o)) (mode_after o e (bound h) (is_bound h) (creations h) (cred c h) (mask h) (mode c h o))
+  pub directory_of : (f : Family) → directory k f ≡ directory_after f e (directory h f)
   pub open_count : opens k ≡ opens_after e (opens h)
   pub held_by : (d : ℕ) → held k d ≡ held_after d e (opens h) (bound h) (creations h) (held h d)
   pub count_of : (s : ℕ) → held_count k s ≡ held_count_after s e (bound h) (creations h) (holds h) (held_count h s)

@@ -12,3 +12,4 @@ pub mod Verdict
 pub mod Readings
 pub mod Laws
 pub mod Grow
+pub mod Rights

@@ -12,7 +12,7 @@ use Rattle.ipc_terms.specs.declared.call.Access.{Access}
 use Rattle.ipc_terms.specs.declared.call.Access.TheVariants.{Both}
 use Rattle.ipc_terms.specs.declared.call.QueueOpen.{QueueOpen}
 use Rattle.ipc_terms.specs.declared.call.SemaphoreOpen.{SemaphoreOpen}
-use Rattle.ipc_terms.specs.declared.call.Call.TheVariants.{MqOpen, MqUnlink, SemOpen, SemUnlink, StatName}
+use Rattle.ipc_terms.specs.declared.call.Call.TheVariants.{MqOpen, MqUnlink, SemOpen, SemUnlink, StatName, Chmod, Chown}
 use Rattle.ipc_terms.specs.declared.object.Asked.{Asked}
 use Rattle.ipc_terms.specs.declared.object.Asked.TheVariants.{Queue, Semaphore}
 use Rattle.ipc_terms.specs.declared.record.Event.{Event}
@@ -60,13 +60,15 @@ unlinking (Do sid (MqUnlink name)) = Some (record { session = sid; family = Mq; 
 unlinking (Do sid (SemUnlink name)) = Some (record { session = sid; family = Sem; name = name })
 unlinking _ = None
 
--- what a named call names, if the event is one: an open, an unlink, or a stat of a name
+-- what a named call names, if the event is one: an open, an unlink, or a stat, a chmod or a chown of a name
 abbrev pub naming : Event → Option Naming
 naming (Do sid (MqOpen asked)) = Some (record { session = sid; family = Mq; name = asked.name })
 naming (Do sid (MqUnlink name)) = Some (record { session = sid; family = Mq; name = name })
 naming (Do sid (SemOpen asked)) = Some (record { session = sid; family = Sem; name = asked.name })
 naming (Do sid (SemUnlink name)) = Some (record { session = sid; family = Sem; name = name })
 naming (Do sid (StatName (Name family name))) = Some (record { session = sid; family = family; name = name })
+naming (Do sid (Chmod mode (Name family name))) = Some (record { session = sid; family = family; name = name })
+naming (Do sid (Chown owner group (Name family name))) = Some (record { session = sid; family = family; name = name })
 naming _ = None
 
 -- the event is an unlink of this name of this family

@@ -1,23 +1,29 @@
--- What an object keeps from its creation on, and what decides who may do what with it.
-use Rattle.std.specs.Prelude.{ℕ, ◌%◌, ◌-◌, ◌==◌, min, Option, Some, None, if◌then◌else◌, unwrap_or, option_and_then, bit_and}
-use Rattle.std.specs.Option.{option_map}
+-- What an object keeps from its creation on, and what decides who may do what with it: its owner, its group and its
+-- mode, each given by the newest event that gives it.
+use Rattle.std.specs.Prelude.{Bool, false, ℕ, ◌%◌, ◌-◌, ◌==◌, min, List, Option, Some, None, if◌then◌else◌, unwrap_or, option_and_then, bit_and}
+use Rattle.std.specs.Option.{option_or, option_map}
+use Rattle.ipc_terms.specs.Names.{same_family}
 use Rattle.ipc_terms.specs.declared.ids.Uid.{Uid}
 use Rattle.ipc_terms.specs.declared.ids.Gid.{Gid}
 use Rattle.ipc_terms.specs.declared.ids.Mode.{Mode}
 use Rattle.ipc_terms.specs.declared.ids.Family.{Family}
+use Rattle.ipc_terms.specs.declared.ids.Target.{Target}
+use Rattle.ipc_terms.specs.declared.ids.Target.TheVariants.{Dir, Name}
 use Rattle.ipc_terms.specs.declared.call.Attributes.{Attributes}
+use Rattle.ipc_terms.specs.declared.call.Call.TheVariants.{Chmod, Chown}
 use Rattle.ipc_terms.specs.declared.object.Object.{Object}
 use Rattle.ipc_terms.specs.declared.object.Kind.{Kind}
 use Rattle.ipc_terms.specs.declared.object.Kind.TheVariants.{Queue, Semaphore}
 use Rattle.ipc_terms.specs.declared.object.Asked.{Asked}
 use Rattle.ipc_terms.specs.declared.object.Asked.TheVariants.{Queue as AskedQueue, Semaphore as AskedSemaphore}
 use Rattle.ipc_terms.specs.declared.record.Event.{Event}
+use Rattle.ipc_terms.specs.declared.record.Event.TheVariants.{Do}
 use Rattle.ipc_access.specs.declared.class.Cred.{Cred}
 use Rattle.ipc_policy.specs.declared.config.Config.{Config}
 use Rattle.ipc_terms.specs.declared.facts.Facts.{Facts}
-use Rattle.ipc_policy.specs.History.{History, newest}
+use Rattle.ipc_policy.specs.History.{History, newest, there_is}
 use Rattle.ipc_policy.specs.Sessions.{cred, mask}
-use Rattle.ipc_policy.specs.Names.{Opening, creation, creations}
+use Rattle.ipc_policy.specs.Names.{Opening, creation, creations, bound}
 
 -- the open that creates object o
 abbrev pub creation_of : ℕ → Event → History → Option Opening
@@ -57,15 +63,46 @@ first_facts asked mask' who = record { owner = who.uid; group = who.gid; mode = 
 abbrev pub sets_first : Config → ℕ → Event → History → Option Facts
 sets_first c o e before = option_and_then (λ asked. option_map (first_facts asked (mask before asked.session.0)) (cred c before asked.session.0)) (creation_of o e before)
 
--- what sets the owner of object o, its group, and its mode: its creation
+-- the owner, the group and the mode that an event gives to what is meant; a chown that keeps the owner or the group says
+-- nothing of it
+abbrev pub owner_given : (Target → Bool) → Event → Option Uid
+owner_given meant (Do sid (Chown owner group target)) = if meant target then owner else None
+owner_given meant _ = None
+
+abbrev pub group_given : (Target → Bool) → Event → Option Gid
+group_given meant (Do sid (Chown owner group target)) = if meant target then group else None
+group_given meant _ = None
+
+abbrev pub mode_given : (Target → Bool) → Event → Option Mode
+mode_given meant (Do sid (Chmod mode target)) = if meant target then Some mode else None
+mode_given meant _ = None
+
+-- the target is a name that is bound to object o, by what the names are bound to
+abbrev pub means_object : (Family → List ℕ → Option ℕ) → ℕ → Target → Bool
+means_object bound o (Dir family) = false
+means_object bound o (Name family name) = there_is (λ n. n == o) (bound family name)
+
+-- the target is the directory of the family
+abbrev pub means_directory : Family → Target → Bool
+means_directory family (Dir f) = same_family f family
+means_directory family (Name f name) = false
+
+-- an object takes octal 0777 of a mode, a directory octal 01777
+abbrev pub object_bits : Mode → Mode
+object_bits mode = record { 0 = mode.0 % 512 }
+
+abbrev pub directory_bits : Mode → Mode
+directory_bits mode = record { 0 = mode.0 % 1024 }
+
+-- what sets the owner of object o, its group, and its mode: its creation, and a change of a name that is bound to it then
 abbrev pub sets_owner : Config → ℕ → Event → History → Option Uid
-sets_owner c o e before = option_map (λ at. at.owner) (sets_first c o e before)
+sets_owner c o e before = option_or (owner_given (means_object (bound before) o) e) (option_map (λ at. at.owner) (sets_first c o e before))
 
 abbrev pub sets_group : Config → ℕ → Event → History → Option Gid
-sets_group c o e before = option_map (λ at. at.group) (sets_first c o e before)
+sets_group c o e before = option_or (group_given (means_object (bound before) o) e) (option_map (λ at. at.group) (sets_first c o e before))
 
 abbrev pub sets_mode : Config → ℕ → Event → History → Option Mode
-sets_mode c o e before = option_map (λ at. at.mode) (sets_first c o e before)
+sets_mode c o e before = option_or (option_map object_bits (mode_given (means_object (bound before) o) e)) (option_map (λ at. at.mode) (sets_first c o e before))
 
 -- the owner of object o
 unfoldable pub owner : Config → History → ℕ → Option Uid
@@ -88,15 +125,15 @@ together _ _ _ = None
 unfoldable pub facts : Config → History → ℕ → Option Facts
 facts c h o = together (owner c h o) (group c h o) (mode c h o)
 
--- what sets the owner of a family's directory, its group, and its mode: no event yet
+-- what sets the owner of a family's directory, its group, and its mode: a change that means it
 abbrev pub sets_directory_owner : Family → Event → History → Option Uid
-sets_directory_owner family e before = None
+sets_directory_owner family e before = owner_given (means_directory family) e
 
 abbrev pub sets_directory_group : Family → Event → History → Option Gid
-sets_directory_group family e before = None
+sets_directory_group family e before = group_given (means_directory family) e
 
 abbrev pub sets_directory_mode : Family → Event → History → Option Mode
-sets_directory_mode family e before = None
+sets_directory_mode family e before = option_map directory_bits (mode_given (means_directory family) e)
 
 -- the owner of a family's directory; at the start user 0
 unfoldable pub directory_owner : History → Family → Uid
@@ -113,3 +150,8 @@ directory_mode h family = unwrap_or (newest (sets_directory_mode family) h) (rec
 -- the owner, group and mode of a family's directory
 unfoldable pub directory : History → Family → Facts
 directory h family = record { owner = directory_owner h family; group = directory_group h family; mode = directory_mode h family }
+
+-- the owner, group and mode of a directory, or of the object to which a name is bound
+abbrev pub facts_meant : Config → History → Target → Option Facts
+facts_meant c h (Dir family) = Some (directory h family)
+facts_meant c h (Name family name) = option_and_then (facts c h) (bound h family name)

@@ -5,19 +5,21 @@ use Rattle.ipc_terms.specs.Flags.{has_create, has_exclusive}
 use Rattle.ipc_terms.specs.Objects.{family_of, as_queue, attributes_asked, value_asked}
 use Rattle.ipc_terms.specs.Names.{same_family, has_name_form, is_long_name}
 use Rattle.ipc_terms.specs.declared.rule.Rule.{Rule}
-use Rattle.ipc_terms.specs.declared.rule.Rule.TheVariants.{NoSession, InCall, NotInCall, NameForm, NameLong, BadDescr, NotForWrite, NotForRead, DirSearch, DirRead, Absent, Present, ModeDenied, DirWrite, Sticky, AttrRange, ValueRange, DescrLimit, PrioRange, MessageLong, BufferShort, WouldBlock, Overflow, BadKey}
+use Rattle.ipc_terms.specs.declared.rule.Rule.TheVariants.{NoSession, InCall, NotInCall, NameForm, NameLong, BadDescr, NotForWrite, NotForRead, DirSearch, DirRead, Absent, Present, ModeDenied, DirWrite, Sticky, NotOwner, ChownDenied, AttrRange, ValueRange, DescrLimit, PrioRange, MessageLong, BufferShort, WouldBlock, Overflow, BadKey}
+use Rattle.ipc_terms.specs.declared.ids.Uid.{Uid}
 use Rattle.ipc_terms.specs.declared.ids.Family.{Family}
 use Rattle.ipc_terms.specs.declared.ids.Family.TheVariants.{Mq, Sem}
 use Rattle.ipc_terms.specs.declared.call.Access.{Access}
 use Rattle.ipc_terms.specs.declared.call.Access.TheVariants.{Read, Write, Both}
 use Rattle.ipc_terms.specs.declared.call.Attributes.{Attributes}
 use Rattle.ipc_terms.specs.declared.call.Call.{Call}
-use Rattle.ipc_terms.specs.declared.call.Call.TheVariants.{MqClose, MqSend, MqReceive, MqGetattr, MqSetattr, SemClose, SemPost, SemWait, SemTryWait, SemGetvalue, ListNames, Interrupt}
+use Rattle.ipc_terms.specs.declared.call.Call.TheVariants.{MqClose, MqSend, MqReceive, MqGetattr, MqSetattr, SemClose, SemPost, SemWait, SemTryWait, SemGetvalue, ListNames, Chmod, Chown, Interrupt}
 use Rattle.ipc_terms.specs.declared.record.Event.{Event}
 use Rattle.ipc_terms.specs.declared.record.Event.TheVariants.{Hello, Do, Hangup}
 use Rattle.ipc_access.specs.declared.class.Cred.{Cred}
 use Rattle.ipc_access.specs.Class.{granted}
 use Rattle.ipc_access.specs.Sticky.{lets_remove}
+use Rattle.ipc_access.specs.Ownership.{lets_chmod, lets_chown}
 use Rattle.ipc_access.specs.Users.{cred_of}
 pub use Rattle.ipc_policy.specs.declared.asking.Described.{Described}
 use Rattle.ipc_policy.specs.declared.config.Config.{Config}
@@ -29,7 +31,7 @@ use Rattle.ipc_policy.specs.History.{History}
 pub use Rattle.ipc_policy.specs.History.{there_is}
 use Rattle.ipc_policy.specs.Sessions.{live, cred}
 use Rattle.ipc_policy.specs.Names.{opening, unlinking, naming, is_bound, creating, bound, Opening}
-use Rattle.ipc_policy.specs.Objects.{object, facts, directory}
+use Rattle.ipc_policy.specs.Objects.{object, facts, directory, facts_meant}
 use Rattle.ipc_policy.specs.Descriptions.{holds, held_count, is_nonblock}
 pub use Rattle.ipc_policy.specs.Queues.{is_full, is_empty}
 pub use Rattle.ipc_policy.specs.Semaphores.{is_zero, is_greatest}
@@ -63,6 +65,11 @@ out_of_range c _ _ = false
 abbrev pub removal_denied : Option Cred → Facts → Option Facts → Bool
 removal_denied (Some who) directory (Some at) = not (lets_remove who directory at.owner)
 removal_denied _ directory _ = false
+
+-- there are a user and something meant, and the user may not change what has such an owner
+abbrev pub change_denied : (Cred → Uid → Bool) → Option Cred → Option Facts → Bool
+change_denied lets (Some who) (Some at) = not (lets who at.owner)
+change_denied lets _ _ = false
 
 -- there is an object, and it is of the family
 abbrev pub is_of_family : Family → Option Object → Bool
@@ -184,6 +191,16 @@ dir_write c h e = by_open (opening e) where
 unfoldable pub sticky : Config → History → Event → Bool
 sticky c h e = there_is (λ what. removal_denied (cred c h what.session.0) (directory h what.family) (option_and_then (facts c h) (bound h what.family what.name))) (unlinking e)
 
+-- 18: a chmod, by another than user 0 and the owner of what is meant
+unfoldable pub not_owner : Config → History → Event → Bool
+not_owner c h (Do sid (Chmod mode target)) = change_denied lets_chmod (cred c h sid.0) (facts_meant c h target)
+not_owner c h _ = false
+
+-- 19: a chown, by another than user 0 and an owner that stays the owner and keeps the group or takes one of its own
+unfoldable pub chown_denied : Config → History → Event → Bool
+chown_denied c h (Do sid (Chown owner group target)) = change_denied (λ who at. lets_chown who at owner group) (cred c h sid.0) (facts_meant c h target)
+chown_denied c h _ = false
+
 -- 20: a creating open with attributes that are 0 or above the caller's limits
 unfoldable pub attr_range : Config → History → Event → Bool
 attr_range c h e = there_is (λ asked. creating h asked && out_of_range c (cred c h asked.session.0) (attributes_asked asked.kind)) (opening e)
@@ -245,6 +262,8 @@ forbids Present = present
 forbids ModeDenied = mode_denied
 forbids DirWrite = dir_write
 forbids Sticky = sticky
+forbids NotOwner = not_owner
+forbids ChownDenied = chown_denied
 forbids AttrRange = attr_range
 forbids ValueRange = value_range
 forbids DescrLimit = descr_limit

@@ -1,26 +1,23 @@
 -- The verdict on an event, what is answered, and which histories are legal.
-use Rattle.std.specs.Prelude.{◌≡◌, ℕ, ◌==◌, find, filter, map, List, [], ◌∷◌, ◌++◌, length, Option, Some, None, option_and_then, if◌then◌else◌}
+use Rattle.std.specs.Prelude.{◌≡◌, ℕ, ◌==◌, find, filter, map, List, [], ◌∷◌, ◌++◌, length, Option, Some, None, if◌then◌else◌}
 pub use Rattle.ipc_terms.specs.Events.{caller}
 use Rattle.ipc_terms.specs.Lists.{first}
 use Rattle.ipc_terms.specs.Rules.{every_rule}
 use Rattle.ipc_terms.specs.declared.rule.Rule.{Rule}
 use Rattle.ipc_terms.specs.Pages.{page}
 use Rattle.ipc_terms.specs.declared.ids.Sid.{Sid}
-use Rattle.ipc_terms.specs.declared.ids.Target.{Target}
-use Rattle.ipc_terms.specs.declared.ids.Target.TheVariants.{Dir, Name}
 use Rattle.ipc_terms.specs.declared.facts.Facts.{Facts}
 use Rattle.ipc_terms.specs.declared.call.Answer.{Answer}
 use Rattle.ipc_terms.specs.declared.call.Answer.TheVariants.{Started, Done, Opened, Mask, Sent, Received, Attrs, Value, Names, Stat, Refused, Interrupted}
-use Rattle.ipc_terms.specs.declared.call.Call.TheVariants.{Umask, MqOpen, MqClose, MqSend, MqReceive, MqGetattr, MqSetattr, MqUnlink, SemOpen, SemClose, SemUnlink, SemPost, SemWait, SemTryWait, SemGetvalue, ListNames, StatName, Interrupt}
+use Rattle.ipc_terms.specs.declared.call.Call.TheVariants.{Umask, MqOpen, MqClose, MqSend, MqReceive, MqGetattr, MqSetattr, MqUnlink, SemOpen, SemClose, SemUnlink, SemPost, SemWait, SemTryWait, SemGetvalue, ListNames, StatName, Chmod, Chown, Interrupt}
 use Rattle.ipc_terms.specs.declared.record.Event.{Event}
 use Rattle.ipc_terms.specs.declared.record.Event.TheVariants.{Hello, Do, Hangup}
 use Rattle.ipc_policy.specs.declared.config.Config.{Config}
 use Rattle.ipc_policy.specs.History.{History}
 use Rattle.ipc_policy.specs.Sessions.{hellos, live, mask}
-use Rattle.ipc_policy.specs.Names.{bound}
 use Rattle.ipc_policy.specs.declared.config.Held.{Held}
 use Rattle.ipc_terms.specs.declared.call.Attributes.{Attributes}
-use Rattle.ipc_policy.specs.Objects.{facts, directory}
+pub use Rattle.ipc_policy.specs.Objects.{facts_meant}
 use Rattle.ipc_policy.specs.Descriptions.{opens, holds, is_nonblock}
 use Rattle.ipc_policy.specs.Queues.{Send, Wait, attributes, next, contents, senders, receivers, is_full}
 use Rattle.ipc_policy.specs.Semaphores.{value, waiters, is_zero}
@@ -30,11 +27,6 @@ use Rattle.ipc_policy.specs.Rules.{forbids}
 -- the first rule that forbids, in the order of the rules' numbers, or that none does
 unfoldable pub verdict : Config → History → Event → Option Rule
 verdict c h e = find (λ rule. forbids rule c h e) every_rule
-
--- the owner, group and mode of a directory, or of the object to which a name is bound
-abbrev pub facts_meant : Config → History → Target → Option Facts
-facts_meant c h (Dir family) = Some (directory h family)
-facts_meant c h (Name family name) = option_and_then (facts c h) (bound h family name)
 
 -- a session is told what there is
 abbrev pub told : Sid → Option Facts → List (Sid × Answer)
@@ -118,6 +110,8 @@ accepted_answers c h (Do sid (SemTryWait desc)) = (sid, Done) ∷ []
 accepted_answers c h (Do sid (SemGetvalue desc)) = answers_of (holds h sid.0 desc.0) (value_told h sid)
 accepted_answers c h (Do sid (ListNames family start count)) = (sid, Names (page start count (names h family))) ∷ []
 accepted_answers c h (Do sid (StatName target)) = told sid (facts_meant c h target)
+accepted_answers c h (Do sid (Chmod mode target)) = (sid, Done) ∷ []
+accepted_answers c h (Do sid (Chown owner group target)) = (sid, Done) ∷ []
 accepted_answers c h (Do sid Interrupt) = (sid, Interrupted) ∷ (sid, Done) ∷ []
 accepted_answers c h (Hangup sid) = []
 

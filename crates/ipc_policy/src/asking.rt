@@ -107,7 +107,12 @@ pub fn naming_of(event: &Event) -> Option<Naming<'_>>
         Call::MqUnlink(name) => (Family::Mq, name),
         Call::SemOpen(asked) => (Family::Sem, &asked.name),
         Call::SemUnlink(name) => (Family::Sem, name),
-        Call::StatName(Target::Name(family, name)) => (*family, name),
+        Call::StatName(target) | Call::Chmod { target, .. } | Call::Chown { target, .. } => {
+            match target {
+                Target::Name(family, name) => (*family, name),
+                Target::Dir(_) => return None,
+            }
+        }
         _ => return None,
     };
     Some(Naming {

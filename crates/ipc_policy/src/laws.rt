@@ -3,6 +3,7 @@
 
 ghost use Rattle.ipc_policy.specs.Laws.{VerdictIsLeast, RefusedIsQuiet, RefusedIsAnswered, ListedIsBound, BoundIsMade, ParkedIsListed, ParkedIsAlive, EachIsBounded, EachIsInRange, WaitsAtZero, EachValueIsCounted};
 ghost use Rattle.ipc_policy.specs.Grow.{AcceptedGrows};
+ghost use Rattle.ipc_policy.specs.Rights.{HeldOutlives, RightsByDescription};
 ghost use Rattle.ipc_policy.specs.Readings.{EachParkedByPlace, EachInsideByPlace, EachInsideInOrder, EachNextIsGreatest};
 
 /// The verdict is the least of the rules that forbid, or none where no rule does.
@@ -76,4 +77,12 @@ pub fn in_range()
 /// post serves a parked wait or raises it, a wait and a trywait lower it.
 pub fn counted()
     ensures { EachValueIsCounted }
+{}
+
+/// What a session holds by a description stays what it is until the session closes it or hangs up, and the verdict on a
+/// call by it depends on nothing but the session, what it holds, and that object: on no user, owner, group, mode, name
+/// or directory. Permission is asked at the open (POSIX.1-2017, `mq_open`, `sem_open`).
+pub fn rights()
+    ensures outlive { HeldOutlives }
+    ensures by_description { RightsByDescription }
 {}

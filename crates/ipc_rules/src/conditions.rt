@@ -3,13 +3,14 @@
 ghost use Rattle.std.specs.Prelude.{◌≡◌, nat_lt, is_some, option_and_then};
 ghost use Rattle.std.specs.Option.{option_copied};
 ghost use Rattle.ipc_access.specs.Users.{cred_of};
+ghost use Rattle.ipc_access.specs.Ownership.{lets_chmod, lets_chown};
 ghost use Rattle.ipc_terms.specs.Objects.{as_queue, attributes_asked, value_asked};
 ghost use Rattle.ipc_terms.specs.declared.object.TheConstants.{SEM_VALUE_MAX};
-ghost use Rattle.ipc_policy.specs.Rules.{there_is, is_of_family, denied, denied_at, removal_denied, reads_only, writes_only, bits_wanted, out_of_range};
+ghost use Rattle.ipc_policy.specs.Rules.{there_is, is_of_family, denied, denied_at, removal_denied, change_denied, reads_only, writes_only, bits_wanted, out_of_range};
 
-use ipc_access::{Cred, grants, may_remove};
+use ipc_access::{Cred, grants, may_chmod, may_chown, may_remove};
 use ipc_policy::{Config, HARD_MSG_MAX, HARD_MSGSIZE_MAX, Held};
-use ipc_terms::{Access, Asked, Attributes, Facts, Family, Kind, Object, SEM_VALUE_MAX, Uid};
+use ipc_terms::{Access, Asked, Attributes, Facts, Family, Gid, Kind, Object, SEM_VALUE_MAX, Uid};
 
 pub fn is_known(config: &Config, found: Option<Uid>) -> bool
     ensures { result ≡ is_some (option_and_then (cred_of config.now.users) found) }
@@ -120,6 +121,31 @@ pub fn is_removal_denied(who: Option<&Cred>, directory: Facts, at: Option<Facts>
         return false;
     };
     !may_remove(who, &directory, at.owner)
+}
+
+/// Whether the user may not change the mode of what has these facts.
+pub fn is_chmod_denied(who: Option<&Cred>, at: Option<Facts>) -> bool
+    ensures { result ≡ change_denied lets_chmod (option_copied who.entry) at }
+{
+    let (Some(who), Some(at)) = (who, at) else {
+        return false;
+    };
+    !may_chmod(who, at.owner)
+}
+
+/// Whether the user may not give what has these facts to the owner and the group.
+pub fn is_chown_denied(
+    who: Option<&Cred>,
+    at: Option<Facts>,
+    owner: Option<Uid>,
+    group: Option<Gid>,
+) -> bool
+    ensures { result ≡ change_denied (λ who of. lets_chown who of owner group) (option_copied who.entry) at }
+{
+    let (Some(who), Some(at)) = (who, at) else {
+        return false;
+    };
+    !may_chown(who, at.owner, owner, group)
 }
 
 pub fn is_out_of_range(config: &Config, who: Option<&Cred>, given: Option<Attributes>) -> bool

@@ -2,13 +2,13 @@
 
 ghost use Rattle.std.specs.Prelude.{◌≡◌};
 ghost use Rattle.ipc_policy.specs.Names.{creating};
-ghost use Rattle.ipc_policy.specs.Rules.{forbids, no_session, in_call, not_in_call, name_form, name_long, bad_descr, not_for_write, not_for_read, dir_search, dir_read, absent, present, mode_denied, dir_write, sticky, attr_range, value_range, descr_limit, prio_range, message_long, buffer_short, would_block, overflow, bad_key};
+ghost use Rattle.ipc_policy.specs.Rules.{forbids, no_session, in_call, not_in_call, name_form, name_long, bad_descr, not_for_write, not_for_read, dir_search, dir_read, absent, present, mode_denied, dir_write, sticky, not_owner, chown_denied, attr_range, value_range, descr_limit, prio_range, message_long, buffer_short, would_block, overflow, bad_key};
 ghost use Rattle.ipc_policy.specs.Verdict.{verdict};
 
 use crate::conditions::{
-    as_queue, attributes_asked, bits_of, is_denied, is_denied_at, is_known, is_of_family,
-    is_out_of_range, is_read_only, is_removal_denied, is_too_great, is_too_long, is_too_short,
-    is_write_only,
+    as_queue, attributes_asked, bits_of, is_chmod_denied, is_chown_denied, is_denied, is_denied_at,
+    is_known, is_of_family, is_out_of_range, is_read_only, is_removal_denied, is_too_great,
+    is_too_long, is_too_short, is_write_only,
 };
 use ipc_names::{has_form, is_long};
 use ipc_policy::{
@@ -84,6 +84,8 @@ pub fn forbids(state: &State, rule: Rule, event: &Event) -> bool
         Rule::ModeDenied => mode_denied(state, event),
         Rule::DirWrite => dir_write(state, event),
         Rule::Sticky => sticky(state, event),
+        Rule::NotOwner => not_owner(state, event),
+        Rule::ChownDenied => chown_denied(state, event),
         Rule::AttrRange => attr_range(state, event),
         Rule::ValueRange => value_range(state, event),
         Rule::DescrLimit => descr_limit(state, event),
@@ -93,13 +95,8 @@ pub fn forbids(state: &State, rule: Rule, event: &Event) -> bool
         Rule::WouldBlock => would_block(state, event),
         Rule::Overflow => overflow(state, event),
         Rule::BadKey => bad_key(state, event),
-        Rule::NotAdmin
-        | Rule::NoUser
-        | Rule::NotOwner
-        | Rule::ChownDenied
-        | Rule::QueueCount
-        | Rule::ByteLimit
-        | Rule::NotifyTaken => false,
+        Rule::NotAdmin | Rule::NoUser | Rule::QueueCount | Rule::ByteLimit | Rule::NotifyTaken =>
+            false,
     }
 }
 
@@ -305,6 +302,39 @@ fn sticky(state: &State, event: &Event) -> bool
             state.facts_bound(what.family, what.name),
         ),
         None => false,
+    }
+}
+
+/// A chmod, by another than user 0 and the owner of what is meant.
+#[tactic(auto, unfolding(ipc_policy::specs::Rules::not_owner))]
+fn not_owner(state: &State, event: &Event) -> bool
+    ensures { result ≡ not_owner state.now.config state.now.history event.now }
+{
+    match event {
+        Event::Do {
+            sid,
+            call: Call::Chmod { target, .. },
+        } => is_chmod_denied(state.cred(*sid), state.facts_meant(target)),
+        _ => false,
+    }
+}
+
+/// A chown, by another than user 0 and an owner that stays the owner and keeps the group or takes
+/// one of its own.
+#[tactic(auto, unfolding(ipc_policy::specs::Rules::chown_denied))]
+fn chown_denied(state: &State, event: &Event) -> bool
+    ensures { result ≡ chown_denied state.now.config state.now.history event.now }
+{
+    match event {
+        Event::Do {
+            sid,
+            call: Call::Chown {
+                owner,
+                group,
+                target,
+            },
+        } => is_chown_denied(state.cred(*sid), state.facts_meant(target), *owner, *group),
+        _ => false,
     }
 }
 

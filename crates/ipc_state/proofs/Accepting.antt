@@ -55,6 +55,7 @@ use Rattle.ipc_state.proofs.SessionTables.{Columns, columns_of, columns_moved, s
 use Rattle.ipc_state.proofs.ParkedColumn.{parked_object, column_by_send, column_by_receive, column_by_post, column_by_wait, column_by_interrupt, column_by_hangup}
 use Rattle.ipc_state.proofs.Posting.{sessions_posted, sessions_waited, counter_posted, counter_waited, counter_tried, counter_cancelled}
 use Rattle.ipc_state.proofs.Serving.{IsHereQueue, IsHereSemaphore, is_open, none_receives, none_sends, sessions_sent, sessions_received, queue_sent, queue_received, queue_withdrawn}
+use Rattle.ipc_policy.proofs.Facts.{GivesNothing, facts_made, directory_left}
 use Rattle.ipc_state.proofs.ObjectTables.{directory_kept, rows_kept, objects_kept, alive_kept, alive_less, objects_left, rows_changed, descriptions_kept, descriptions_dropped, descriptions_set}
 
 -- an event that says nothing of names, objects and descriptions
@@ -68,17 +69,19 @@ pub record Untouched (c : Config) (h k : History) : Type 0 where
   pub object' : (o : ℕ) → object c k o ≡ object c h o
   pub facts' : (o : ℕ) → facts c k o ≡ facts c h o
 
-untouched : (c : Config) (h k : History) (e : Event) → Grows c h k e → ((o : ℕ) → named_after o e (is_bound h) (creations h) (named h o) ≡ kept (λ x. false) (named h o)) → ((d : ℕ) → held_after d e (opens h) (bound h) (creations h) (held h d) ≡ kept (λ x. false) (held h d)) → opens_after e (opens h) ≡ opens h → ((f : Family) → bindings_after f e (is_bound h) (creations h) (bindings h f) ≡ bindings h f) → creations_after e (is_bound h) (creations h) ≡ creations h → ((o : ℕ) → made_after o e (is_bound h) (creations h) (λ asked. option_map (made_by c asked) (cred c h asked.session.0)) (object c h o) ≡ object c h o) → ((o : ℕ) → made_after o e (is_bound h) (creations h) (λ asked. option_map (first_facts asked (mask h asked.session.0)) (cred c h asked.session.0)) (facts c h o) ≡ facts c h o) → Untouched c h k
-untouched c h k e g n d i b m o f = record {
-  named' = λ x. g.named_by x ∙ n x ∙ kept_all (named h x);
-  held' = λ x. g.held_by x ∙ d x ∙ kept_all (held h x);
-  opens' = g.open_count ∙ i;
-  bindings' = λ x. g.bindings_of x ∙ b x;
-  directory' = g.directory_of;
-  creations' = g.creation_count ∙ m;
-  object' = λ x. g.object_of x ∙ o x;
-  facts' = λ x. g.facts_of x ∙ f x;
-}
+untouched : (c : Config) (h : History) (e : Event) → GivesNothing e → ((o : ℕ) → named_after o e (is_bound h) (creations h) (named h o) ≡ kept (λ x. false) (named h o)) → ((d : ℕ) → held_after d e (opens h) (bound h) (creations h) (held h d) ≡ kept (λ x. false) (held h d)) → opens_after e (opens h) ≡ opens h → ((f : Family) → bindings_after f e (is_bound h) (creations h) (bindings h f) ≡ bindings h f) → creations_after e (is_bound h) (creations h) ≡ creations h → ((o : ℕ) → made_after o e (is_bound h) (creations h) (λ asked. option_map (made_by c asked) (cred c h asked.session.0)) (object c h o) ≡ object c h o) → ((o : ℕ) → made_after o e (is_bound h) (creations h) (λ asked. option_map (first_facts asked (mask h asked.session.0)) (cred c h asked.session.0)) (facts c h o) ≡ facts c h o) → Untouched c h (after_accepted h e)
+untouched c h e p n d i b m o f =
+    let g = grows c h e in
+    record {
+      named' = λ x. g.named_by x ∙ n x ∙ kept_all (named h x);
+      held' = λ x. g.held_by x ∙ d x ∙ kept_all (held h x);
+      opens' = g.open_count ∙ i;
+      bindings' = λ x. g.bindings_of x ∙ b x;
+      directory' = λ x. directory_left h e p x;
+      creations' = g.creation_count ∙ m;
+      object' = λ x. g.object_of x ∙ o x;
+      facts' = λ x. facts_made c h e p x ∙ f x;
+    }
 
 alive_same : (c : Config) (h k : History) → Untouched c h k → (o : ℕ) → alive k o ≡ alive h o
 alive_same c h k u o = alive_kept h k o (u.named' o) u.held' u.opens'
@@ -117,7 +120,7 @@ pub agrees_begun : (c : Config) (h : History) (t : Kept) (uid : Uid) → IsCore 
 agrees_begun c h t uid k =
     let e = Hello (Some uid) in
     let g = grows c h e in
-    let u = untouched c h _ e g (λ o. refl) (λ d. refl) refl (λ f. refl) refl (λ o. refl) (λ o. refl) in
+    let u = untouched c h e (record { owner = λ m. refl; group = λ m. refl; mode = λ m. refl }) (λ o. refl) (λ d. refl) refl (λ f. refl) refl (λ o. refl) (λ o. refl) in
     left_alone c h _ t _ t.objects u g.nonblock_of (sessions_begun c h t.sessions uid k.legal g k.agrees.sessions) (objects_same c h _ t u (λ o. others_inside c h e o refl refl) k.agrees) k.agrees
 
 -- an accepted umask
@@ -125,7 +128,7 @@ pub agrees_masked : (c : Config) (h : History) (t : Kept) (sid : Sid) (m : Mode)
 agrees_masked c h t sid m a =
     let e = Do sid (Umask m) in
     let g = grows c h e in
-    let u = untouched c h _ e g (λ o. refl) (λ d. refl) refl (λ f. refl) refl (λ o. refl) (λ o. refl) in
+    let u = untouched c h e (record { owner = λ m. refl; group = λ m. refl; mode = λ m. refl }) (λ o. refl) (λ d. refl) refl (λ f. refl) refl (λ o. refl) (λ o. refl) in
     left_alone c h _ t _ t.objects u g.nonblock_of (sessions_masked c h t.sessions sid m g a.sessions) (objects_same c h _ t u (λ o. others_inside c h e o refl refl) a) a
 
 -- a question changes nothing
@@ -136,19 +139,19 @@ asked c h t e u still none n w l m b a =
 
 pub agrees_listed : (c : Config) (h : History) (t : Kept) (sid : Sid) (family : Family) (start count : ℕ) → Agrees c h t → Agrees c (after_accepted h (Do sid (ListNames family start count))) t
 agrees_listed c h t sid family start count =
-    asked c h t (Do sid (ListNames family start count)) (untouched c h _ (Do sid (ListNames family start count)) (grows c h (Do sid (ListNames family start count))) (λ o. refl) (λ d. refl) refl (λ f. refl) refl (λ o. refl) (λ o. refl)) refl (λ o. refl) refl (λ s. refl) (λ s. refl) (λ s. refl) (λ s d. refl)
+    asked c h t (Do sid (ListNames family start count)) (untouched c h (Do sid (ListNames family start count)) (record { owner = λ m. refl; group = λ m. refl; mode = λ m. refl }) (λ o. refl) (λ d. refl) refl (λ f. refl) refl (λ o. refl) (λ o. refl)) refl (λ o. refl) refl (λ s. refl) (λ s. refl) (λ s. refl) (λ s d. refl)
 
 pub agrees_told : (c : Config) (h : History) (t : Kept) (sid : Sid) (target : Target) → Agrees c h t → Agrees c (after_accepted h (Do sid (StatName target))) t
 agrees_told c h t sid target =
-    asked c h t (Do sid (StatName target)) (untouched c h _ (Do sid (StatName target)) (grows c h (Do sid (StatName target))) (λ o. refl) (λ d. refl) refl (λ f. refl) refl (λ o. refl) (λ o. refl)) refl (λ o. refl) refl (λ s. refl) (λ s. refl) (λ s. refl) (λ s d. refl)
+    asked c h t (Do sid (StatName target)) (untouched c h (Do sid (StatName target)) (record { owner = λ m. refl; group = λ m. refl; mode = λ m. refl }) (λ o. refl) (λ d. refl) refl (λ f. refl) refl (λ o. refl) (λ o. refl)) refl (λ o. refl) refl (λ s. refl) (λ s. refl) (λ s. refl) (λ s d. refl)
 
 pub agrees_asked : (c : Config) (h : History) (t : Kept) (sid : Sid) (desc : Desc) → Agrees c h t → Agrees c (after_accepted h (Do sid (MqGetattr desc))) t
 agrees_asked c h t sid desc =
-    asked c h t (Do sid (MqGetattr desc)) (untouched c h _ (Do sid (MqGetattr desc)) (grows c h (Do sid (MqGetattr desc))) (λ o. refl) (λ d. refl) refl (λ f. refl) refl (λ o. refl) (λ o. refl)) refl (λ o. refl) refl (λ s. refl) (λ s. refl) (λ s. refl) (λ s d. refl)
+    asked c h t (Do sid (MqGetattr desc)) (untouched c h (Do sid (MqGetattr desc)) (record { owner = λ m. refl; group = λ m. refl; mode = λ m. refl }) (λ o. refl) (λ d. refl) refl (λ f. refl) refl (λ o. refl) (λ o. refl)) refl (λ o. refl) refl (λ s. refl) (λ s. refl) (λ s. refl) (λ s d. refl)
 
 pub agrees_valued : (c : Config) (h : History) (t : Kept) (sid : Sid) (desc : Desc) → Agrees c h t → Agrees c (after_accepted h (Do sid (SemGetvalue desc))) t
 agrees_valued c h t sid desc =
-    asked c h t (Do sid (SemGetvalue desc)) (untouched c h _ (Do sid (SemGetvalue desc)) (grows c h (Do sid (SemGetvalue desc))) (λ o. refl) (λ d. refl) refl (λ f. refl) refl (λ o. refl) (λ o. refl)) refl (λ o. refl) refl (λ s. refl) (λ s. refl) (λ s. refl) (λ s d. refl)
+    asked c h t (Do sid (SemGetvalue desc)) (untouched c h (Do sid (SemGetvalue desc)) (record { owner = λ m. refl; group = λ m. refl; mode = λ m. refl }) (λ o. refl) (λ d. refl) refl (λ f. refl) refl (λ o. refl) (λ o. refl)) refl (λ o. refl) refl (λ s. refl) (λ s. refl) (λ s. refl) (λ s d. refl)
 
 -- the body of an object changes as its queue does, or as its semaphore does
 queue_changed : (x : Object) (change : Tickets → Tickets) (m n : Inside) → ((z : Attributes) → of_queue x.kind ≡ Some z → tickets_of n.queue z ≡ change (tickets_of m.queue z)) → n.semaphore ≡ m.semaphore → body_of x.kind n ≡ with_body change (body_of x.kind m)
@@ -168,7 +171,7 @@ pub agrees_sent : (c : Config) (h : History) (t : Kept) (sid : Sid) (desc : Desc
 agrees_sent c h t sid desc priority bytes o k here =
     let e = Do sid (MqSend desc priority bytes) in
     let g = grows c h e in
-    let u = untouched c h _ e g (λ i. refl) (λ d. refl) refl (λ f. refl) refl (λ i. refl) (λ i. refl) in
+    let u = untouched c h e (record { owner = λ m. refl; group = λ m. refl; mode = λ m. refl }) (λ i. refl) (λ d. refl) refl (λ f. refl) refl (λ i. refl) (λ i. refl) in
     let open' = is_open c h t here.x.object here.given k here.made in
     subst (λ (i : ℕ). Agrees c (after_accepted h e) (after_send t i (record { place = length h; priority = priority }) sid)) here.same
     (left_alone c h _ t _ _ u g.nonblock_of
@@ -191,7 +194,7 @@ pub agrees_received : (c : Config) (h : History) (t : Kept) (sid : Sid) (desc : 
 agrees_received c h t sid desc room o k here =
     let e = Do sid (MqReceive desc room) in
     let g = grows c h e in
-    let u = untouched c h _ e g (λ i. refl) (λ d. refl) refl (λ f. refl) refl (λ i. refl) (λ i. refl) in
+    let u = untouched c h e (record { owner = λ m. refl; group = λ m. refl; mode = λ m. refl }) (λ i. refl) (λ d. refl) refl (λ f. refl) refl (λ i. refl) (λ i. refl) in
     let open' = is_open c h t here.x.object here.given k here.made in
     subst (λ (i : ℕ). Agrees c (after_accepted h e) (after_receive t i sid)) here.same
     (left_alone c h _ t _ _ u g.nonblock_of
@@ -214,7 +217,7 @@ pub agrees_posted : (c : Config) (h : History) (t : Kept) (sid : Sid) (desc : De
 agrees_posted c h t sid desc o k here =
     let e = Do sid (SemPost desc) in
     let g = grows c h e in
-    let u = untouched c h _ e g (λ i. refl) (λ d. refl) refl (λ f. refl) refl (λ i. refl) (λ i. refl) in
+    let u = untouched c h e (record { owner = λ m. refl; group = λ m. refl; mode = λ m. refl }) (λ i. refl) (λ d. refl) refl (λ f. refl) refl (λ i. refl) (λ i. refl) in
     subst (λ (i : ℕ). Agrees c (after_accepted h e) (after_post t i)) here.same
     (left_alone c h _ t _ _ u g.nonblock_of
     (sessions_parked c h _ e _ _ g refl (λ s. refl) (λ s. refl) (λ s. refl)
@@ -234,7 +237,7 @@ pub agrees_waited : (c : Config) (h : History) (t : Kept) (sid : Sid) (desc : De
 agrees_waited c h t sid desc o k here =
     let e = Do sid (SemWait desc) in
     let g = grows c h e in
-    let u = untouched c h _ e g (λ i. refl) (λ d. refl) refl (λ f. refl) refl (λ i. refl) (λ i. refl) in
+    let u = untouched c h e (record { owner = λ m. refl; group = λ m. refl; mode = λ m. refl }) (λ i. refl) (λ d. refl) refl (λ f. refl) refl (λ i. refl) (λ i. refl) in
     subst (λ (i : ℕ). Agrees c (after_accepted h e) (after_wait t i sid)) here.same
     (left_alone c h _ t _ _ u g.nonblock_of
     (sessions_parked c h _ e _ _ g refl (λ s. refl) (λ s. refl) (λ s. refl)
@@ -254,7 +257,7 @@ pub agrees_tried : (c : Config) (h : History) (t : Kept) (sid : Sid) (desc : Des
 agrees_tried c h t sid desc o k here =
     let e = Do sid (SemTryWait desc) in
     let g = grows c h e in
-    let u = untouched c h _ e g (λ i. refl) (λ d. refl) refl (λ f. refl) refl (λ i. refl) (λ i. refl) in
+    let u = untouched c h e (record { owner = λ m. refl; group = λ m. refl; mode = λ m. refl }) (λ i. refl) (λ d. refl) refl (λ f. refl) refl (λ i. refl) (λ i. refl) in
     subst (λ (i : ℕ). Agrees c (after_accepted h e) (after_try t i)) here.same
     (left_alone c h _ t t.sessions _ u g.nonblock_of
     (sessions_kept c h _ e t.sessions g refl (λ s. refl) (λ s. refl) (λ s. refl) (λ s. parked_by_try c h sid desc s) k.agrees.sessions)
@@ -321,7 +324,7 @@ interrupted : (c : Config) (h : History) (t u : Kept) (sid : Sid) → IsCore c h
 interrupted c h t u sid k w =
     let e = Do sid Interrupt in
     let g = grows c h e in
-    let v = untouched c h _ e g (λ i. refl) (λ d. refl) refl (λ f. refl) refl (λ i. refl) (λ i. refl) in
+    let v = untouched c h e (record { owner = λ m. refl; group = λ m. refl; mode = λ m. refl }) (λ i. refl) (λ d. refl) refl (λ f. refl) refl (λ i. refl) (λ i. refl) in
     left_alone c h _ t u.sessions u.objects v g.nonblock_of
     (sessions_parked c h _ e u.sessions (λ s. cond (eqb sid.0 s) None (parked_object c h s)) g refl (λ s. refl) (λ s. refl) (λ s. refl) (column_by_interrupt c h sid) w.sessions)
     (record { rows = w.rows ∙ rows_kept c h (after_accepted h e) (inside c (after_accepted h e)) (inside c (after_accepted h e)) (alive_same c h _ v) v.object' v.facts' (λ o. refl) v.creations'; count = k.agrees.objects.count ∙ sym v.creations' })
@@ -337,11 +340,11 @@ pub agrees_set : (c : Config) (h : History) (t : Kept) (sid : Sid) (desc : Desc)
 agrees_set c h t sid desc nonblock x a is =
     let e = Do sid (MqSetattr desc nonblock) in
     let g = grows c h e in
-    let u = untouched c h _ e g (λ i. refl) (λ d. refl) refl (λ f. refl) refl (λ i. refl) (λ i. refl) in
+    let u = untouched c h e (record { owner = λ m. refl; group = λ m. refl; mode = λ m. refl }) (λ i. refl) (λ d. refl) refl (λ f. refl) refl (λ i. refl) (λ i. refl) in
     record {
       sessions = sessions_kept c h _ e t.sessions g refl (λ s. refl) (λ s. refl) (λ s. refl) (λ s. parked_by_others c h e s refl) a.sessions;
-      queues = directory_kept c h _ e Mq t.queues g refl a.queues;
-      semaphores = directory_kept c h _ e Sem t.semaphores g refl a.semaphores;
+      queues = directory_kept h (after_accepted h e) Mq t.queues (g.bindings_of Mq) (directory_left h e (record { owner = λ m. refl; group = λ m. refl; mode = λ m. refl }) Mq) a.queues;
+      semaphores = directory_kept h (after_accepted h e) Sem t.semaphores (g.bindings_of Sem) (directory_left h e (record { owner = λ m. refl; group = λ m. refl; mode = λ m. refl }) Sem) a.semaphores;
       objects = objects_same c h _ t u (λ o. others_inside c h e o refl refl) a;
       descriptions = descriptions_set h _ t.descriptions sid.0 desc.0 nonblock x u.held' g.nonblock_of u.opens' is a.descriptions;
     }
@@ -361,10 +364,10 @@ hung : (c : Config) (h : History) (t u : Kept) (sid : Sid) → Agrees c h t → 
 hung c h t u sid a w =
     let e = Hangup sid in
     let g = grows c h e in
-    gone c h (after_accepted h e) e t (changed hung_up u.sessions sid.0) u.objects t.queues t.semaphores _ (inside c (after_accepted h e)) (λ x. false) (λ i x. eqb sid.0 x.session.0) g g.named_by g.held_by g.open_count g.creation_count g.object_of g.facts_of (λ o. refl) w.rows
+    gone c h (after_accepted h e) e t (changed hung_up u.sessions sid.0) u.objects t.queues t.semaphores _ (inside c (after_accepted h e)) (λ x. false) (λ i x. eqb sid.0 x.session.0) g g.named_by g.held_by g.open_count g.creation_count g.object_of (λ o. facts_made c h e (record { owner = λ m. refl; group = λ m. refl; mode = λ m. refl }) o) (λ o. refl) w.rows
     (sessions_ended c h u.sessions sid (λ s. cond (eqb sid.0 s) None (parked_object c h s)) g (column_by_hangup c h sid) w.sessions)
-    (directory_kept c h _ e Mq t.queues g refl a.queues)
-    (directory_kept c h _ e Sem t.semaphores g refl a.semaphores)
+    (directory_kept h (after_accepted h e) Mq t.queues (g.bindings_of Mq) (directory_left h e (record { owner = λ m. refl; group = λ m. refl; mode = λ m. refl }) Mq) a.queues)
+    (directory_kept h (after_accepted h e) Sem t.semaphores (g.bindings_of Sem) (directory_left h e (record { owner = λ m. refl; group = λ m. refl; mode = λ m. refl }) Sem) a.semaphores)
     (descriptions_dropped h (after_accepted h e) t.descriptions (is_of sid.0) (λ i x. eqb sid.0 x.session.0) (λ i x. refl) g.held_by g.nonblock_of g.open_count a.descriptions)
     a
 

@@ -14,3 +14,4 @@ pub mod Posting
 pub mod Opens
 pub mod Accepting
 pub mod Opened
+pub mod Changed

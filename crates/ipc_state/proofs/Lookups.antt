@@ -25,7 +25,9 @@ use Rattle.ipc_policy.proofs.Gathering.{passes, gathered_any, gathered_find, any
 use Rattle.ipc_policy.proofs.Holding.{held_below, how_many_below_same}
 use Rattle.ipc_policy.proofs.Living.{named_below}
 use Rattle.ipc_policy.proofs.Listing.{listed_is_bound}
-use Rattle.ipc_policy.proofs.Known.{object_below, object_with_facts}
+use Rattle.ipc_policy.specs.Verdict.{Legal}
+use Rattle.ipc_policy.proofs.Known.{object_below}
+use Rattle.ipc_policy.proofs.Bindings.{object_with_facts}
 use Rattle.ipc_tables.specs.declared.rows.Session.{Session}
 use Rattle.ipc_tables.specs.declared.rows.ObjectRow.{ObjectRow}
 use Rattle.ipc_descr.specs.declared.row.Row.{Row}
@@ -245,29 +247,29 @@ body_column of meant q none some o true (Some x) None e k = absurd cc
 body_column of meant q none some o true (Some x) (Some y) e k = some x
 body_column of meant q none some o false w v e k = absurd cc
 
-pub object_alive : (c : Config) (h : History) (t : Kept) (o : ℕ) → Agrees c h t → alive h o ≡ true → option_map (λ (row : ObjectRow). row.object) (row_at t.objects o) ≡ object c h o
-object_alive c h t o a k =
+pub object_alive : (c : Config) (h : History) (t : Kept) (o : ℕ) → Legal c h → Agrees c h t → alive h o ≡ true → option_map (λ (row : ObjectRow). row.object) (row_at t.objects o) ≡ object c h o
+object_alive c h t o legal a k =
     ap (option_map (λ (row : ObjectRow). row.object)) (row_at_is c h t.objects t.created o a.objects)
-    ∙ object_column o (alive h o) (object c h o) (facts c h o) (inside c h o) k (object_with_facts c h o)
+    ∙ object_column o (alive h o) (object c h o) (facts c h o) (inside c h o) k (object_with_facts c h legal o)
 
-pub queue_alive : (c : Config) (h : History) (t : Kept) (o : ℕ) → Agrees c h t → alive h o ≡ true → queue_at t.objects o ≡ queue_meant c h o
-queue_alive c h t o a k =
+pub queue_alive : (c : Config) (h : History) (t : Kept) (o : ℕ) → Legal c h → Agrees c h t → alive h o ≡ true → queue_at t.objects o ≡ queue_meant c h o
+queue_alive c h t o legal a k =
     ap (option_and_then (λ (row : ObjectRow). queue_in row.body)) (row_at_is c h t.objects t.created o a.objects)
-    ∙ body_column queue_in (λ w. option_map (tickets_of (queue c h o)) (as_queue w)) (inside c h o) refl (λ x. queue_of_kind x (inside c h o)) o (alive h o) (object c h o) (facts c h o) k (object_with_facts c h o)
+    ∙ body_column queue_in (λ w. option_map (tickets_of (queue c h o)) (as_queue w)) (inside c h o) refl (λ x. queue_of_kind x (inside c h o)) o (alive h o) (object c h o) (facts c h o) k (object_with_facts c h legal o)
 
-pub semaphore_alive : (c : Config) (h : History) (t : Kept) (o : ℕ) → Agrees c h t → alive h o ≡ true → semaphore_at t.objects o ≡ semaphore_meant c h o
-semaphore_alive c h t o a k =
+pub semaphore_alive : (c : Config) (h : History) (t : Kept) (o : ℕ) → Legal c h → Agrees c h t → alive h o ≡ true → semaphore_at t.objects o ≡ semaphore_meant c h o
+semaphore_alive c h t o legal a k =
     ap (option_and_then (λ (row : ObjectRow). semaphore_in row.body)) (row_at_is c h t.objects t.created o a.objects)
-    ∙ body_column semaphore_in (λ w. option_map (λ first_value. counter_of (semaphore h o)) (as_semaphore w)) (inside c h o) refl (λ x. semaphore_of_kind x (inside c h o)) o (alive h o) (object c h o) (facts c h o) k (object_with_facts c h o)
+    ∙ body_column semaphore_in (λ w. option_map (λ first_value. counter_of (semaphore h o)) (as_semaphore w)) (inside c h o) refl (λ x. semaphore_of_kind x (inside c h o)) o (alive h o) (object c h o) (facts c h o) k (object_with_facts c h legal o)
 
-facts_alive : (c : Config) (h : History) (objects : List ObjectRow) (created o : ℕ) → ObjectsAgree c h objects created → alive h o ≡ true → facts_at objects o ≡ facts c h o
-facts_alive c h objects created o a k = ap (option_map (λ (row : ObjectRow). row.facts)) (row_at_is c h objects created o a) ∙ facts_column o (alive h o) (object c h o) (facts c h o) (inside c h o) k (object_with_facts c h o)
+pub facts_alive : (c : Config) (h : History) (objects : List ObjectRow) (created o : ℕ) → Legal c h → ObjectsAgree c h objects created → alive h o ≡ true → facts_at objects o ≡ facts c h o
+facts_alive c h objects created o legal a k = ap (option_map (λ (row : ObjectRow). row.facts)) (row_at_is c h objects created o a) ∙ facts_column o (alive h o) (object c h o) (facts c h o) (inside c h o) k (object_with_facts c h legal o)
 
-pub facts_found : (c : Config) (h : History) (objects : List ObjectRow) (created : ℕ) (f : Family) (name : List ℕ) → ObjectsAgree c h objects created → option_and_then (facts_at objects) (bound h f name) ≡ option_and_then (facts c h) (bound h f name)
-facts_found c h objects created f name a = at (bound h f name) refl where
+pub facts_found : (c : Config) (h : History) (objects : List ObjectRow) (created : ℕ) (f : Family) (name : List ℕ) → Legal c h → ObjectsAgree c h objects created → option_and_then (facts_at objects) (bound h f name) ≡ option_and_then (facts c h) (bound h f name)
+facts_found c h objects created f name legal a = at (bound h f name) refl where
   at : (w : Option ℕ) → bound h f name ≡ w → option_and_then (facts_at objects) w ≡ option_and_then (facts c h) w
   at None e = refl
-  at (Some o) e = facts_alive c h objects created o a (bound_alive h f name o e)
+  at (Some o) e = facts_alive c h objects created o legal a (bound_alive h f name o e)
 
 -- what a family's directory has
 pub directory_agrees : (c : Config) (h : History) (t : Kept) (f : Family) → Agrees c h t → DirectoryAgrees h f (directory_kept f t)

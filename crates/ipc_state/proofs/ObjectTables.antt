@@ -6,17 +6,15 @@ use Rattle.std.proofs.lemmas.Bool.{eqb-true, eq-eqb, ne_eqb}
 use Rattle.ipc_terms.specs.declared.facts.Facts.{Facts}
 use Rattle.ipc_terms.specs.declared.ids.Family.{Family}
 use Rattle.ipc_terms.specs.declared.ids.Family.TheVariants.{Mq, Sem}
-use Rattle.ipc_terms.specs.declared.record.Event.{Event}
 use Rattle.ipc_names.specs.Directory.{Directory}
 use Rattle.ipc_policy.specs.declared.config.Config.{Config}
 use Rattle.ipc_policy.specs.declared.config.Held.{Held}
 use Rattle.ipc_terms.specs.declared.object.Object.{Object}
 use Rattle.ipc_policy.specs.History.{History, kept, listed, gathered_below, any_below}
-use Rattle.ipc_policy.specs.Names.{Opening, is_bound, creations}
-use Rattle.ipc_policy.specs.Objects.{object, facts}
+use Rattle.ipc_policy.specs.Names.{Opening, creations}
+use Rattle.ipc_policy.specs.Objects.{object, facts, directory}
 use Rattle.ipc_policy.specs.Descriptions.{opens, if_of, held, holds, is_nonblock}
 use Rattle.ipc_policy.specs.Life.{named, bindings, gives_object, alive}
-use Rattle.ipc_policy.specs.Grow.{Grows, bindings_after}
 use Rattle.ipc_policy.proofs.Gathering.{gathered_same, gathered_more, passing, gathered_filter, any_below_same, any_below_more, more_at}
 use Rattle.ipc_policy.proofs.Holding.{kept_some}
 use Rattle.ipc_tables.specs.declared.rows.ObjectRow.{ObjectRow}
@@ -31,11 +29,8 @@ use Rattle.ipc_state.specs.Agrees.{DirectoryAgrees, ObjectsAgree, DescriptionsAg
 use Rattle.ipc_state.proofs.Lookups.{alive_is, row_of_other, row_of_own, row_other, row_own}
 use Rattle.ipc_state.proofs.Gathered.{gathered_changed}
 
-pub directory_kept : (c : Config) (h k : History) (e : Event) (f : Family) (t : Directory) → Grows c h k e → bindings_after f e (is_bound h) (creations h) (bindings h f) ≡ bindings h f → DirectoryAgrees h f t → DirectoryAgrees k f t
-directory_kept c h k e f t g b a = record {
-  bound = a.bound ∙ sym (g.bindings_of f ∙ b);
-  facts = a.facts ∙ sym (g.directory_of f);
-}
+pub directory_kept : (h k : History) (f : Family) (t : Directory) → bindings k f ≡ bindings h f → directory k f ≡ directory h f → DirectoryAgrees h f t → DirectoryAgrees k f t
+directory_kept h k f t b d a = record { bound = a.bound ∙ sym b; facts = a.facts ∙ sym d }
 
 -- objects, where nothing changes
 pub row_kept : (o : ℕ) (b d : Bool) (w x : Option Object) (v y : Option Facts) (m n : Inside) → b ≡ d → w ≡ x → v ≡ y → m ≡ n → cond b (row_made o w v m) None ≡ cond d (row_made o x y n) None

@@ -36,17 +36,18 @@ use Rattle.ipc_tables.specs.declared.tables.Grant.{Grant}
 use Rattle.ipc_state.specs.Agrees.{Agrees, SessionsAgree, DirectoryAgrees, inside}
 use Rattle.ipc_state.proofs.Lookups.{bound_alive}
 use Rattle.ipc_state.proofs.SessionTables.{sessions_kept}
-use Rattle.ipc_state.proofs.ObjectTables.{objects_kept, objects_created, descriptions_kept, descriptions_dropped}
+use Rattle.ipc_policy.proofs.Facts.{GivesNothing, facts_made, directory_left}
+use Rattle.ipc_state.proofs.ObjectTables.{directory_kept, objects_kept, objects_created, descriptions_kept, descriptions_dropped}
 use Rattle.ipc_state.proofs.Opens.{Apart, Opens, Ends, Unlinks, Closes, made_open, made_left, body_made, descriptions_opened, alive_opened}
 use Rattle.ipc_state.proofs.Accepting.{others_inside, gone}
 
 -- the sessions are as they were
-sessions_apart : (c : Config) (h : History) (e : Event) (t : Kept) → Apart e → Agrees c h t → SessionsAgree c (after_accepted h e) t.sessions
+pub sessions_apart : (c : Config) (h : History) (e : Event) (t : Kept) → Apart e → Agrees c h t → SessionsAgree c (after_accepted h e) t.sessions
 sessions_apart c h e t p a = sessions_kept c h _ e t.sessions (grows c h e) (p.hellos' _) (λ s. p.user' s _ _) (λ s. p.live' s _ _) (λ s. p.mask' s _) (λ s. parked_by_others c h e s p.still) a.sessions
 
 -- a directory, where its bindings are as they were
-directory_same : (c : Config) (h : History) (e : Event) (f : Family) (t : Directory) → bindings (after_accepted h e) f ≡ bindings h f → DirectoryAgrees h f t → DirectoryAgrees (after_accepted h e) f t
-directory_same c h e f t b a = record { bound = a.bound ∙ sym b; facts = a.facts ∙ sym ((grows c h e).directory_of f) }
+directory_same : (h : History) (e : Event) (f : Family) (t : Directory) → GivesNothing e → bindings (after_accepted h e) f ≡ bindings h f → DirectoryAgrees h f t → DirectoryAgrees (after_accepted h e) f t
+directory_same h e f t p b a = directory_kept h (after_accepted h e) f t b (directory_left h e p f) a
 
 -- the grant of an open
 abbrev pub granted_by : Opening → Grant
@@ -89,9 +90,9 @@ agrees_found c h t e asked o p a is =
     let old = new_of_bound h asked o is in
     record {
       sessions = sessions_apart c h e t p.apart a;
-      queues = directory_same c h e Mq t.queues (g.bindings_of Mq ∙ p.bindings' Mq _ _ _ ∙ made_none _ _ _ _ old) a.queues;
-      semaphores = directory_same c h e Sem t.semaphores (g.bindings_of Sem ∙ p.bindings' Sem _ _ _ ∙ made_none _ _ _ _ old) a.semaphores;
-      objects = objects_kept c h _ t.objects t.created (λ i. found_alive c h e asked o i p is) (λ i. g.object_of i ∙ made_open e asked p.is i _ _ _ _ ∙ made_none _ _ _ _ old) (λ i. g.facts_of i ∙ made_open e asked p.is i _ _ _ _ ∙ made_none _ _ _ _ old)
+      queues = directory_same h e Mq t.queues p.gives (g.bindings_of Mq ∙ p.bindings' Mq _ _ _ ∙ made_none _ _ _ _ old) a.queues;
+      semaphores = directory_same h e Sem t.semaphores p.gives (g.bindings_of Sem ∙ p.bindings' Sem _ _ _ ∙ made_none _ _ _ _ old) a.semaphores;
+      objects = objects_kept c h _ t.objects t.created (λ i. found_alive c h e asked o i p is) (λ i. g.object_of i ∙ made_open e asked p.is i _ _ _ _ ∙ made_none _ _ _ _ old) (λ i. facts_made c h e p.gives i ∙ made_open e asked p.is i _ _ _ _ ∙ made_none _ _ _ _ old)
           (λ i. others_inside c h e i p.apart.still (made_open e asked p.is i _ _ _ _ ∙ made_none _ _ _ _ old))
           (g.creation_count ∙ p.creations' _ _ ∙ rw old refl) a.objects;
       descriptions = descriptions_opened c h _ t.descriptions e asked o g p a.descriptions (found_by h asked o is);
@@ -113,14 +114,14 @@ created_alive c h e asked p new none =
     ∙ rw (new, eq-eqb (creations h) (creations h) refl) refl
 
 -- the name stands at the end of its family's directory
-names_bound : (c : Config) (h : History) (t : Kept) (e : Event) (f : Family) (name : List ℕ) → Agrees c h t → ((g : Family) → bindings (after_accepted h e) g ≡ cond (same_family f g) (bindings h g ++ record { name = name; object = creations h } ∷ []) (bindings h g)) → DirectoryAgrees (after_accepted h e) Mq (with_binding f name t.created t).queues × DirectoryAgrees (after_accepted h e) Sem (with_binding f name t.created t).semaphores
-names_bound c h t e Mq name a b = (
-  record { bound = ap (λ l. l ++ record { name = name; object = t.created } ∷ []) a.queues.bound ∙ ap (λ n. bindings h Mq ++ record { name = name; object = n } ∷ []) a.objects.count ∙ sym (b Mq); facts = a.queues.facts ∙ sym ((grows c h e).directory_of Mq) },
-  directory_same c h e Sem t.semaphores (b Sem) a.semaphores,
+names_bound : (c : Config) (h : History) (t : Kept) (e : Event) (f : Family) (name : List ℕ) → GivesNothing e → Agrees c h t → ((g : Family) → bindings (after_accepted h e) g ≡ cond (same_family f g) (bindings h g ++ record { name = name; object = creations h } ∷ []) (bindings h g)) → DirectoryAgrees (after_accepted h e) Mq (with_binding f name t.created t).queues × DirectoryAgrees (after_accepted h e) Sem (with_binding f name t.created t).semaphores
+names_bound c h t e Mq name p a b = (
+  record { bound = ap (λ l. l ++ record { name = name; object = t.created } ∷ []) a.queues.bound ∙ ap (λ n. bindings h Mq ++ record { name = name; object = n } ∷ []) a.objects.count ∙ sym (b Mq); facts = a.queues.facts ∙ sym (directory_left h e p Mq) },
+  directory_same h e Sem t.semaphores p (b Sem) a.semaphores,
 )
-names_bound c h t e Sem name a b = (
-  directory_same c h e Mq t.queues (b Mq) a.queues,
-  record { bound = ap (λ l. l ++ record { name = name; object = t.created } ∷ []) a.semaphores.bound ∙ ap (λ n. bindings h Sem ++ record { name = name; object = n } ∷ []) a.objects.count ∙ sym (b Sem); facts = a.semaphores.facts ∙ sym ((grows c h e).directory_of Sem) },
+names_bound c h t e Sem name p a b = (
+  directory_same h e Mq t.queues p (b Mq) a.queues,
+  record { bound = ap (λ l. l ++ record { name = name; object = t.created } ∷ []) a.semaphores.bound ∙ ap (λ n. bindings h Sem ++ record { name = name; object = n } ∷ []) a.objects.count ∙ sym (b Sem); facts = a.semaphores.facts ∙ sym (directory_left h e p Sem) },
 )
 
 -- with the name bound, the other tables are as they were
@@ -145,7 +146,7 @@ agrees_created c h t e asked who p a new none is =
     let g = grows c h e in
     let k = after_accepted h e in
     let n = creations h in
-    let names = names_bound c h t e asked.family asked.name a (λ f. g.bindings_of f ∙ p.bindings' f n (is_bound h) (bindings h f) ∙ new_is _ _ _ _ new) in
+    let names = names_bound c h t e asked.family asked.name p.gives a (λ f. g.bindings_of f ∙ p.bindings' f n (is_bound h) (bindings h f) ∙ new_is _ _ _ _ new) in
     let first = λ (o : ℕ). made_open e asked p.is o n (is_bound h) (λ x. value_asked x.kind) None ∙ new_is _ _ _ _ new in
     subst (λ f. Agrees c k (with_object (with_binding f asked.name t.created t) (granted_by asked) (made_by c asked who) (first_facts asked (mask h asked.session.0) who))) (sym (p.family' c))
     (subst (λ u. Agrees c k (with_object u (granted_by asked) (made_by c asked who) (first_facts asked (mask h asked.session.0) who))) (sym (rest_of asked.family asked.name t.created t)) (record {
@@ -155,11 +156,11 @@ agrees_created c h t e asked who p a new none is =
       objects = objects_created c h k t.objects t.created (made_by c asked who) (first_facts asked (mask h asked.session.0) who) (g.creation_count ∙ p.creations' n (is_bound h) ∙ rw new refl)
           (λ o lt. created_other c h e asked o p new none lt)
           (λ o lt. g.object_of o ∙ made_open e asked p.is o n (is_bound h) _ _ ∙ new_is _ _ _ _ new ∙ other_at n o _ _ lt)
-          (λ o lt. g.facts_of o ∙ made_open e asked p.is o n (is_bound h) _ _ ∙ new_is _ _ _ _ new ∙ other_at n o _ _ lt)
+          (λ o lt. facts_made c h e p.gives o ∙ made_open e asked p.is o n (is_bound h) _ _ ∙ new_is _ _ _ _ new ∙ other_at n o _ _ lt)
           (λ o lt. others_inside c h e o p.apart.still (first o ∙ other_at n o _ _ lt))
           (created_alive c h e asked p new none)
           (g.object_of n ∙ made_open e asked p.is n n (is_bound h) _ _ ∙ new_is _ _ _ _ new ∙ created_at n _ _ ∙ made_who (made_by c asked) _ who _ is)
-          (g.facts_of n ∙ made_open e asked p.is n n (is_bound h) _ _ ∙ new_is _ _ _ _ new ∙ created_at n _ _ ∙ made_who (first_facts asked (mask h asked.session.0)) _ who _ is)
+          (facts_made c h e p.gives n ∙ made_open e asked p.is n n (is_bound h) _ _ ∙ new_is _ _ _ _ new ∙ created_at n _ _ ∙ made_who (first_facts asked (mask h asked.session.0)) _ who _ is)
           (body_made c asked.kind _ _ (queue_by_others c h e n p.apart.still ∙ not_created_empty c h n (omega arith))
           (semaphore_by_others h e n p.apart.still ∙ ap (λ v. with_first v (semaphore h n)) (first n ∙ created_at n _ _) ∙ ap (with_first (option_or (value_asked asked.kind) None)) (not_created_still h n (omega arith))))
           a.objects;
@@ -167,7 +168,7 @@ agrees_created c h t e asked who p a new none is =
     }))
 
 -- an event that opens nothing leaves what stands in the objects
-ends_inside : (c : Config) (h : History) (e : Event) (o : ℕ) → Ends e → inside c (after_accepted h e) o ≡ inside c h o
+pub ends_inside : (c : Config) (h : History) (e : Event) (o : ℕ) → Ends e → inside c (after_accepted h e) o ≡ inside c h o
 ends_inside c h e o p = others_inside c h e o p.apart.still (made_left e p.none o _ _ _ _)
 
 -- an accepted close
@@ -180,24 +181,24 @@ agrees_closed c h t e sid desc p a =
     (g.open_count ∙ p.ends.opens' _)
     (g.creation_count ∙ p.ends.creations' _ _)
     (λ o. g.object_of o ∙ made_left e p.ends.none o _ _ _ _)
-    (λ o. g.facts_of o ∙ made_left e p.ends.none o _ _ _ _)
+    (λ o. facts_made c h e p.gives o ∙ made_left e p.ends.none o _ _ _ _)
     (λ o. ends_inside c h e o p.ends)
     a.objects.rows
     (sessions_apart c h e t p.ends.apart a)
-    (directory_same c h e Mq t.queues (g.bindings_of Mq ∙ p.bindings' Mq _ _ _) a.queues)
-    (directory_same c h e Sem t.semaphores (g.bindings_of Sem ∙ p.bindings' Sem _ _ _) a.semaphores)
+    (directory_same h e Mq t.queues p.gives (g.bindings_of Mq ∙ p.bindings' Mq _ _ _) a.queues)
+    (directory_same h e Sem t.semaphores p.gives (g.bindings_of Sem ∙ p.bindings' Sem _ _ _) a.semaphores)
     (descriptions_dropped h (after_accepted h e) t.descriptions (λ row. is_of sid.0 row && is_desc desc.0 row) (λ i x. eqb sid.0 x.session.0 && eqb desc.0 i) (λ i x. refl) (λ i. g.held_by i ∙ p.held' i _ _ _ _) (λ s d. g.nonblock_of s d ∙ p.ends.nonblock' s d _ _) (g.open_count ∙ p.ends.opens' _) a.descriptions)
     a
 
 -- the name is gone from its family's directory
-names_unbound : (c : Config) (h : History) (t : Kept) (e : Event) (f : Family) (name : List ℕ) → Agrees c h t → ((g : Family) → bindings (after_accepted h e) g ≡ filter (λ (x : Binding). not (same_family f g && same_name x.name name)) (bindings h g)) → DirectoryAgrees (after_accepted h e) Mq (without_binding f name t).queues × DirectoryAgrees (after_accepted h e) Sem (without_binding f name t).semaphores
-names_unbound c h t e Mq name a b = (
-  record { bound = ap (filter (λ (x : Binding). not (same_name x.name name))) a.queues.bound ∙ sym (b Mq); facts = a.queues.facts ∙ sym ((grows c h e).directory_of Mq) },
-  directory_same c h e Sem t.semaphores (b Sem ∙ filter_all (bindings h Sem)) a.semaphores,
+names_unbound : (c : Config) (h : History) (t : Kept) (e : Event) (f : Family) (name : List ℕ) → GivesNothing e → Agrees c h t → ((g : Family) → bindings (after_accepted h e) g ≡ filter (λ (x : Binding). not (same_family f g && same_name x.name name)) (bindings h g)) → DirectoryAgrees (after_accepted h e) Mq (without_binding f name t).queues × DirectoryAgrees (after_accepted h e) Sem (without_binding f name t).semaphores
+names_unbound c h t e Mq name p a b = (
+  record { bound = ap (filter (λ (x : Binding). not (same_name x.name name))) a.queues.bound ∙ sym (b Mq); facts = a.queues.facts ∙ sym (directory_left h e p Mq) },
+  directory_same h e Sem t.semaphores p (b Sem ∙ filter_all (bindings h Sem)) a.semaphores,
 )
-names_unbound c h t e Sem name a b = (
-  directory_same c h e Mq t.queues (b Mq ∙ filter_all (bindings h Mq)) a.queues,
-  record { bound = ap (filter (λ (x : Binding). not (same_name x.name name))) a.semaphores.bound ∙ sym (b Sem); facts = a.semaphores.facts ∙ sym ((grows c h e).directory_of Sem) },
+names_unbound c h t e Sem name p a b = (
+  directory_same h e Mq t.queues p (b Mq ∙ filter_all (bindings h Mq)) a.queues,
+  record { bound = ap (filter (λ (x : Binding). not (same_name x.name name))) a.semaphores.bound ∙ sym (b Sem); facts = a.semaphores.facts ∙ sym (directory_left h e p Sem) },
 )
 
 left_of : (f : Family) (name : List ℕ) (t : Kept) → without_binding f name t ≡ record t { queues = (without_binding f name t).queues; semaphores = (without_binding f name t).semaphores }
@@ -208,7 +209,7 @@ left_of Sem name t = refl
 pub agrees_unlinked : (c : Config) (h : History) (t : Kept) (e : Event) (what : Naming) → Unlinks e what → Agrees c h t → Agrees c (after_accepted h e) (after_unlink t what.family what.name)
 agrees_unlinked c h t e what p a =
     let g = grows c h e in
-    let names = names_unbound c h t e what.family what.name a (λ f. g.bindings_of f ∙ p.bindings' f _ _ _) in
+    let names = names_unbound c h t e what.family what.name p.gives a (λ f. g.bindings_of f ∙ p.bindings' f _ _ _) in
     let held' = λ (i : ℕ). g.held_by i ∙ p.held' i _ _ _ _ in
     let u = without_binding what.family what.name t in
     rw (left_of what.family what.name t) (gone c h (after_accepted h e) e t t.sessions t.objects u.queues u.semaphores t.descriptions (inside c h) (λ asked. unlinks asked.family asked.name e) (λ i x. false) g
@@ -217,7 +218,7 @@ agrees_unlinked c h t e what p a =
     (g.open_count ∙ p.ends.opens' _)
     (g.creation_count ∙ p.ends.creations' _ _)
     (λ o. g.object_of o ∙ made_left e p.ends.none o _ _ _ _)
-    (λ o. g.facts_of o ∙ made_left e p.ends.none o _ _ _ _)
+    (λ o. facts_made c h e p.gives o ∙ made_left e p.ends.none o _ _ _ _)
     (λ o. ends_inside c h e o p.ends)
     a.objects.rows
     (sessions_apart c h e t p.ends.apart a)

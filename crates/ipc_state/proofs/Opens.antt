@@ -30,6 +30,7 @@ use Rattle.ipc_policy.proofs.ParkedSteps.{moves}
 use Rattle.ipc_descr.specs.Descriptions.{Descriptions, with_open}
 use Rattle.ipc_tables.specs.Objects.{new_body}
 use Rattle.ipc_state.specs.Agrees.{DescriptionsAgree, row_held, body_of}
+use Rattle.ipc_policy.proofs.Facts.{GivesNothing}
 use Rattle.ipc_state.proofs.ObjectTables.{and_off}
 
 -- an event that says nothing of sessions and of what is parked
@@ -44,6 +45,7 @@ pub record Apart (e : Event) : Type 0 where
 pub record Opens (e : Event) (asked : Opening) : Type 0 where
   pub is : opening e ≡ Some asked
   pub apart : Apart e
+  pub gives : GivesNothing e
   pub family' : (c : Config) → family_of (kind_of c asked.kind) ≡ asked.family
   pub named' : (o n : ℕ) (b : Family → List ℕ → Bool) (w : Option Opening) → named_after o e b n w ≡ cond (is_new asked b && eqb n o) (Some asked) w
   pub held' : (d i n : ℕ) (b : Family → List ℕ → Option ℕ) (w : Option Held) → held_after d e i b n w ≡ option_or (cond (eqb i d) (option_map (held_as asked) (opened_by b n asked)) None) w
@@ -55,10 +57,10 @@ pub record Opens (e : Event) (asked : Opening) : Type 0 where
 pub opens_of : (e : Event) (asked : Opening) → opening e ≡ Some asked → Opens e asked
 opens_of (Do sid (MqOpen given)) asked k =
     let same : queue_opening sid given ≡ asked = cc in
-    subst (Opens (Do sid (MqOpen given))) same (record { is = refl; apart = record { still = refl; hellos' = λ n. refl; user' = λ s n w. refl; live' = λ s n b. refl; mask' = λ s m. refl }; family' = λ c. refl; named' = λ o n b w. refl; held' = λ d i n b w. refl; opens' = λ n. refl; nonblock' = λ s d n was. refl; bindings' = λ f n b w. refl; creations' = λ n b. refl })
+    subst (Opens (Do sid (MqOpen given))) same (record { is = refl; gives = record { owner = λ m. refl; group = λ m. refl; mode = λ m. refl }; apart = record { still = refl; hellos' = λ n. refl; user' = λ s n w. refl; live' = λ s n b. refl; mask' = λ s m. refl }; family' = λ c. refl; named' = λ o n b w. refl; held' = λ d i n b w. refl; opens' = λ n. refl; nonblock' = λ s d n was. refl; bindings' = λ f n b w. refl; creations' = λ n b. refl })
 opens_of (Do sid (SemOpen given)) asked k =
     let same : semaphore_opening sid given ≡ asked = cc in
-    subst (Opens (Do sid (SemOpen given))) same (record { is = refl; apart = record { still = refl; hellos' = λ n. refl; user' = λ s n w. refl; live' = λ s n b. refl; mask' = λ s m. refl }; family' = λ c. refl; named' = λ o n b w. refl; held' = λ d i n b w. refl; opens' = λ n. refl; nonblock' = λ s d n was. refl; bindings' = λ f n b w. refl; creations' = λ n b. refl })
+    subst (Opens (Do sid (SemOpen given))) same (record { is = refl; gives = record { owner = λ m. refl; group = λ m. refl; mode = λ m. refl }; apart = record { still = refl; hellos' = λ n. refl; user' = λ s n w. refl; live' = λ s n b. refl; mask' = λ s m. refl }; family' = λ c. refl; named' = λ o n b w. refl; held' = λ d i n b w. refl; opens' = λ n. refl; nonblock' = λ s d n was. refl; bindings' = λ f n b w. refl; creations' = λ n b. refl })
 opens_of (Do sid call) asked k = absurd cc
 opens_of (Hello found) asked k = absurd cc
 opens_of (Hangup sid) asked k = absurd cc
@@ -75,16 +77,17 @@ pub record Ends (e : Event) : Type 0 where
 -- an unlink
 pub record Unlinks (e : Event) (what : Naming) : Type 0 where
   pub ends : Ends e
+  pub gives : GivesNothing e
   pub held' : (d i n : ℕ) (b : Family → List ℕ → Option ℕ) (w : Option Held) → held_after d e i b n w ≡ kept (λ x. false) w
   pub bindings' : (f : Family) (n : ℕ) (b : Family → List ℕ → Bool) (w : List Binding) → bindings_after f e b n w ≡ filter (λ x. not (same_family what.family f && same_name x.name what.name)) w
 
 pub unlinks_of : (e : Event) (what : Naming) → unlinking e ≡ Some what → Unlinks e what
 unlinks_of (Do sid (MqUnlink name)) what k =
     let same : record { session = sid; family = Mq; name = name } ≡ what = cc in
-    subst (Unlinks (Do sid (MqUnlink name))) same (record { ends = record { none = refl; apart = record { still = refl; hellos' = λ n. refl; user' = λ s n w. refl; live' = λ s n b. refl; mask' = λ s m. refl }; named' = λ o n b w. refl; opens' = λ n. refl; nonblock' = λ s d n was. refl; creations' = λ n b. refl }; held' = λ d i n b w. refl; bindings' = λ f n b w. refl })
+    subst (Unlinks (Do sid (MqUnlink name))) same (record { gives = record { owner = λ m. refl; group = λ m. refl; mode = λ m. refl }; ends = record { none = refl; apart = record { still = refl; hellos' = λ n. refl; user' = λ s n w. refl; live' = λ s n b. refl; mask' = λ s m. refl }; named' = λ o n b w. refl; opens' = λ n. refl; nonblock' = λ s d n was. refl; creations' = λ n b. refl }; held' = λ d i n b w. refl; bindings' = λ f n b w. refl })
 unlinks_of (Do sid (SemUnlink name)) what k =
     let same : record { session = sid; family = Sem; name = name } ≡ what = cc in
-    subst (Unlinks (Do sid (SemUnlink name))) same (record { ends = record { none = refl; apart = record { still = refl; hellos' = λ n. refl; user' = λ s n w. refl; live' = λ s n b. refl; mask' = λ s m. refl }; named' = λ o n b w. refl; opens' = λ n. refl; nonblock' = λ s d n was. refl; creations' = λ n b. refl }; held' = λ d i n b w. refl; bindings' = λ f n b w. refl })
+    subst (Unlinks (Do sid (SemUnlink name))) same (record { gives = record { owner = λ m. refl; group = λ m. refl; mode = λ m. refl }; ends = record { none = refl; apart = record { still = refl; hellos' = λ n. refl; user' = λ s n w. refl; live' = λ s n b. refl; mask' = λ s m. refl }; named' = λ o n b w. refl; opens' = λ n. refl; nonblock' = λ s d n was. refl; creations' = λ n b. refl }; held' = λ d i n b w. refl; bindings' = λ f n b w. refl })
 unlinks_of (Do sid call) what k = absurd cc
 unlinks_of (Hello found) what k = absurd cc
 unlinks_of (Hangup sid) what k = absurd cc
@@ -92,15 +95,16 @@ unlinks_of (Hangup sid) what k = absurd cc
 -- a close
 pub record Closes (e : Event) (sid : Sid) (desc : Desc) : Type 0 where
   pub ends : Ends e
+  pub gives : GivesNothing e
   pub held' : (d i n : ℕ) (b : Family → List ℕ → Option ℕ) (w : Option Held) → held_after d e i b n w ≡ kept (λ x. eqb sid.0 x.session.0 && eqb desc.0 d) w
   pub bindings' : (f : Family) (n : ℕ) (b : Family → List ℕ → Bool) (w : List Binding) → bindings_after f e b n w ≡ w
   pub unlinks' : (f : Family) (name : List ℕ) → unlinks f name e ≡ false
 
 pub queue_closes : (sid : Sid) (desc : Desc) → Closes (Do sid (MqClose desc)) sid desc
-queue_closes sid desc = record { ends = record { none = refl; apart = record { still = refl; hellos' = λ n. refl; user' = λ s n w. refl; live' = λ s n b. refl; mask' = λ s m. refl }; named' = λ o n b w. refl; opens' = λ n. refl; nonblock' = λ s d n was. refl; creations' = λ n b. refl }; held' = λ d i n b w. refl; bindings' = λ f n b w. refl; unlinks' = λ f name. refl }
+queue_closes sid desc = record { gives = record { owner = λ m. refl; group = λ m. refl; mode = λ m. refl }; ends = record { none = refl; apart = record { still = refl; hellos' = λ n. refl; user' = λ s n w. refl; live' = λ s n b. refl; mask' = λ s m. refl }; named' = λ o n b w. refl; opens' = λ n. refl; nonblock' = λ s d n was. refl; creations' = λ n b. refl }; held' = λ d i n b w. refl; bindings' = λ f n b w. refl; unlinks' = λ f name. refl }
 
 pub semaphore_closes : (sid : Sid) (desc : Desc) → Closes (Do sid (SemClose desc)) sid desc
-semaphore_closes sid desc = record { ends = record { none = refl; apart = record { still = refl; hellos' = λ n. refl; user' = λ s n w. refl; live' = λ s n b. refl; mask' = λ s m. refl }; named' = λ o n b w. refl; opens' = λ n. refl; nonblock' = λ s d n was. refl; creations' = λ n b. refl }; held' = λ d i n b w. refl; bindings' = λ f n b w. refl; unlinks' = λ f name. refl }
+semaphore_closes sid desc = record { gives = record { owner = λ m. refl; group = λ m. refl; mode = λ m. refl }; ends = record { none = refl; apart = record { still = refl; hellos' = λ n. refl; user' = λ s n w. refl; live' = λ s n b. refl; mask' = λ s m. refl }; named' = λ o n b w. refl; opens' = λ n. refl; nonblock' = λ s d n was. refl; creations' = λ n b. refl }; held' = λ d i n b w. refl; bindings' = λ f n b w. refl; unlinks' = λ f name. refl }
 
 -- what an open makes, and what an event that opens nothing leaves
 pub made_open : {A : Type 0} (e : Event) (asked : Opening) → opening e ≡ Some asked → (o n : ℕ) (b : Family → List ℕ → Bool) (make : Opening → Option A) (w : Option A) → made_after o e b n make w ≡ cond (is_new asked b && eqb n o) (option_or (make asked) w) w

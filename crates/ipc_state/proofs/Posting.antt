@@ -41,16 +41,16 @@ use Rattle.ipc_state.proofs.SessionTables.{Columns, columns_of, columns_moved}
 use Rattle.ipc_state.proofs.Serving.{IsHereSemaphore, parked_stands}
 
 -- the semaphore of an object that is alive, as it is kept
-pub semaphore_there : (c : Config) (h : History) (t : Kept) (o first_value : ℕ) → Agrees c h t → alive h o ≡ true → as_semaphore (object c h o) ≡ Some first_value → semaphore_at t.objects o ≡ Some (counter_of (semaphore h o))
-semaphore_there c h t o first_value a lives e = semaphore_alive c h t o a lives ∙ ap (option_map (λ v. counter_of (semaphore h o))) e
+pub semaphore_there : (c : Config) (h : History) (t : Kept) (o first_value : ℕ) → Legal c h → Agrees c h t → alive h o ≡ true → as_semaphore (object c h o) ≡ Some first_value → semaphore_at t.objects o ≡ Some (counter_of (semaphore h o))
+semaphore_there c h t o first_value legal a lives e = semaphore_alive c h t o legal a lives ∙ ap (option_map (λ v. counter_of (semaphore h o))) e
 
 -- it stands in the table, where a call by a description of it is accepted
-pub semaphore_stands : (c : Config) (h : History) (t : Kept) (s d o : ℕ) → Agrees c h t → IsHereSemaphore c h t s d o → is_some (semaphore_at t.objects o) ≡ true
-semaphore_stands c h t s d o a here = subst (λ (i : ℕ). is_some (semaphore_at t.objects i) ≡ true) here.same (ap is_some (semaphore_there c h t here.x.object here.given a here.lives here.made))
+pub semaphore_stands : (c : Config) (h : History) (t : Kept) (s d o : ℕ) → Legal c h → Agrees c h t → IsHereSemaphore c h t s d o → is_some (semaphore_at t.objects o) ≡ true
+semaphore_stands c h t s d o legal a here = subst (λ (i : ℕ). is_some (semaphore_at t.objects i) ≡ true) here.same (ap is_some (semaphore_there c h t here.x.object here.given legal a here.lives here.made))
 
 -- who waits longest
-waiter_told : (c : Config) (h : History) (t : Kept) (o first_value : ℕ) → Agrees c h t → alive h o ≡ true → as_semaphore (object c h o) ≡ Some first_value → waiter_at t.objects o ≡ option_map receiver_of (first (waiters h o))
-waiter_told c h t o first_value a lives e = ap (option_and_then (λ (q : Counter). first q.waiters)) (semaphore_there c h t o first_value a lives e) ∙ longest_mapped receiver_of (waiters h o)
+waiter_told : (c : Config) (h : History) (t : Kept) (o first_value : ℕ) → Legal c h → Agrees c h t → alive h o ≡ true → as_semaphore (object c h o) ≡ Some first_value → waiter_at t.objects o ≡ option_map receiver_of (first (waiters h o))
+waiter_told c h t o first_value legal a lives e = ap (option_and_then (λ (q : Counter). first q.waiters)) (semaphore_there c h t o first_value legal a lives e) ∙ longest_mapped receiver_of (waiters h o)
 
 waiter_stands : (c : Config) (h : History) (xs : List Session) (o : ℕ) (w : Wait) → Legal c h → SessionsAgree c h xs → first (waiters h o) ≡ Some w → w.session < length xs
 waiter_stands c h xs o w legal a e = each_first (λ (v : Wait). v.session < length xs) (waiters h o) (each_map _ (λ (v : Wait). v.session < length xs) (waiters h o) (λ v is. parked_stands c h xs v.session _ a is) ((calls_listed c h legal).each_wait o)) w e
@@ -61,7 +61,7 @@ first_waiter (Some v) who e = let same : receiver_of v ≡ who = cc in (v, (refl
 
 waiters_stand : (c : Config) (h : History) (t : Kept) (o first_value : ℕ) → Legal c h → Agrees c h t → alive h o ≡ true → as_semaphore (object c h o) ≡ Some first_value → WaiterStands t o
 waiters_stand c h t o first_value legal a lives e = λ who is.
-    let found = first_waiter (first (waiters h o)) who (sym (waiter_told c h t o first_value a lives e) ∙ is) in
+    let found = first_waiter (first (waiters h o)) who (sym (waiter_told c h t o first_value legal a lives e) ∙ is) in
     subst (λ (s : ℕ). s < length t.sessions) found.1.1 (waiter_stands c h t.sessions o found.0 legal a.sessions found.1.0)
 
 pub waiter_is : (c : Config) (h : History) (t : Kept) (s d o : ℕ) → Legal c h → Agrees c h t → IsHereSemaphore c h t s d o → WaiterStands t o
@@ -81,7 +81,7 @@ post_room c h t sid desc o legal a accepted here =
     let low : is_greatest c h here.x.object ≡ false = ap (there_is (λ (x : Held). is_greatest c h x.object)) (sym here.held) ∙ post_below_greatest c h sid desc accepted in
     let below = sym (is_greatest-at c h here.x.object legal (ap is_some here.made)) ∙ low in
     subst (λ (i : ℕ). option_map overflows (semaphore_at t.objects i) ≡ Some false) here.same
-    (ap (option_map overflows) (semaphore_there c h t here.x.object here.given a here.lives here.made) ∙ ap Some (overflow_at (semaphore h here.x.object) below))
+    (ap (option_map overflows) (semaphore_there c h t here.x.object here.given legal a here.lives here.made) ∙ ap Some (overflow_at (semaphore h here.x.object) below))
 
 -- what a post and a wait do to the table of sessions
 posted_column : (c : Config) (h : History) (xs : List Session) (o : ℕ) (sid : Sid) → SessionsAgree c h xs → (r : Option Wait) → ((w : Wait) → r ≡ Some w → w.session < length xs) → Columns (parked_by_post (option_map receiver_of r) xs) (hellos h) (user h) (mask h) (live h) (column_after (option_map (λ (w : Wait). w.session) r) false sid.0 o (parked_object c h))
@@ -90,7 +90,7 @@ posted_column c h xs o sid a None there = columns_of c h xs a
 
 pub sessions_posted : (c : Config) (h : History) (t : Kept) (o first_value : ℕ) (sid : Sid) → Legal c h → Agrees c h t → alive h o ≡ true → as_semaphore (object c h o) ≡ Some first_value → Columns (parked_by_post (waiter_at t.objects o) t.sessions) (hellos h) (user h) (mask h) (live h) (column_after (option_map (λ (w : Wait). w.session) (first (waiters h o))) false sid.0 o (parked_object c h))
 sessions_posted c h t o first_value sid legal a lives e =
-    rw (waiter_told c h t o first_value a lives e) (posted_column c h t.sessions o sid a.sessions (first (waiters h o)) (λ w is. waiter_stands c h t.sessions o w legal a.sessions is))
+    rw (waiter_told c h t o first_value legal a lives e) (posted_column c h t.sessions o sid a.sessions (first (waiters h o)) (λ w is. waiter_stands c h t.sessions o w legal a.sessions is))
 
 waited_column : (c : Config) (h : History) (xs : List Session) (o : ℕ) (sid : Sid) → SessionsAgree c h xs → sid.0 < length xs → (b : Bool) → Columns (parked_by_wait o sid (Some (cond b WaitParks Passed)) xs) (hellos h) (user h) (mask h) (live h) (column_after None b sid.0 o (parked_object c h))
 waited_column c h xs o sid a lt true = columns_moved xs (hellos h) (user h) (mask h) (live h) (parked_object c h) (Some o) sid.0 lt (columns_of c h xs a)
@@ -103,7 +103,7 @@ outcome_is q = refl
 pub sessions_waited : (c : Config) (h : History) (t : Kept) (o first_value : ℕ) (sid : Sid) → Legal c h → Agrees c h t → alive h o ≡ true → as_semaphore (object c h o) ≡ Some first_value → sid.0 < length t.sessions → Columns (parked_by_wait o sid (option_map wait_outcome (semaphore_at t.objects o)) t.sessions) (hellos h) (user h) (mask h) (live h) (column_after None (is_zero c h o) sid.0 o (parked_object c h))
 sessions_waited c h t o first_value sid legal a lives e lt =
     let zero : eqb (semaphore h o).value 0 ≡ is_zero c h o = sym (is_zero-at c h o legal (ap is_some e)) in
-    let told : option_map wait_outcome (semaphore_at t.objects o) ≡ Some (cond (is_zero c h o) WaitParks Passed) = ap (option_map wait_outcome) (semaphore_there c h t o first_value a lives e) ∙ ap Some (outcome_is (semaphore h o)) ∙ ap (λ b. Some (cond b WaitParks Passed)) zero in
+    let told : option_map wait_outcome (semaphore_at t.objects o) ≡ Some (cond (is_zero c h o) WaitParks Passed) = ap (option_map wait_outcome) (semaphore_there c h t o first_value legal a lives e) ∙ ap Some (outcome_is (semaphore h o)) ∙ ap (λ b. Some (cond b WaitParks Passed)) zero in
     rw told (waited_column c h t.sessions o sid a.sessions lt (is_zero c h o))
 
 -- what they do to the semaphore

@@ -62,25 +62,25 @@ pub number_is : (c : Config) (h : History) (t : Kept) (s d : ℕ) → Agrees c h
 number_is c h t s d a = numbered (row_of t.descriptions.rows s d) ∙ ap (option_map (λ (x : Held). x.object)) (holds_is c h t s d a)
 
 -- the object
-pub object_is : (c : Config) (h : History) (t : Kept) (s d : ℕ) → Agrees c h t → option_and_then (λ o. option_map (λ (row : ObjectRow). row.object) (row_at t.objects o)) (option_map (λ (x : Held). x.object) (holds h s d)) ≡ object_held c h s d
-object_is c h t s d a = at (holds h s d) refl where
+pub object_is : (c : Config) (h : History) (t : Kept) (s d : ℕ) → Legal c h → Agrees c h t → option_and_then (λ o. option_map (λ (row : ObjectRow). row.object) (row_at t.objects o)) (option_map (λ (x : Held). x.object) (holds h s d)) ≡ object_held c h s d
+object_is c h t s d legal a = at (holds h s d) refl where
   at : (w : Option Held) → holds h s d ≡ w → option_and_then (λ o. option_map (λ (row : ObjectRow). row.object) (row_at t.objects o)) (option_map (λ (x : Held). x.object) w) ≡ option_and_then (λ x. object c h x.object) w
   at None e = refl
-  at (Some x) e = object_alive c h t x.object a (holds_alive h s d x e)
+  at (Some x) e = object_alive c h t x.object legal a (holds_alive h s d x e)
 
 -- the queue
-pub queue_is : (c : Config) (h : History) (t : Kept) (s d : ℕ) → Agrees c h t → option_and_then (queue_at t.objects) (option_map (λ (x : Held). x.object) (holds h s d)) ≡ option_and_then (queue_meant c h) (option_map (λ (x : Held). x.object) (holds h s d))
-queue_is c h t s d a = at (holds h s d) refl where
+pub queue_is : (c : Config) (h : History) (t : Kept) (s d : ℕ) → Legal c h → Agrees c h t → option_and_then (queue_at t.objects) (option_map (λ (x : Held). x.object) (holds h s d)) ≡ option_and_then (queue_meant c h) (option_map (λ (x : Held). x.object) (holds h s d))
+queue_is c h t s d legal a = at (holds h s d) refl where
   at : (w : Option Held) → holds h s d ≡ w → option_and_then (queue_at t.objects) (option_map (λ (x : Held). x.object) w) ≡ option_and_then (queue_meant c h) (option_map (λ (x : Held). x.object) w)
   at None e = refl
-  at (Some x) e = queue_alive c h t x.object a (holds_alive h s d x e)
+  at (Some x) e = queue_alive c h t x.object legal a (holds_alive h s d x e)
 
 -- the semaphore
-pub semaphore_is : (c : Config) (h : History) (t : Kept) (s d : ℕ) → Agrees c h t → option_and_then (semaphore_at t.objects) (option_map (λ (x : Held). x.object) (holds h s d)) ≡ option_and_then (semaphore_meant c h) (option_map (λ (x : Held). x.object) (holds h s d))
-semaphore_is c h t s d a = at (holds h s d) refl where
+pub semaphore_is : (c : Config) (h : History) (t : Kept) (s d : ℕ) → Legal c h → Agrees c h t → option_and_then (semaphore_at t.objects) (option_map (λ (x : Held). x.object) (holds h s d)) ≡ option_and_then (semaphore_meant c h) (option_map (λ (x : Held). x.object) (holds h s d))
+semaphore_is c h t s d legal a = at (holds h s d) refl where
   at : (w : Option Held) → holds h s d ≡ w → option_and_then (semaphore_at t.objects) (option_map (λ (x : Held). x.object) w) ≡ option_and_then (semaphore_meant c h) (option_map (λ (x : Held). x.object) w)
   at None e = refl
-  at (Some x) e = semaphore_alive c h t x.object a (holds_alive h s d x e)
+  at (Some x) e = semaphore_alive c h t x.object legal a (holds_alive h s d x e)
 
 -- whether its value is 0, and whether it is the greatest
 test_is : (test : ℕ → Bool) (u : Semaphore) (n : ℕ) (w : Option ℕ) → n ≡ u.value → there_is (λ (q : Counter). test q.value) (option_map (λ first_value. counter_of u) w) ≡ there_is (λ first_value. test n) w

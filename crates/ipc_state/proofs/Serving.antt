@@ -103,8 +103,8 @@ pub sender_stands : (c : Config) (h : History) (xs : List Session) (o : ℕ) (m 
 sender_stands c h xs o m legal a e = each_first (λ (v : Send). v.session < length xs) (senders c h o) (each_map _ (λ (v : Send). v.session < length xs) (senders c h o) (λ v is. parked_stands c h xs v.session _ a is) ((calls_listed c h legal).each_send o)) m e
 
 -- the queue of an object that is alive, as it is kept
-pub queue_there : (c : Config) (h : History) (t : Kept) (o : ℕ) (y : Attributes) → Agrees c h t → alive h o ≡ true → attributes c h o ≡ Some y → queue_at t.objects o ≡ Some (tickets_of (queue c h o) y)
-queue_there c h t o y a lives e = queue_alive c h t o a lives ∙ ap (option_map (tickets_of (queue c h o))) e
+pub queue_there : (c : Config) (h : History) (t : Kept) (o : ℕ) (y : Attributes) → Legal c h → Agrees c h t → alive h o ≡ true → attributes c h o ≡ Some y → queue_at t.objects o ≡ Some (tickets_of (queue c h o) y)
+queue_there c h t o y legal a lives e = queue_alive c h t o legal a lives ∙ ap (option_map (tickets_of (queue c h o))) e
 
 -- who is first in a list that is kept
 first_mapped : (rs : List Wait) (who : Sid) → first (map receiver_of rs) ≡ Some who → (w : Wait) × ((first rs ≡ Some w) × (w.session ≡ who.0))
@@ -129,7 +129,7 @@ sent_column c h xs o sid a lt None there false = columns_of c h xs a
 
 pub sessions_sent : (c : Config) (h : History) (t : Kept) (o : ℕ) (y : Attributes) (sid : Sid) → Legal c h → Agrees c h t → alive h o ≡ true → attributes c h o ≡ Some y → sid.0 < length t.sessions → Columns (parked_by_send o sid (option_map send_outcome (queue_at t.objects o)) t.sessions) (hellos h) (user h) (mask h) (live h) (column_after (option_map (λ (w : Wait). w.session) (first (receivers c h o))) (is_full c h o) sid.0 o (parked_object c h))
 sessions_sent c h t o y sid legal a lives e lt =
-    let told : option_map send_outcome (queue_at t.objects o) ≡ Some (outcome_by_receiver (is_full c h o) (option_map receiver_of (first (receivers c h o)))) = ap (option_map send_outcome) (queue_there c h t o y a lives e) ∙ ap Some (send_told c h o y e) in
+    let told : option_map send_outcome (queue_at t.objects o) ≡ Some (outcome_by_receiver (is_full c h o) (option_map receiver_of (first (receivers c h o)))) = ap (option_map send_outcome) (queue_there c h t o y legal a lives e) ∙ ap Some (send_told c h o y e) in
     rw told (sent_column c h t.sessions o sid a.sessions lt (first (receivers c h o)) (λ w is. receiver_stands c h t.sessions o w legal a.sessions is) (is_full c h o))
 
 -- at a full queue no receive is parked
@@ -185,7 +185,7 @@ none_sends c h o y q e empty = at (senders c h o) refl where
 
 pub sessions_received : (c : Config) (h : History) (t : Kept) (o : ℕ) (y : Attributes) (sid : Sid) → Legal c h → Agrees c h t → alive h o ≡ true → attributes c h o ≡ Some y → IsOpen c h o y → sid.0 < length t.sessions → Columns (parked_by_receive o sid (option_map receive_outcome (queue_at t.objects o)) t.sessions) (hellos h) (user h) (mask h) (live h) (column_after (option_map (λ (m : Send). m.session) (first (senders c h o))) (is_empty c h o) sid.0 o (parked_object c h))
 sessions_received c h t o y sid legal a lives e q lt =
-    let told : option_map receive_outcome (queue_at t.objects o) ≡ Some (outcome_by_next (option_map (λ (m : Send). m.place) (next (contents c h o))) (option_map sender_of (first (senders c h o)))) = ap (option_map receive_outcome) (queue_there c h t o y a lives e) ∙ ap Some (receive_told (queue c h o) y) in
+    let told : option_map receive_outcome (queue_at t.objects o) ≡ Some (outcome_by_next (option_map (λ (m : Send). m.place) (next (contents c h o))) (option_map sender_of (first (senders c h o)))) = ap (option_map receive_outcome) (queue_there c h t o y legal a lives e) ∙ ap Some (receive_told (queue c h o) y) in
     rw told (received_column c h t.sessions o sid a.sessions lt (first (senders c h o)) (λ m is. sender_stands c h t.sessions o m legal a.sessions is) (is_empty c h o) (none_sends c h o y q e) (next (contents c h o)) (λ b. next_none (contents c h o) (sym (empty_at c h o y e) ∙ b)) (λ b. next_is (contents c h o) (sym (empty_at c h o y e) ∙ b)))
 
 -- what they do to the queue
@@ -246,19 +246,19 @@ pub semaphore_here : (c : Config) (h : History) (t : Kept) (s d o : ℕ) → Agr
 semaphore_here c h t s d o a free is = here_at as_semaphore c h t s d o a free.lives (λ x e. not_bad_semaphore c h s d x free.held e) is
 
 -- and its queue stands in the table
-pub queue_stands : (c : Config) (h : History) (t : Kept) (s d o : ℕ) → Agrees c h t → IsHereQueue c h t s d o → is_some (queue_at t.objects o) ≡ true
-queue_stands c h t s d o a here = subst (λ (i : ℕ). is_some (queue_at t.objects i) ≡ true) here.same (ap is_some (queue_there c h t here.x.object here.given a here.lives here.made))
+pub queue_stands : (c : Config) (h : History) (t : Kept) (s d o : ℕ) → Legal c h → Agrees c h t → IsHereQueue c h t s d o → is_some (queue_at t.objects o) ≡ true
+queue_stands c h t s d o legal a here = subst (λ (i : ℕ). is_some (queue_at t.objects i) ≡ true) here.same (ap is_some (queue_there c h t here.x.object here.given legal a here.lives here.made))
 
 -- so who is served stands in the table of sessions
 receivers_stand : (c : Config) (h : History) (t : Kept) (o : ℕ) (y : Attributes) → Legal c h → Agrees c h t → alive h o ≡ true → attributes c h o ≡ Some y → ReceiverStands t o
 receivers_stand c h t o y legal a lives e = λ q who is first'.
-    let same : tickets_of (queue c h o) y ≡ q = (let both = sym (queue_there c h t o y a lives e) ∙ is in cc) in
+    let same : tickets_of (queue c h o) y ≡ q = (let both = sym (queue_there c h t o y legal a lives e) ∙ is in cc) in
     let found = first_mapped (receivers c h o) who (ap (λ (r : Tickets). first r.receivers) same ∙ first') in
     subst (λ (s : ℕ). s < length t.sessions) found.1.1 (receiver_stands c h t.sessions o found.0 legal a.sessions found.1.0)
 
 senders_stand : (c : Config) (h : History) (t : Kept) (o : ℕ) (y : Attributes) → Legal c h → Agrees c h t → alive h o ≡ true → attributes c h o ≡ Some y → SenderStands t o
 senders_stand c h t o y legal a lives e = λ q who is first'.
-    let same : tickets_of (queue c h o) y ≡ q = (let both = sym (queue_there c h t o y a lives e) ∙ is in cc) in
+    let same : tickets_of (queue c h o) y ≡ q = (let both = sym (queue_there c h t o y legal a lives e) ∙ is in cc) in
     let found = first_sender (senders c h o) who (ap (λ (r : Tickets). first r.senders) same ∙ first') in
     subst (λ (s : ℕ). s < length t.sessions) found.1.1 (sender_stands c h t.sessions o found.0 legal a.sessions found.1.0)
 

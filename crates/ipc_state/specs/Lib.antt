@@ -2,3 +2,4 @@ pub mod Past
 pub mod Ranges
 pub mod Agrees
 pub mod Memory
+pub mod Changes

@@ -10,6 +10,7 @@ ghost use Rattle.ipc_policy.specs.Verdict.{verdict};
 ghost use Rattle.ipc_state.specs.Agrees.{Agrees, IsCore};
 ghost use Rattle.ipc_state.specs.Memory.{takes_memory};
 
+use crate::changing::accept_change;
 use crate::looking::object_number;
 use ipc_access::Cred;
 use ipc_policy::{Config, Opening, opening_of};
@@ -101,6 +102,8 @@ fn accept_in_place(tables: &mut Tables, config: &Config, past: &Trail, sid: Sid,
         Call::MqUnlink(name) => tables.unlink(Family::Mq, name),
         Call::SemUnlink(name) => tables.unlink(Family::Sem, name),
         Call::Interrupt => accept_interrupt(tables, config, past, sid),
+        Call::Chmod { target, .. } => accept_change(tables, config, past, sid, call, target),
+        Call::Chown { target, .. } => accept_change(tables, config, past, sid, call, target),
         Call::MqGetattr(_) => {}
         Call::SemGetvalue(_) => {}
         Call::ListNames { .. } => {}

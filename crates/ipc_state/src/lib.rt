@@ -3,6 +3,7 @@
 #![tactic(auto)]
 
 mod accept;
+mod changing;
 mod limits;
 mod looking;
 mod message;

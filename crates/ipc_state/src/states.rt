@@ -6,7 +6,7 @@ ghost use Rattle.ipc_terms.specs.Lists.{first};
 ghost use Rattle.ipc_terms.specs.Pages.{page};
 ghost use Rattle.ipc_policy.specs.Sessions.{hellos, live, cred, mask};
 ghost use Rattle.ipc_policy.specs.Names.{is_bound, bound};
-ghost use Rattle.ipc_policy.specs.Objects.{facts, directory};
+ghost use Rattle.ipc_policy.specs.Objects.{facts, directory, facts_meant};
 ghost use Rattle.ipc_policy.specs.Descriptions.{opens, holds, held_count, is_nonblock};
 ghost use Rattle.ipc_policy.specs.Life.{names};
 ghost use Rattle.ipc_policy.specs.Queues.{next};
@@ -27,7 +27,7 @@ use ipc_sem::Sem;
 use ipc_tables::Tables;
 use ipc_terms::{
     Desc, Event, Facts, Family, Mode, Name, Names, NoMemory, Object, Record, Rule, SEM_VALUE_MAX,
-    Sid,
+    Sid, Target,
 };
 use ipc_trail::Trail;
 use std::alloc::Global;
@@ -168,6 +168,16 @@ impl State {
         ensures { result ≡ option_and_then (facts self.now.config self.now.history) (bound self.now.history family name.now) }
     {
         looking::facts(&self.tables, self.bound(family, name))
+    }
+
+    /// The owner, group and mode of the directory itself, or of the object to which the name is bound.
+    pub fn facts_meant(&self, target: &Target) -> Option<Facts>
+        ensures { result ≡ facts_meant self.now.config self.now.history target.now }
+    {
+        match target {
+            Target::Dir(family) => Some(self.directory(*family)),
+            Target::Name(family, name) => self.facts_bound(*family, name),
+        }
     }
 
     /// How many descriptions were opened: the number of the next one.

@@ -80,6 +80,10 @@ with_queue change row = record row { body = with_body change row.body }
 abbrev pub with_semaphore : (Counter → Counter) → ObjectRow → ObjectRow
 with_semaphore change row = record row { body = with_counter change row.body }
 
+-- the owner, group and mode of a row change
+abbrev pub with_facts : Facts → ObjectRow → ObjectRow
+with_facts facts row = record row { facts = facts }
+
 -- the session's parked call in a row is gone
 abbrev pub with_withdrawal : Sid → ObjectRow → ObjectRow
 with_withdrawal who row = record row { body = without_call who row.body }

@@ -26,7 +26,7 @@ use Rattle.ipc_sem.specs.Counters.{posted, wait_outcome, waited, tried}
 use Rattle.ipc_tables.specs.declared.rows.Session.{Session}
 use Rattle.ipc_tables.specs.declared.rows.ObjectRow.{ObjectRow}
 use Rattle.ipc_tables.specs.declared.tables.Grant.{Grant}
-use Rattle.ipc_tables.specs.Objects.{is_number, queue_at, semaphore_at, new_row, with_queue, with_semaphore, with_withdrawal}
+use Rattle.ipc_tables.specs.Objects.{is_number, queue_at, semaphore_at, new_row, with_queue, with_semaphore, with_withdrawal, with_facts}
 use Rattle.ipc_tables.specs.Kept.{Kept, is_alive, parked_on_at}
 
 abbrev pub with_mask : Mode → Session → Session
@@ -191,3 +191,11 @@ after_hangup t sid = ended (after_withdrawal t sid) sid.0
 
 abbrev pub after_setattr : Kept → ℕ → Bool → Kept
 after_setattr t d nonblock = record t { descriptions = record t.descriptions { rows = changed_first (is_desc d) (with_nonblock nonblock) t.descriptions.rows } }
+
+-- an object has this owner, group and mode
+abbrev pub after_facts : Kept → ℕ → Facts → Kept
+after_facts t o facts = record t { objects = changed_first (is_number o) (with_facts facts) t.objects }
+
+-- the directory of a family has them
+abbrev pub after_directory : Kept → Family → Facts → Kept
+after_directory t family facts = with_directory family (λ d. record d { facts = facts }) t

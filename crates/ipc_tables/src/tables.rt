@@ -10,7 +10,7 @@ ghost use Rattle.ipc_descr.specs.Descriptions.{row_of, is_open};
 ghost use Rattle.ipc_tables.specs.Objects.{HasRoom, is_number, row_at, queue_at, semaphore_at};
 ghost use Rattle.ipc_sem.specs.Counters.{overflows};
 ghost use Rattle.ipc_tables.specs.Kept.{directory_kept, is_alive};
-ghost use Rattle.ipc_tables.specs.Steps.{hung_up, with_parked, with_object, living, with_binding, without_binding, ReceiverStands, SenderStands, WaiterStands, after_post, after_wait, after_try, after_hello, after_umask, after_found, after_created, after_close, after_unlink, after_hangup, after_send, after_receive, after_withdrawal, ended, after_setattr};
+ghost use Rattle.ipc_tables.specs.Steps.{hung_up, with_parked, with_object, living, with_binding, without_binding, ReceiverStands, SenderStands, WaiterStands, after_post, after_wait, after_try, after_hello, after_umask, after_found, after_created, after_close, after_unlink, after_hangup, after_send, after_receive, after_withdrawal, ended, after_setattr, after_facts, after_directory};
 
 use crate::rows::{Body, ObjectRow, Session};
 use ipc_descr::Descrs;
@@ -345,6 +345,26 @@ impl Tables {
         session.parked_on = object;
     }
 
+    /// Gives the object this owner, group and mode. Where there is no such object nothing changes.
+    pub fn set_facts(&mut self, object: u64, facts: Facts)
+        ensures { self.new ≡ after_facts self.old object facts }
+    {
+        if let Some(index) = find_index(&self.objects, object) {
+            let row = &mut self.objects[index];
+            row.facts = facts;
+        }
+    }
+
+    /// Gives the family's directory this owner, group and mode.
+    pub fn set_directory(&mut self, family: Family, facts: Facts)
+        ensures { self.new ≡ after_directory self.old family facts }
+    {
+        match family {
+            Family::Mq => give_facts(&mut self.queues, facts),
+            Family::Sem => give_facts(&mut self.semaphores, facts),
+        }
+    }
+
     /// Sets whether the calls by the description are refused where they would wait.
     pub fn set_nonblock(&mut self, sid: Sid, desc: Desc, nonblock: bool)
         requires { IsSome (row_of self.old.descriptions.rows sid.0 desc.0) }
@@ -409,6 +429,14 @@ impl Tables {
         let session = &mut self.sessions[sid.0 as usize];
         session.is_live = false;
     }
+}
+
+/// Gives the directory this owner, group and mode.
+fn give_facts(directory: &mut NameDir, facts: Facts)
+    ensures { directory.new ≡ record directory.old { facts = facts } }
+{
+    directory.set_mode(facts.mode);
+    directory.set_owner(facts.owner, facts.group);
 }
 
 /// Keeps the objects that have a name, or that a description gives.

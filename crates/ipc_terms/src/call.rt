@@ -5,7 +5,7 @@ ghost use Rattle.std.specs.Prelude.{◌≡◌, IfOk};
 use crate::bytes::Bytes;
 use crate::facts::Facts;
 use crate::flags::OpenFlags;
-use crate::ids::{Desc, Family, Mode, Sid, Target};
+use crate::ids::{Desc, Family, Gid, Mode, Sid, Target, Uid};
 use crate::name::{Name, Names};
 use crate::rule::Rule;
 use std::alloc::AllocError;
@@ -103,6 +103,19 @@ pub enum Call {
     },
     /// Asks for the owner, group and mode of what is meant.
     StatName(Target),
+    /// Gives what is meant this mode: octal 0777 of it to an object, 01777 to a directory
+    /// (POSIX.1-2017, `chmod`).
+    Chmod {
+        mode: Mode,
+        target: Target,
+    },
+    /// Gives what is meant this owner and this group; `None` keeps the one that it has
+    /// (POSIX.1-2017, `chown`).
+    Chown {
+        owner: Option<Uid>,
+        group: Option<Gid>,
+        target: Target,
+    },
     /// Ends the session's call that is parked: that call is answered that it was interrupted, and has no
     /// other effect (POSIX.1-2017, `EINTR`).
     Interrupt,

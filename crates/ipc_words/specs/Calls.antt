@@ -1,5 +1,6 @@
 -- The call that a command means.
 use Rattle.std.specs.Prelude.{⊤, ◌≡◌, ℕ, ◌+◌, ◌-◌, ◌^◌, List, [], ◌∷◌, Option, Some, None, Result, Ok, Err, if◌then◌else◌, unwrap_or, codes}
+use Rattle.std.specs.Option.{option_map}
 use Rattle.clap.specs.Walk.{Row}
 use Rattle.clap.specs.Simple.{matches_of}
 use Rattle.ipc_terms.specs.declared.call.Attributes.{Attributes}
@@ -13,14 +14,14 @@ use Rattle.ipc_terms.specs.declared.ids.Target.{Target}
 use Rattle.ipc_terms.specs.declared.ids.Target.TheVariants as target
 use Rattle.ipc_words.specs.declared.calls.Manner.{Manner}
 use Rattle.ipc_words.specs.declared.commands.Verb.{Verb}
-use Rattle.ipc_words.specs.declared.commands.Verb.TheVariants.{Umask, MqOpen, MqClose, MqSend, MqReceive, MqGetattr, MqSetattr, MqUnlink, SemOpen, SemClose, SemUnlink, SemPost, SemWait, SemTryWait, SemGetvalue, Ls, Stat, Interrupt}
+use Rattle.ipc_words.specs.declared.commands.Verb.TheVariants.{Umask, MqOpen, MqClose, MqSend, MqReceive, MqGetattr, MqSetattr, MqUnlink, SemOpen, SemClose, SemUnlink, SemPost, SemWait, SemTryWait, SemGetvalue, Ls, Stat, Chmod, Chown, Interrupt}
 use Rattle.ipc_words.specs.declared.faults.WordFault.{WordFault}
 use Rattle.ipc_words.specs.declared.faults.WordFault.TheVariants.{Usage, NoMemory}
 use Rattle.ipc_words.specs.Grammar.{Form, app_of_form, form_of_word}
 use Rattle.ipc_words.specs.Numbers.{decimal_within, octal_mode}
 use Rattle.ipc_words.specs.Parses.{IsParsed}
 use Rattle.ipc_words.specs.Readings.{Meaning, Reads, ◌>>=◌, description_at, is_given, option_at, value_at}
-use Rattle.ipc_words.specs.Values.{access_of_word, bytes_of_word, family_of_word, nonblock_of_word}
+use Rattle.ipc_words.specs.Values.{access_of_word, bytes_of_word, family_of_word, id_of_word, nonblock_of_word}
 
 -- 1 for CREATE, 2 for EXCLUSIVE and 4 for NONBLOCK
 unfoldable pub flags_of_rows : List Row → OpenFlags
@@ -47,6 +48,12 @@ attributes_of_rows rows =
 abbrev pub target_in : Family → Option (List ℕ) → Target
 target_in family None = target.Dir family
 target_in family (Some name) = target.Name family name
+
+unfoldable pub target_of_rows : List Row → Meaning Target
+target_of_rows rows =
+    value_at family_of_word (codes "family") rows >>= λ family.
+    option_at bytes_of_word (codes "name") rows >>= λ name.
+    Ok (target_in family name)
 
 -- a length, a priority or a place is a u32
 abbrev pub count_at : List ℕ → List Row → Meaning ℕ
@@ -117,10 +124,16 @@ meaning_of Ls rows =
     count_at (codes "start") rows >>= λ start.
     value_at (decimal_within (2 ^ 16 - 1)) (codes "count") rows >>= λ count.
     Ok (call.ListNames family start count)
-meaning_of Stat rows =
-    value_at family_of_word (codes "family") rows >>= λ family.
-    option_at bytes_of_word (codes "name") rows >>= λ name.
-    Ok (call.StatName (target_in family name))
+meaning_of Stat rows = target_of_rows rows >>= λ target. Ok (call.StatName target)
+meaning_of Chmod rows =
+    value_at octal_mode (codes "octal") rows >>= λ mode.
+    target_of_rows rows >>= λ target.
+    Ok (call.Chmod mode target)
+meaning_of Chown rows =
+    value_at id_of_word (codes "uid") rows >>= λ owner.
+    value_at id_of_word (codes "gid") rows >>= λ group.
+    target_of_rows rows >>= λ target.
+    Ok (call.Chown (option_map (λ n. record { 0 = n }) owner) (option_map (λ n. record { 0 = n }) group) target)
 meaning_of Interrupt rows = Ok call.Interrupt
 
 -- ---- what words mean

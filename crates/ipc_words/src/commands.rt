@@ -25,6 +25,8 @@ pub enum Verb {
     SemGetvalue,
     Ls,
     Stat,
+    Chmod,
+    Chown,
     Interrupt,
 }
 
@@ -50,7 +52,7 @@ pub struct Form {
 }
 
 /// All commands.
-pub static FORMS: [Form; 18] = [
+pub static FORMS: [Form; 20] = [
     Form {
         word: "umask",
         verb: Verb::Umask,
@@ -150,6 +152,21 @@ pub static FORMS: [Form; 18] = [
         word: "stat",
         verb: Verb::Stat,
         arguments: &[Required("family"), Optional("name")],
+    },
+    Form {
+        word: "chmod",
+        verb: Verb::Chmod,
+        arguments: &[Required("octal"), Required("family"), Optional("name")],
+    },
+    Form {
+        word: "chown",
+        verb: Verb::Chown,
+        arguments: &[
+            Required("uid"),
+            Required("gid"),
+            Required("family"),
+            Optional("name"),
+        ],
     },
     Form {
         word: "interrupt",

@@ -1,6 +1,9 @@
 //! Classes, modes and sticky directories, and the user file.
 
-use ipc_access::{Class, Cred, DirFacts, Groups, UserFault, Users, class_of, grants, may_remove};
+use ipc_access::{
+    Class, Cred, DirFacts, Groups, UserFault, Users, class_of, grants, may_chmod, may_chown,
+    may_remove,
+};
 use ipc_terms::{Gid, Mode, NoMemory, Uid};
 use std::alloc::Global;
 use std::test::Fail;
@@ -75,6 +78,32 @@ fn sticky_directories_restrict_removal(rt: HostRuntime) -> Result<(), Fail> {
         let who = cred(rt.alloc(), *uid, 1001)?;
         if may_remove(&who, &directory, Uid(1000)) != *removes {
             return Err(Fail::new(format_args!("user {uid} in {mode:o}")));
+        }
+    }
+    Ok(())
+}
+
+/// A user of its own group and of 50 and 51; the new owner and group of what is user 1000's, and whether the
+/// user may give it to them.
+static GIFTS: [(u32, Option<Uid>, Option<Gid>, bool); 9] = [
+    (1000, None, None, true),
+    (1000, Some(Uid(1000)), Some(Gid(51)), true),
+    (1000, None, Some(Gid(1000)), true),
+    (1000, None, Some(Gid(52)), false),
+    (1000, Some(Uid(1001)), None, false),
+    (1001, None, None, false),
+    (1001, Some(Uid(1001)), Some(Gid(50)), false),
+    (0, Some(Uid(1001)), Some(Gid(52)), true),
+    (0, None, None, true),
+];
+
+#[test]
+fn an_owner_gives_to_its_own_groups_alone(rt: HostRuntime) -> Result<(), Fail> {
+    for (user, uid, gid, gives) in &GIFTS {
+        let who = cred(rt.alloc(), *user, *user)?;
+        let changes = may_chmod(&who, Uid(1000));
+        if may_chown(&who, Uid(1000), *uid, *gid) != *gives || changes != (*user != 1001) {
+            return Err(Fail::new(format_args!("user {user}")));
         }
     }
     Ok(())

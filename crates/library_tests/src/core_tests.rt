@@ -277,4 +277,7 @@ fn the_laws_are_there(_rt: HostRuntime) {
     laws::parked_listed();
     laws::parked_alive();
     laws::bounded();
+    laws::in_range();
+    laws::counted();
+    laws::rights();
 }

@@ -34,12 +34,15 @@ enum Meaning {
     List(Family, u32, u16),
     Directory(Family),
     Stat(Family, &'static [u8]),
+    Chmod(u16, Family, Option<&'static [u8]>),
+    Chown(Option<u32>, Option<u32>, Family, Option<&'static [u8]>),
     Interrupt,
 }
 
 use Meaning::{
-    BadValue, Close, Directory, Getattr, Interrupt, List, Open, Receive, SemClose, SemGetvalue,
-    SemOpen, SemPost, SemTryWait, SemUnlink, SemWait, Send, Setattr, Stat, Umask, Unlink, Usage,
+    BadValue, Chmod, Chown, Close, Directory, Getattr, Interrupt, List, Open, Receive, SemClose,
+    SemGetvalue, SemOpen, SemPost, SemTryWait, SemUnlink, SemWait, Send, Setattr, Stat, Umask,
+    Unlink, Usage,
 };
 
 /// Whether the words mean this.
@@ -79,7 +82,23 @@ fn is_call(call: &Call, meaning: &Meaning) -> bool {
             desc.0 == *number && nonblock == wanted
         }
         (Call::MqUnlink(name), Unlink(wanted)) => name.as_slice() == *wanted,
-        (Call::StatName(target), meaning) => is_target(target, meaning),
+        (Call::StatName(target), Directory(family)) => is_meant(target, *family, None),
+        (Call::StatName(target), Stat(family, name)) => is_meant(target, *family, Some(name)),
+        (Call::Chmod { mode, target }, Chmod(bits, family, name)) => {
+            mode.0 == *bits && is_meant(target, *family, *name)
+        }
+        (
+            Call::Chown {
+                owner,
+                group,
+                target,
+            },
+            Chown(uid, gid, family, name),
+        ) => {
+            owner.map(|u| u.0) == *uid
+                && group.map(|g| g.0) == *gid
+                && is_meant(target, *family, *name)
+        }
         (
             Call::ListNames {
                 family,
@@ -127,12 +146,11 @@ fn is_open(asked: &QueueOpen, meaning: &Meaning) -> bool {
         && asked.attributes.map(|a| (a.maxmsg, a.msgsize)) == *attributes
 }
 
-fn is_target(target: &Target, meaning: &Meaning) -> bool {
-    match (target, meaning) {
-        (Target::Dir(family), Directory(wanted)) => family == wanted,
-        (Target::Name(family, name), Stat(wanted, bytes)) => {
-            family == wanted && name.as_slice() == *bytes
-        }
+/// Whether the target is the name of the family, or with no name the directory itself.
+fn is_meant(target: &Target, family: Family, name: Option<&[u8]>) -> bool {
+    match (target, name) {
+        (Target::Dir(of), None) => *of == family,
+        (Target::Name(of, found), Some(wanted)) => *of == family && found.as_slice() == wanted,
         _ => false,
     }
 }
@@ -247,6 +265,27 @@ static SEMAPHORES: [Row; 14] = [
     ("sem-open /a --value 4294967296", BadValue("value")),
 ];
 
+static CHANGES: [Row; 9] = [
+    (
+        "chmod 640 mq /jobs",
+        Chmod(0o640, Family::Mq, Some(b"/jobs")),
+    ),
+    ("chmod 7777 sem", Chmod(0o7777, Family::Sem, None)),
+    ("chmod 0 sem hex:", Chmod(0, Family::Sem, Some(b""))),
+    (
+        "chown 0 keep mq /jobs",
+        Chown(Some(0), None, Family::Mq, Some(b"/jobs")),
+    ),
+    (
+        "chown keep 4294967295 sem",
+        Chown(None, Some(u32::MAX), Family::Sem, None),
+    ),
+    ("chown keep keep mq", Chown(None, None, Family::Mq, None)),
+    ("chmod x x hex:2", BadValue("octal")),
+    ("chown Keep x x hex:2", BadValue("uid")),
+    ("chown keep 00 x hex:2", BadValue("gid")),
+];
+
 static OPENS: [Row; 11] = [
     (
         "mq-open /jobs r",
@@ -302,6 +341,7 @@ static OPENS: [Row; 11] = [
 fn commands_mean_their_calls(rt: HostRuntime) -> Result<(), Fail> {
     all_mean(rt.alloc(), &CALLS)?;
     all_mean(rt.alloc(), &SEMAPHORES)?;
+    all_mean(rt.alloc(), &CHANGES)?;
     all_mean(rt.alloc(), &OPENS)
 }
 
@@ -724,6 +764,8 @@ const USAGE: &str = "  umask <octal>
   sem-getvalue <d>
   ls <family> <start> <count>
   stat <family> [name]
+  chmod <octal> <family> [name]
+  chown <uid> <gid> <family> [name]
   interrupt
 ";
 

@@ -10,7 +10,7 @@ use row::judge;
 use std::io;
 
 /// The scripts, in the order in which they are run.
-const ROWS: [&str; 52] = [
+const ROWS: [&str; 75] = [
     "first_run",
     "present_before_mode",
     "name_forms",
@@ -44,6 +44,29 @@ const ROWS: [&str; 52] = [
     "queue_and_semaphore_of_one_name",
     "waiters_served_in_order",
     "nonblock_where_others_park",
+    "directory_modes",
+    "chmod_after_open",
+    "chown_and_classes",
+    "queue_directory_search",
+    "semaphore_directory_search",
+    "queue_directory_read",
+    "semaphore_directory_read",
+    "queue_directory_write",
+    "semaphore_directory_write",
+    "directory_rules_in_order",
+    "chmod_and_chown_refused_first",
+    "chown_of_a_queue",
+    "chown_of_a_semaphore",
+    "chown_of_a_directory",
+    "chmod_between_open_and_send",
+    "chown_between_open_and_send",
+    "parked_calls_outlive_chmod",
+    "chmod_of_a_name_made_again",
+    "bits_that_chmod_keeps",
+    "queue_and_semaphore_modes",
+    "semaphore_modes_changed",
+    "owner_of_the_directory",
+    "chmod_and_chown_words",
     "parked_under_an_older_label",
     "labels_and_sessions",
     "lines_and_words",

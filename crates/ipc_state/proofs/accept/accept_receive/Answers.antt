@@ -14,7 +14,7 @@ unreachable-requires c =
     number_there _ (not_bad_held c.args.config.now c.args.past.now.history c.args.sid.0 Mq c.args.desc.0 (call_free _ _ c.args.sid (MqReceive c.args.desc c.args.length) Mq c.args.desc refl refl c.requires.accepted).held) none
 
 pub receive-requires-clause-queue : goal.receive-requires-clause-queue
-receive-requires-clause-queue c = queue_stands c.args.config.now c.args.past.now.history c.args.tables.now c.args.sid.0 c.args.desc.0 c.in-Some.object c.requires.core.agrees (call_here c.args.config.now c.args.past.now.history c.args.tables.now c.args.sid.0 c.args.desc.0 c.in-Some.object c.requires.core.agrees (call_free _ _ c.args.sid (MqReceive c.args.desc c.args.length) Mq c.args.desc refl refl c.requires.accepted) (sym (c.object_number.ensures ∙ number_is c.args.config.now c.args.past.now.history c.args.tables.now c.args.sid.0 c.args.desc.0 c.requires.core.agrees) ∙ c.in-Some.is))
+receive-requires-clause-queue c = queue_stands c.args.config.now c.args.past.now.history c.args.tables.now c.args.sid.0 c.args.desc.0 c.in-Some.object c.requires.core.legal c.requires.core.agrees (call_here c.args.config.now c.args.past.now.history c.args.tables.now c.args.sid.0 c.args.desc.0 c.in-Some.object c.requires.core.agrees (call_free _ _ c.args.sid (MqReceive c.args.desc c.args.length) Mq c.args.desc refl refl c.requires.accepted) (sym (c.object_number.ensures ∙ number_is c.args.config.now c.args.past.now.history c.args.tables.now c.args.sid.0 c.args.desc.0 c.requires.core.agrees) ∙ c.in-Some.is))
 
 pub receive-requires-clause-sender : goal.receive-requires-clause-sender
 receive-requires-clause-sender c = sender_is c.args.config.now c.args.past.now.history c.args.tables.now c.args.sid.0 c.args.desc.0 c.in-Some.object c.requires.core.legal c.requires.core.agrees (call_here c.args.config.now c.args.past.now.history c.args.tables.now c.args.sid.0 c.args.desc.0 c.in-Some.object c.requires.core.agrees (call_free _ _ c.args.sid (MqReceive c.args.desc c.args.length) Mq c.args.desc refl refl c.requires.accepted) (sym (c.object_number.ensures ∙ number_is c.args.config.now c.args.past.now.history c.args.tables.now c.args.sid.0 c.args.desc.0 c.requires.core.agrees) ∙ c.in-Some.is))

@@ -15,7 +15,7 @@ unreachable-requires c =
     number_there _ (not_bad_held c.args.config.now c.args.past.now.history c.args.sid.0 Sem c.args.desc.0 (call_free _ _ c.args.sid (SemWait c.args.desc) Sem c.args.desc refl refl c.requires.accepted).held) none
 
 pub wait-requires-clause-semaphore : goal.wait-requires-clause-semaphore
-wait-requires-clause-semaphore c = semaphore_stands c.args.config.now c.args.past.now.history c.args.tables.now c.args.sid.0 c.args.desc.0 c.in-Some.object c.requires.core.agrees (semaphore_here c.args.config.now c.args.past.now.history c.args.tables.now c.args.sid.0 c.args.desc.0 c.in-Some.object c.requires.core.agrees (call_free _ _ c.args.sid (SemWait c.args.desc) Sem c.args.desc refl refl c.requires.accepted) (sym (c.object_number.ensures ∙ number_is c.args.config.now c.args.past.now.history c.args.tables.now c.args.sid.0 c.args.desc.0 c.requires.core.agrees) ∙ c.in-Some.is))
+wait-requires-clause-semaphore c = semaphore_stands c.args.config.now c.args.past.now.history c.args.tables.now c.args.sid.0 c.args.desc.0 c.in-Some.object c.requires.core.legal c.requires.core.agrees (semaphore_here c.args.config.now c.args.past.now.history c.args.tables.now c.args.sid.0 c.args.desc.0 c.in-Some.object c.requires.core.agrees (call_free _ _ c.args.sid (SemWait c.args.desc) Sem c.args.desc refl refl c.requires.accepted) (sym (c.object_number.ensures ∙ number_is c.args.config.now c.args.past.now.history c.args.tables.now c.args.sid.0 c.args.desc.0 c.requires.core.agrees) ∙ c.in-Some.is))
 
 pub wait-requires-clause-session : goal.wait-requires-clause-session
 wait-requires-clause-session c = (semaphore_here c.args.config.now c.args.past.now.history c.args.tables.now c.args.sid.0 c.args.desc.0 c.in-Some.object c.requires.core.agrees (call_free _ _ c.args.sid (SemWait c.args.desc) Sem c.args.desc refl refl c.requires.accepted) (sym (c.object_number.ensures ∙ number_is c.args.config.now c.args.past.now.history c.args.tables.now c.args.sid.0 c.args.desc.0 c.requires.core.agrees) ∙ c.in-Some.is)).within

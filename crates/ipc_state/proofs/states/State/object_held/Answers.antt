@@ -9,4 +9,4 @@ use Rattle.ipc_state.proofs.states.State.object_held.Goals as goal
 pub returns : goal.returns
 returns c =
     let number = c.object_number.ensures ∙ number_is _ _ _ c.args.sid.0 c.args.desc.0 c.self.invariant.agrees in
-    rw (← c.self.view_is) (c.object.ensures ∙ ap (option_and_then (λ o. option_map (λ (row : ObjectRow). row.object) (row_at c.self.inside.tables.objects o))) number ∙ object_is _ _ _ c.args.sid.0 c.args.desc.0 c.self.invariant.agrees)
+    rw (← c.self.view_is) (c.object.ensures ∙ ap (option_and_then (λ o. option_map (λ (row : ObjectRow). row.object) (row_at c.self.inside.tables.objects o))) number ∙ object_is _ _ _ c.args.sid.0 c.args.desc.0 c.self.invariant.legal c.self.invariant.agrees)

@@ -7,4 +7,4 @@ use Rattle.ipc_state.proofs.states.State.semaphore_held.Goals as goal
 pub returns-clause-found : goal.returns-clause-found
 returns-clause-found c =
     let number = c.object_number.ensures ∙ number_is _ _ _ c.args.sid.0 c.args.desc.0 c.self.invariant.agrees in
-    rw (← c.self.view_is) (c.semaphore.ensures ∙ ap (option_and_then (semaphore_at c.self.inside.tables.objects)) number ∙ semaphore_is _ _ _ c.args.sid.0 c.args.desc.0 c.self.invariant.agrees)
+    rw (← c.self.view_is) (c.semaphore.ensures ∙ ap (option_and_then (semaphore_at c.self.inside.tables.objects)) number ∙ semaphore_is _ _ _ c.args.sid.0 c.args.desc.0 c.self.invariant.legal c.self.invariant.agrees)

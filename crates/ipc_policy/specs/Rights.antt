@@ -1,0 +1,50 @@
+-- A session's rights by a description that it holds: they are fixed at the open, and they outlive every change of names,
+-- owners, groups, modes and directories.
+use Rattle.std.specs.Prelude.{◌≡◌, false, ℕ, length, Some, is_some}
+use Rattle.std.specs.Option.{option_map}
+use Rattle.ipc_terms.specs.Objects.{family_of}
+use Rattle.ipc_terms.specs.declared.ids.Sid.{Sid}
+use Rattle.ipc_terms.specs.declared.call.Call.{Call}
+use Rattle.ipc_terms.specs.declared.record.Event.{Event}
+use Rattle.ipc_terms.specs.declared.record.Event.TheVariants.{Do}
+use Rattle.ipc_policy.specs.declared.asking.Described.{Described}
+use Rattle.ipc_policy.specs.declared.config.Config.{Config}
+use Rattle.ipc_policy.specs.declared.config.Held.{Held}
+use Rattle.ipc_policy.specs.History.{History, after_accepted}
+use Rattle.ipc_policy.specs.Sessions.{live}
+use Rattle.ipc_policy.specs.Objects.{object}
+use Rattle.ipc_policy.specs.Descriptions.{holds, is_nonblock, ends_held}
+use Rattle.ipc_policy.specs.Queues.{attributes, contents}
+use Rattle.ipc_policy.specs.Semaphores.{value}
+use Rattle.ipc_policy.specs.Parking.{parked}
+use Rattle.ipc_policy.specs.Rules.{described}
+use Rattle.ipc_policy.specs.Verdict.{verdict}
+
+-- what session s holds by description d stays what it is over every accepted event, but the session's close of it and
+-- the session's hang-up
+abbrev pub HeldOutlives : Type 0
+HeldOutlives =
+    (h : History) (e : Event) (s d : ℕ) (x : Held) →
+    holds h s d ≡ Some x → ends_held d x e ≡ false → holds (after_accepted h e) s d ≡ Some x
+
+-- object o is alike in both histories: its family, its attributes, how many messages it has, and its value
+pub record SameObject (c : Config) (h k : History) (o : ℕ) : Type 0 where
+  pub family : option_map (λ x. family_of x.kind) (object c h o) ≡ option_map (λ x. family_of x.kind) (object c k o)
+  pub attributes : attributes c h o ≡ attributes c k o
+  pub messages : length (contents c h o) ≡ length (contents c k o)
+  pub value : value h o ≡ value k o
+
+-- session s is live and parked alike in both histories, and holds the same by description d, of an object that is alike;
+-- no user, no owner, group or mode, no name and no directory has a part in it
+pub record SameByDescription (c : Config) (h k : History) (s d : ℕ) : Type 0 where
+  pub live : live h s ≡ live k s
+  pub parked : is_some (parked c h s) ≡ is_some (parked c k s)
+  pub held : holds h s d ≡ holds k s d
+  pub nonblock : is_nonblock h s d ≡ is_nonblock k s d
+  pub object : (x : Held) → holds h s d ≡ Some x → SameObject c h k x.object
+
+-- such histories give the same verdict on each call that names the description
+abbrev pub RightsByDescription : Type 0
+RightsByDescription =
+    (c : Config) (h k : History) (sid : Sid) (call : Call) (named : Described) →
+    described call ≡ Some named → SameByDescription c h k sid.0 named.desc.0 → verdict c h (Do sid call) ≡ verdict c k (Do sid call)
