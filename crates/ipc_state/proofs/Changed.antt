@@ -33,13 +33,14 @@ use Rattle.ipc_policy.proofs.Grown.{grows}
 use Rattle.ipc_policy.proofs.Known.{bound_iff}
 use Rattle.ipc_policy.proofs.Unforbidden.{unforbidden, off}
 use Rattle.ipc_policy.proofs.Holding.{kept_all}
-use Rattle.ipc_tables.specs.Kept.{Kept}
-use Rattle.ipc_tables.specs.Objects.{is_number, with_facts}
+use Rattle.ipc_names.specs.Directory.{Directory, object_named}
+use Rattle.ipc_tables.specs.Kept.{Kept, directory_kept as directory_of}
+use Rattle.ipc_tables.specs.Objects.{is_number, facts_at, with_facts}
 use Rattle.ipc_tables.specs.Steps.{after_facts, after_directory}
-use Rattle.ipc_state.specs.Agrees.{Agrees, SessionsAgree, DescriptionsAgree, Inside, inside, row_made, row_with, body_of}
+use Rattle.ipc_state.specs.Agrees.{Agrees, IsCore, SessionsAgree, DescriptionsAgree, Inside, inside, row_made, row_with, body_of}
 use Rattle.ipc_state.specs.Changes.{changing, changed_by}
 use Rattle.ipc_state.proofs.Gathered.{gathered_changed}
-use Rattle.ipc_state.proofs.Lookups.{row_other, row_own}
+use Rattle.ipc_state.proofs.Lookups.{row_other, row_own, found_is, directory_agrees, facts_alive, bound_alive}
 use Rattle.ipc_state.proofs.ObjectTables.{directory_kept, objects_kept, row_kept, alive_kept, descriptions_kept}
 use Rattle.ipc_state.proofs.Opens.{Ends, made_left}
 use Rattle.ipc_state.proofs.Opened.{sessions_apart, ends_inside}
@@ -213,3 +214,10 @@ bound_there c h sid call f name k accepted = absurd cc
 
 pub changed_bound : (c : Config) (h : History) (sid : Sid) (call : Call) (f : Family) (name : List ℕ) → changing call ≡ Some (Name f name) → verdict c h (Do sid call) ≡ None → is_some (bound h f name) ≡ true
 changed_bound c h sid call f name k accepted = sym (bound_iff h f name) ∙ bound_there c h sid call f name k accepted
+
+-- what is looked up is what it means, and what that has
+pub found_meant : (c : Config) (h : History) (t : Kept) (f : Family) (name : List ℕ) (d : Directory) (w : Option ℕ) → Agrees c h t → d ≡ directory_of f t → w ≡ object_named d.bindings name → bound h f name ≡ w
+found_meant c h t f name d w a same found = sym (found_is h f (directory_of f t) name (directory_agrees c h t f a)) ∙ ap (λ (x : Directory). object_named x.bindings name) (sym same) ∙ sym found
+
+pub facts_meant_is : (c : Config) (h : History) (t : Kept) (f : Family) (name : List ℕ) (o : ℕ) (w : Option Facts) → IsCore c h t → bound h f name ≡ Some o → w ≡ facts_at t.objects o → facts c h o ≡ w
+facts_meant_is c h t f name o w k is found = sym (facts_alive c h t.objects t.created o k.legal k.agrees.objects (bound_alive h f name o is)) ∙ sym found
