@@ -42,8 +42,7 @@ impl Model for Core {
 
 impl Core {
     /// A core with an empty trail, or the first limit that is out of its range, in the order
-    /// `msg_max`, `msgsize_max`, `queues_max`. Want of memory can be answered, but no growth is
-    /// made yet.
+    /// `msg_max`, `msgsize_max`, `queues_max`. An `Err` drops the configuration.
     pub fn new(alloc: Global, config: Config) -> Result<Core, CoreFault>
         ensures ok { IfOk result (λ core. core ≡ record { config = config; history = []; untaken = [] }) }
         ensures in_range { OnOk result (first_bad config.limits ≡ None) }
@@ -53,7 +52,7 @@ impl Core {
             return Err(CoreFault::BadConfig(field));
         }
         Ok(Core {
-            state: State::new(alloc, config),
+            state: State::new(alloc, config)?,
             outboxes: Outboxes::new(alloc),
         })
     }

@@ -1,5 +1,6 @@
 pub mod Answering
 pub mod AmongOthers
+pub mod ChargesLemmas
 pub mod KeepingLemmas
 pub mod NumbersLemmas
 pub mod PlacesLemmas

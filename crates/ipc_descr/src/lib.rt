@@ -1,6 +1,8 @@
-//! The open descriptions: which session holds which, what each gives, and the counts of both.
+//! The open descriptions: which session holds which, what each gives, and the counts of both; and the
+//! bytes that each user is charged with.
 #![tactic(auto)]
 
+mod charges;
 mod counts;
 mod descriptions;
 mod row;
@@ -8,5 +10,6 @@ mod sets;
 mod table;
 mod tallies;
 
+pub use charges::{Charges, bytes_of, checked_bytes_of};
 pub use descriptions::Descrs;
 pub use row::Row;

@@ -1,11 +1,12 @@
 -- Lists that are gathered from what numbers give: what is found, counted and filtered in them.
-use Rattle.std.proofs.Common.{◌≡◌, ℕ, zero, suc, ◌+◌, ◌<◌, ◌≤◌, ◌⊎◌, inl, inr, Bool, true, false, ◌||◌, cond, List, [], ◌∷◌, ◌++◌, find, filter, Option, Some, None, is_some, refl, sym, ap, ◌∙◌, arith}
+use Rattle.std.proofs.Common.{◌≡◌, ℕ, zero, suc, ◌+◌, ◌<◌, ◌≤◌, ◌⊎◌, inl, inr, Bool, true, false, ◌||◌, cond, List, [], ◌∷◌, ◌++◌, find, filter, sum_by, count_by, Option, Some, None, is_some, refl, sym, ap, ◌∙◌, arith}
 use Rattle.std.specs.List.{list_any}
 use Rattle.std.specs.Option.{option_or}
 use Rattle.std.proofs.lemmas.Bool.{cases_eq, cases_lt, or_left, or_right}
 use Rattle.std.proofs.lemmas.List.Folds.{find-append, list_any-append}
+use Rattle.std.proofs.lemmas.List.Sums.{sum_by-append, sum_by-cons}
 use Rattle.std.proofs.lemmas.List.Elements.{filter-append}
-use Rattle.ipc_policy.specs.History.{any_below, listed, gathered_below}
+use Rattle.ipc_policy.specs.History.{any_below, how_many_below, sum_below, listed, gathered_below}
 
 pub gathered_same : {A : Type 0} (f g : ℕ → Option A) (n : ℕ) → ((i : ℕ) → i < n → f i ≡ g i) → gathered_below f n ≡ gathered_below g n
 gathered_same f g zero same = refl
@@ -64,6 +65,36 @@ gathered_any p g (suc n) =
     ∙ or_swapped (list_any p (gathered_below g n)) (list_any p (listed (g n)))
     ∙ ap (λ b. b || list_any p (gathered_below g n)) (any_listed p (g n))
     ∙ ap (λ b. passes p (g n) || b) (gathered_any p g n)
+
+-- what there is weighs, and how many there are, number by number
+abbrev pub weighed : {A : Type 0} → (A → ℕ) → Option A → ℕ
+weighed weight None = 0
+weighed weight (Some x) = weight x
+
+sum_listed : {A : Type 0} (weight : A → ℕ) (o : Option A) → sum_by weight (listed o) ≡ weighed weight o
+sum_listed weight None = refl
+sum_listed weight (Some x) = sum_by-cons weight x [] ∙ omega arith
+
+pub gathered_sum : {A : Type 0} (weight : A → ℕ) (g : ℕ → Option A) (n : ℕ) → sum_by weight (gathered_below g n) ≡ sum_below (λ i. weighed weight (g i)) n
+gathered_sum weight g zero = refl
+gathered_sum weight g (suc n) =
+    sum_by-append weight (gathered_below g n) (listed (g n))
+    ∙ ap (λ m. m + sum_by weight (listed (g n))) (gathered_sum weight g n)
+    ∙ ap (λ m. sum_below (λ i. weighed weight (g i)) n + m) (sum_listed weight (g n))
+
+counted_one : {A : Type 0} (p : A → Bool) (o : Option A) (m : ℕ) → m + count_by p (listed o) ≡ cond (passes p o) (m + 1) m
+counted_one p None m = omega arith
+counted_one p (Some x) m = at (p x) refl where
+  at : (b : Bool) → p x ≡ b → m + count_by p (x ∷ []) ≡ cond b (m + 1) m
+  at true e = ap (λ k. m + k) (sum_by-cons (λ y. cond (p y) 1 0) x [] ∙ ap (λ b. cond b 1 0 + 0) e)
+  at false e = ap (λ k. m + k) (sum_by-cons (λ y. cond (p y) 1 0) x [] ∙ ap (λ b. cond b 1 0 + 0) e) ∙ omega arith
+
+pub gathered_count : {A : Type 0} (p : A → Bool) (g : ℕ → Option A) (n : ℕ) → count_by p (gathered_below g n) ≡ how_many_below (λ i. passes p (g i)) n
+gathered_count p g zero = refl
+gathered_count p g (suc n) =
+    sum_by-append (λ y. cond (p y) 1 0) (gathered_below g n) (listed (g n))
+    ∙ counted_one p (g n) (count_by p (gathered_below g n))
+    ∙ ap (λ m. cond (passes p (g n)) (m + 1) m) (gathered_count p g n)
 
 pub any_below_same : (p q : ℕ → Bool) (n : ℕ) → ((i : ℕ) → i < n → p i ≡ q i) → any_below p n ≡ any_below q n
 any_below_same p q zero same = refl

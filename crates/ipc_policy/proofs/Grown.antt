@@ -8,6 +8,7 @@ use Rattle.ipc_policy.proofs.Facts.{owner_grows, group_grows, mode_grows, facts_
 use Rattle.ipc_policy.proofs.Holding.{held_grows, count_grows}
 use Rattle.ipc_policy.proofs.Growing.{hello_grows, user_grows, live_grows, mask_grows, is_bound_grows, creations_grow, bound_grows, made_grows, opens_grow, nonblock_grows}
 use Rattle.ipc_policy.proofs.Queueing.{queue_grows, semaphore_grows, parked_grows, outbox_grows}
+use Rattle.ipc_policy.proofs.Charging.{limit_grows, charge_grows, charged_grows, queues_grow}
 use Rattle.ipc_policy.proofs.Living.{named_grows, bindings_grow, names_grow, alive_grows}
 
 -- an accepted event changes each value as stated
@@ -38,5 +39,9 @@ grows c h e = record {
   bindings_of = bindings_grow h e;
   names_of = names_grow h e;
   alive_or_not = alive_grows h e;
+  limit_of = limit_grows c h e;
+  charge_at = charge_grows c h e;
+  charged_to = charged_grows c h e;
+  queue_count = queues_grow c h e;
   outbox_of = outbox_grows c h e;
 }

@@ -32,7 +32,7 @@ use Rattle.ipc_policy.specs.Queues.{Send, has_none, attributes, contents, is_ful
 use Rattle.ipc_policy.specs.Semaphores.{value, is_zero, is_greatest}
 use Rattle.ipc_policy.specs.Parking.{parked}
 use Rattle.ipc_policy.specs.Grow.{held_after}
-use Rattle.ipc_policy.specs.Rules.{is_of_family, not_held, attributes_held, described, reads_only, writes_only, is_interrupt, forbids, no_session, in_call, not_in_call, name_form, name_long, bad_descr, not_for_write, not_for_read, dir_search, dir_read, absent, present, mode_denied, dir_write, sticky, not_owner, chown_denied, attr_range, value_range, descr_limit, prio_range, message_long, buffer_short, would_block, overflow, bad_key}
+use Rattle.ipc_policy.specs.Rules.{is_of_family, not_held, attributes_held, described, reads_only, writes_only, is_interrupt, forbids, no_session, in_call, not_in_call, name_form, name_long, not_admin, no_user, bad_descr, not_for_write, not_for_read, dir_search, dir_read, absent, present, mode_denied, dir_write, sticky, not_owner, chown_denied, attr_range, value_range, queue_count, byte_limit, descr_limit, prio_range, message_long, buffer_short, would_block, overflow, bad_key}
 use Rattle.ipc_policy.specs.Verdict.{verdict}
 use Rattle.ipc_policy.specs.Rights.{SameObject, SameByDescription}
 use Rattle.ipc_policy.proofs.Holding.{held_below, held_grows}
@@ -146,7 +146,7 @@ by_description Overflow = overflow
 by_description _ = λ c h e. false
 
 asked_no_other : (c : Config) (h : History) (sid : Sid) (call : Call) (named : Described) → described call ≡ Some named → verdict c h (Do sid call) ≡ find (λ rule. by_description rule c h (Do sid call)) every_rule
-unfolding verdict forbids name_form name_long dir_search dir_read absent present mode_denied dir_write sticky not_owner chown_denied attr_range value_range descr_limit bad_key
+unfolding verdict forbids name_form name_long not_admin no_user dir_search dir_read absent present mode_denied dir_write sticky not_owner chown_denied attr_range value_range queue_count byte_limit descr_limit bad_key
 asked_no_other c h sid (MqClose desc) named is = refl
 asked_no_other c h sid (MqSend desc priority bytes) named is = refl
 asked_no_other c h sid (MqReceive desc length') named is = refl

@@ -6,7 +6,7 @@ use Rattle.std.proofs.lemmas.Bool.{cases_eq, eqb-true, eq-eqb, ne_eqb, and_parts
 use Rattle.ipc_terms.specs.declared.rule.Rule.{Rule}
 use Rattle.ipc_terms.specs.declared.ids.Sid.{Sid}
 use Rattle.ipc_terms.specs.declared.ids.Desc.{Desc}
-use Rattle.ipc_terms.specs.declared.call.Call.TheVariants.{Umask, MqOpen, MqClose, MqSend, MqReceive, MqGetattr, MqSetattr, MqUnlink, SemOpen, SemClose, SemUnlink, SemPost, SemWait, SemTryWait, SemGetvalue, ListNames, StatName, Chmod, Chown, Interrupt}
+use Rattle.ipc_terms.specs.declared.call.Call.TheVariants.{Umask, MqOpen, MqClose, MqSend, MqReceive, MqGetattr, MqSetattr, MqUnlink, SemOpen, SemClose, SemUnlink, SemPost, SemWait, SemTryWait, SemGetvalue, ListNames, StatName, Chmod, Chown, SetLimit, Interrupt}
 use Rattle.ipc_terms.specs.declared.record.Event.{Event}
 use Rattle.ipc_terms.specs.declared.record.Record.{Record}
 use Rattle.ipc_terms.specs.declared.record.Event.TheVariants.{Hello, Do, Hangup}
@@ -240,5 +240,6 @@ count_grows h (Do sid (ListNames family start count)) s = count_quiet h (Do sid 
 count_grows h (Do sid (StatName target)) s = count_quiet h (Do sid (StatName target)) s refl (held_grows h (Do sid (StatName target)))
 count_grows h (Do sid (Chmod mode target)) s = count_quiet h (Do sid (Chmod mode target)) s refl (held_grows h (Do sid (Chmod mode target)))
 count_grows h (Do sid (Chown owner group target)) s = count_quiet h (Do sid (Chown owner group target)) s refl (held_grows h (Do sid (Chown owner group target)))
+count_grows h (Do sid (SetLimit uid bytes)) s = count_quiet h (Do sid (SetLimit uid bytes)) s refl (held_grows h (Do sid (SetLimit uid bytes)))
 count_grows h (Do sid Interrupt) s = count_quiet h (Do sid Interrupt) s refl (held_grows h (Do sid Interrupt))
 count_grows h (Hangup sid) s = count_left h sid s

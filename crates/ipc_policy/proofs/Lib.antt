@@ -5,6 +5,7 @@ pub mod Gathering
 pub mod Holding
 pub mod Growing
 pub mod Living
+pub mod Charging
 pub mod Queueing
 pub mod EachItem
 pub mod PlaceLists
@@ -34,3 +35,4 @@ pub mod Bindings
 pub mod WaitSteps
 pub mod OpenAccepted
 pub mod HeldRights
+pub mod Limiting

@@ -8,7 +8,7 @@ use Rattle.ipc_terms.specs.declared.binding.Binding.{Binding}
 use Rattle.ipc_terms.specs.declared.ids.Family.{Family}
 use Rattle.ipc_terms.specs.declared.ids.Family.TheVariants.{Mq, Sem}
 use Rattle.ipc_terms.specs.declared.rule.Rule.{Rule}
-use Rattle.ipc_terms.specs.declared.call.Call.TheVariants.{Umask, MqOpen, MqClose, MqSend, MqReceive, MqGetattr, MqSetattr, MqUnlink, SemOpen, SemClose, SemUnlink, SemPost, SemWait, SemTryWait, SemGetvalue, ListNames, StatName, Chmod, Chown, Interrupt}
+use Rattle.ipc_terms.specs.declared.call.Call.TheVariants.{Umask, MqOpen, MqClose, MqSend, MqReceive, MqGetattr, MqSetattr, MqUnlink, SemOpen, SemClose, SemUnlink, SemPost, SemWait, SemTryWait, SemGetvalue, ListNames, StatName, Chmod, Chown, SetLimit, Interrupt}
 use Rattle.ipc_terms.specs.declared.record.Event.{Event}
 use Rattle.ipc_terms.specs.declared.record.Event.TheVariants.{Hello, Do, Hangup}
 use Rattle.ipc_policy.specs.History.{History, kept, unended, listed, gathered_below, any_below}
@@ -155,6 +155,7 @@ bindings_grow h (Do sid (ListNames family start count)) f = bindings_quiet h (Do
 bindings_grow h (Do sid (StatName target)) f = bindings_quiet h (Do sid (StatName target)) f refl (λ o. kept_all (named h o))
 bindings_grow h (Do sid (Chmod mode target)) f = bindings_quiet h (Do sid (Chmod mode target)) f refl (λ o. kept_all (named h o))
 bindings_grow h (Do sid (Chown owner group target)) f = bindings_quiet h (Do sid (Chown owner group target)) f refl (λ o. kept_all (named h o))
+bindings_grow h (Do sid (SetLimit uid bytes)) f = bindings_quiet h (Do sid (SetLimit uid bytes)) f refl (λ o. kept_all (named h o))
 bindings_grow h (Do sid Interrupt) f = bindings_quiet h (Do sid Interrupt) f refl (λ o. kept_all (named h o))
 bindings_grow h (Hangup sid) f = bindings_quiet h (Hangup sid) f refl (λ o. kept_all (named h o))
 
@@ -192,6 +193,7 @@ names_grow h (Do sid (ListNames family start count)) f = ap (map (λ (b : Bindin
 names_grow h (Do sid (StatName target)) f = ap (map (λ (b : Binding). b.name)) (bindings_grow h (Do sid (StatName target)) f)
 names_grow h (Do sid (Chmod mode target)) f = ap (map (λ (b : Binding). b.name)) (bindings_grow h (Do sid (Chmod mode target)) f)
 names_grow h (Do sid (Chown owner group target)) f = ap (map (λ (b : Binding). b.name)) (bindings_grow h (Do sid (Chown owner group target)) f)
+names_grow h (Do sid (SetLimit uid bytes)) f = ap (map (λ (b : Binding). b.name)) (bindings_grow h (Do sid (SetLimit uid bytes)) f)
 names_grow h (Do sid Interrupt) f = ap (map (λ (b : Binding). b.name)) (bindings_grow h (Do sid Interrupt) f)
 names_grow h (Hangup sid) f = ap (map (λ (b : Binding). b.name)) (bindings_grow h (Hangup sid) f)
 

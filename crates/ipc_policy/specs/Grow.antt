@@ -9,15 +9,16 @@ use Rattle.ipc_terms.specs.declared.ids.Uid.{Uid}
 use Rattle.ipc_terms.specs.declared.ids.Gid.{Gid}
 use Rattle.ipc_terms.specs.declared.ids.Mode.{Mode}
 use Rattle.ipc_terms.specs.declared.ids.Target.{Target}
+use Rattle.ipc_terms.specs.declared.object.Object.{Object}
 use Rattle.ipc_terms.specs.declared.ids.Family.{Family}
-use Rattle.ipc_terms.specs.declared.call.Call.TheVariants.{Umask, MqClose, MqSetattr, SemClose}
+use Rattle.ipc_terms.specs.declared.call.Call.TheVariants.{Umask, MqClose, MqSetattr, SemClose, SetLimit}
 use Rattle.ipc_terms.specs.declared.record.Event.{Event}
 use Rattle.ipc_terms.specs.declared.record.Event.TheVariants.{Hello, Do, Hangup}
 use Rattle.ipc_terms.specs.declared.facts.Facts.{Facts}
 use Rattle.ipc_access.specs.declared.class.Cred.{Cred}
 use Rattle.ipc_policy.specs.declared.config.Config.{Config}
 use Rattle.ipc_policy.specs.declared.config.Held.{Held}
-use Rattle.ipc_policy.specs.History.{History, after_accepted, kept, any_below}
+use Rattle.ipc_policy.specs.History.{History, after_accepted, kept, any_below, how_many_below, sum_below}
 use Rattle.ipc_policy.specs.Sessions.{hellos, user, live, cred, mask}
 use Rattle.ipc_policy.specs.Names.{Opening, Naming, opening, nonblock_asked, unlinking, unlinks, asks_name, is_bound, creations, bound}
 use Rattle.ipc_policy.specs.Objects.{without_mask, object, owner, group, mode, facts, together, directory, made_by, owner_given, group_given, mode_given, means_object, means_directory, object_bits, directory_bits}
@@ -28,6 +29,7 @@ use Rattle.ipc_policy.specs.Queues.{Queue, queue, queue_after, room, attributes,
 pub use Rattle.ipc_policy.specs.Semaphores.{semaphore_act_by}
 use Rattle.ipc_policy.specs.Semaphores.{Semaphore, semaphore, semaphore_after, with_first, is_zero}
 use Rattle.ipc_policy.specs.Parking.{Parked, parks_by, is_posted, ends_call, parked}
+use Rattle.ipc_policy.specs.Charges.{is_queue_alive, charge, charge_of, charged, queues_alive, limit}
 use Rattle.ipc_policy.specs.Verdict.{answers, for_session, outbox}
 
 abbrev pub hellos_after : Event → ℕ → ℕ
@@ -159,6 +161,18 @@ names_after f e is_bound was = by_open (opening e) where
 abbrev pub alive_after : ℕ → Option Opening → (ℕ → Option Held) → ℕ → Bool
 alive_after o named held opens = is_some named || any_below (λ d. gives_object o (held d)) opens
 
+-- whether object o is alive after the event, and what it then is, by the values before it
+abbrev pub alive_then : Event → History → ℕ → Bool
+alive_then e h o = alive_after o (named_after o e (is_bound h) (creations h) (named h o)) (λ d. held_after d e (opens h) (bound h) (creations h) (held h d)) (opens_after e (opens h))
+
+abbrev pub object_then : Config → Event → History → ℕ → Option Object
+object_then c e h o = made_after o e (is_bound h) (creations h) (λ asked. option_map (made_by c asked) (cred c h asked.session.0)) (object c h o)
+
+-- a SetLimit sets the limit of its user, where there is one
+abbrev pub limit_after : Uid → Event → Option ℕ → Option ℕ
+limit_after u (Do sid (SetLimit uid bytes)) was = if uid.0 == u.0 then option_map (λ old. bytes) was else was
+limit_after u _ was = was
+
 -- the first value, where the event creates object o and asks for a semaphore
 abbrev pub first_value : ℕ → Event → (Family → List ℕ → Bool) → ℕ → Option ℕ
 first_value o e is_bound creations = made_after o e is_bound creations (λ asked. value_asked asked.kind) None
@@ -194,6 +208,10 @@ pub record Grows (c : Config) (h k : History) (e : Event) : Type 0 where
   pub bindings_of : (f : Family) → bindings k f ≡ bindings_after f e (is_bound h) (creations h) (bindings h f)
   pub names_of : (f : Family) → names k f ≡ names_after f e (is_bound h) (names h f)
   pub alive_or_not : (o : ℕ) → alive k o ≡ alive_after o (named_after o e (is_bound h) (creations h) (named h o)) (λ d. held_after d e (opens h) (bound h) (creations h) (held h d)) (opens_after e (opens h))
+  pub limit_of : (u : Uid) → limit c k u ≡ limit_after u e (limit c h u)
+  pub charge_at : (u : Uid) (o : ℕ) → charge_of c k u o ≡ charge u (alive_then e h o) (object_then c e h o)
+  pub charged_to : (u : Uid) → charged c k u ≡ sum_below (λ o. charge u (alive_then e h o) (object_then c e h o)) (creations_after e (is_bound h) (creations h))
+  pub queue_count : queues_alive c k ≡ how_many_below (λ o. is_queue_alive (alive_then e h o) (object_then c e h o)) (creations_after e (is_bound h) (creations h))
   pub outbox_of : (s : ℕ) → outbox c k s ≡ outbox c h s ++ (if live_after s e (hellos h) (live h s) then for_session s (answers c h e) else [])
 
 -- an accepted event changes each value as stated, by the values before it

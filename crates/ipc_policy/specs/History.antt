@@ -61,6 +61,11 @@ abbrev pub how_many_below : (ℕ → Bool) → ℕ → ℕ
 how_many_below is_one zero = 0
 how_many_below is_one (suc n) = if is_one n then how_many_below is_one n + 1 else how_many_below is_one n
 
+-- the sum of what the numbers below a limit give
+abbrev pub sum_below : (ℕ → ℕ) → ℕ → ℕ
+sum_below give zero = 0
+sum_below give (suc n) = sum_below give n + give n
+
 -- whether a number below a limit is of a kind
 abbrev pub any_below : (ℕ → Bool) → ℕ → Bool
 any_below is_one zero = false

@@ -1,16 +1,17 @@
 -- Laws that hold of every history, or of every legal one where they say so.
-use Rattle.std.specs.Prelude.{◌≡◌, ℕ, ◌≤◌, ◌==◌, true, false, length, IsTrue, List, [], ◌∷◌, ◌++◌, find, Option, Some, is_some, MatchOption, if◌then◌else◌}
+use Rattle.std.specs.Prelude.{◌≡◌, ℕ, ◌≤◌, ◌==◌, true, false, length, IsTrue, List, [], ◌∷◌, ◌++◌, find, Option, Some, None, is_some, MatchOption, if◌then◌else◌}
 use Rattle.std.specs.Option.{option_map}
 use Rattle.ipc_terms.specs.Names.{same_name}
 use Rattle.ipc_terms.specs.Rules.{number_of}
 use Rattle.ipc_terms.specs.declared.object.TheConstants.{SEM_VALUE_MAX}
 use Rattle.ipc_terms.specs.declared.rule.Rule.{Rule}
+use Rattle.ipc_terms.specs.declared.ids.Uid.{Uid}
 use Rattle.ipc_terms.specs.declared.ids.Family.{Family}
 use Rattle.ipc_terms.specs.declared.record.Event.{Event}
 use Rattle.ipc_terms.specs.declared.call.Answer.TheVariants.{Refused}
 use Rattle.ipc_policy.specs.declared.config.Config.{Config}
 use Rattle.ipc_policy.specs.declared.config.Held.{Held}
-use Rattle.ipc_policy.specs.History.{History, after_refused}
+use Rattle.ipc_policy.specs.History.{History, after_refused, newest}
 use Rattle.ipc_policy.specs.Sessions.{hellos, user, live, cred, mask}
 use Rattle.ipc_policy.specs.Names.{is_bound, creations, bound}
 use Rattle.ipc_policy.specs.Objects.{object, owner, group, mode, facts, directory}
@@ -19,6 +20,7 @@ use Rattle.ipc_policy.specs.Life.{named, bindings, names, alive}
 use Rattle.ipc_policy.specs.Queues.{Queue, has_none, queue, maxmsg, senders, receivers}
 use Rattle.ipc_policy.specs.Semaphores.{Semaphore, semaphore, value, waiters}
 use Rattle.ipc_policy.specs.Parking.{ParkedKind, Sending, Receiving, Waiting, Parked, parked}
+use Rattle.ipc_policy.specs.Charges.{charge_of, charged, queues_alive, sets_limit, limit}
 use Rattle.ipc_policy.specs.Readings.{Each}
 use Rattle.ipc_policy.specs.Rules.{forbids}
 use Rattle.ipc_policy.specs.Verdict.{verdict, caller, Legal, for_session, outbox}
@@ -59,6 +61,10 @@ pub record SameValues (c : Config) (h k : History) : Type 0 where
   pub bindings : (f : Family) → bindings h f ≡ bindings k f
   pub names : (f : Family) → names h f ≡ names k f
   pub alive : (o : ℕ) → alive h o ≡ alive k o
+  pub limit : (u : Uid) → limit c h u ≡ limit c k u
+  pub charge_of : (u : Uid) (o : ℕ) → charge_of c h u o ≡ charge_of c k u o
+  pub charged : (u : Uid) → charged c h u ≡ charged c k u
+  pub queues_alive : queues_alive c h ≡ queues_alive c k
   pub queue : (o : ℕ) → queue c h o ≡ queue c k o
   pub semaphore : (o : ℕ) → semaphore h o ≡ semaphore k o
   pub value : (o : ℕ) → value h o ≡ value k o
@@ -151,3 +157,9 @@ pub record IsParked (c : Config) (h : History) (s : ℕ) (p : Parked) : Type 0 w
 -- in a legal history each parked call is so
 abbrev pub ParkedIsAlive : Type 0
 ParkedIsAlive = (c : Config) (h : History) → Legal c h → (s : ℕ) (p : Parked) → parked c h s ≡ Some p → IsParked c h s p
+
+-- in a legal history in which no limit was set for user u, the queues of u take no more bytes than u's limit
+abbrev pub WithinLimit : Type 0
+WithinLimit =
+    (c : Config) (h : History) (u : Uid) (most : ℕ) → Legal c h → newest (sets_limit u) h ≡ None →
+    limit c h u ≡ Some most → charged c h u ≤ most

@@ -7,6 +7,7 @@ pub mod Life
 pub mod Queues
 pub mod Semaphores
 pub mod Parking
+pub mod Charges
 pub mod Rules
 pub mod Verdict
 pub mod Readings

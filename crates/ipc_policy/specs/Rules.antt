@@ -1,11 +1,11 @@
 -- What each rule forbids. A condition that speaks of a user, an object or a description holds only
--- where there is one, but for the rules 8 and 31.
-use Rattle.std.specs.Prelude.{Bool, true, false, ℕ, ◌&&◌, ◌||◌, ◌==◌, not, nat_lt, nat_le, length, Option, Some, None, is_some, is_none, if◌then◌else◌, option_and_then}
+-- where there is one, but for the rules 7, 8 and 31.
+use Rattle.std.specs.Prelude.{Bool, true, false, ℕ, ◌&&◌, ◌||◌, ◌==◌, ◌+◌, not, nat_lt, nat_le, length, Option, Some, None, is_some, is_none, if◌then◌else◌, option_and_then}
 use Rattle.ipc_terms.specs.Flags.{has_create, has_exclusive}
-use Rattle.ipc_terms.specs.Objects.{family_of, as_queue, attributes_asked, value_asked}
+use Rattle.ipc_terms.specs.Objects.{family_of, of_queue, as_queue, attributes_asked, value_asked}
 use Rattle.ipc_terms.specs.Names.{same_family, has_name_form, is_long_name}
 use Rattle.ipc_terms.specs.declared.rule.Rule.{Rule}
-use Rattle.ipc_terms.specs.declared.rule.Rule.TheVariants.{NoSession, InCall, NotInCall, NameForm, NameLong, BadDescr, NotForWrite, NotForRead, DirSearch, DirRead, Absent, Present, ModeDenied, DirWrite, Sticky, NotOwner, ChownDenied, AttrRange, ValueRange, DescrLimit, PrioRange, MessageLong, BufferShort, WouldBlock, Overflow, BadKey}
+use Rattle.ipc_terms.specs.declared.rule.Rule.TheVariants.{NoSession, InCall, NotInCall, NameForm, NameLong, NotAdmin, NoUser, BadDescr, NotForWrite, NotForRead, DirSearch, DirRead, Absent, Present, ModeDenied, DirWrite, Sticky, NotOwner, ChownDenied, AttrRange, ValueRange, QueueCount, ByteLimit, DescrLimit, PrioRange, MessageLong, BufferShort, WouldBlock, Overflow, BadKey}
 use Rattle.ipc_terms.specs.declared.ids.Uid.{Uid}
 use Rattle.ipc_terms.specs.declared.ids.Family.{Family}
 use Rattle.ipc_terms.specs.declared.ids.Family.TheVariants.{Mq, Sem}
@@ -13,7 +13,7 @@ use Rattle.ipc_terms.specs.declared.call.Access.{Access}
 use Rattle.ipc_terms.specs.declared.call.Access.TheVariants.{Read, Write, Both}
 use Rattle.ipc_terms.specs.declared.call.Attributes.{Attributes}
 use Rattle.ipc_terms.specs.declared.call.Call.{Call}
-use Rattle.ipc_terms.specs.declared.call.Call.TheVariants.{MqClose, MqSend, MqReceive, MqGetattr, MqSetattr, SemClose, SemPost, SemWait, SemTryWait, SemGetvalue, ListNames, Chmod, Chown, Interrupt}
+use Rattle.ipc_terms.specs.declared.call.Call.TheVariants.{MqClose, MqSend, MqReceive, MqGetattr, MqSetattr, SemClose, SemPost, SemWait, SemTryWait, SemGetvalue, ListNames, Chmod, Chown, SetLimit, Interrupt}
 use Rattle.ipc_terms.specs.declared.record.Event.{Event}
 use Rattle.ipc_terms.specs.declared.record.Event.TheVariants.{Hello, Do, Hangup}
 use Rattle.ipc_access.specs.declared.class.Cred.{Cred}
@@ -26,16 +26,17 @@ use Rattle.ipc_policy.specs.declared.config.Config.{Config}
 use Rattle.ipc_terms.specs.declared.facts.Facts.{Facts}
 use Rattle.ipc_terms.specs.declared.object.Object.{Object}
 use Rattle.ipc_terms.specs.declared.object.TheConstants.{SEM_VALUE_MAX}
-use Rattle.ipc_policy.specs.declared.config.TheConstants.{DESCRIPTIONS_MAX, MQ_PRIO_MAX, HARD_MSG_MAX, HARD_MSGSIZE_MAX}
+use Rattle.ipc_policy.specs.declared.config.TheConstants.{DESCRIPTIONS_MAX, MQ_PRIO_MAX, HARD_MSG_MAX, HARD_MSGSIZE_MAX, LIMIT_MAX}
 use Rattle.ipc_policy.specs.History.{History}
 pub use Rattle.ipc_policy.specs.History.{there_is}
 use Rattle.ipc_policy.specs.Sessions.{live, cred}
 use Rattle.ipc_policy.specs.Names.{opening, unlinking, naming, is_bound, creating, bound, Opening}
-use Rattle.ipc_policy.specs.Objects.{object, facts, directory, facts_meant}
+use Rattle.ipc_policy.specs.Objects.{object, kind_of, facts, directory, facts_meant}
 use Rattle.ipc_policy.specs.Descriptions.{holds, held_count, is_nonblock}
 pub use Rattle.ipc_policy.specs.Queues.{is_full, is_empty}
 pub use Rattle.ipc_policy.specs.Semaphores.{is_zero, is_greatest}
 use Rattle.ipc_policy.specs.Parking.{parked}
+pub use Rattle.ipc_policy.specs.Charges.{bytes_of, charged, queues_alive, limit}
 
 -- there is a user, and what has these facts does not grant it what is wanted: read is 4, write 2, search 1
 abbrev pub denied : Option Cred → Facts → ℕ → Bool
@@ -60,6 +61,18 @@ out_of_range c (Some who) (Some given) =
     || nat_lt (if who.uid.0 == 0 then HARD_MSG_MAX else c.limits.msg_max) given.maxmsg
     || nat_lt (if who.uid.0 == 0 then HARD_MSGSIZE_MAX else c.limits.msgsize_max) given.msgsize
 out_of_range c _ _ = false
+
+-- there is a user, and it is another than user 0
+abbrev pub is_not_admin : Option Cred → Bool
+is_not_admin who = there_is (λ w. not (w.uid.0 == 0)) who
+
+-- the attributes of the queue that an open makes, where it asks for a queue
+abbrev pub queue_made : Config → Opening → Option Attributes
+queue_made c asked = of_queue (kind_of c asked.kind)
+
+-- the user's queues and one more of these attributes take more bytes together than the user's limit
+abbrev pub above_limit : Config → History → Attributes → Cred → Bool
+above_limit c h given who = there_is (λ most. nat_lt most (charged c h who.uid + bytes_of given)) (limit c h who.uid)
 
 -- there are a user and an object, and the directory does not let the user remove the object's name
 abbrev pub removal_denied : Option Cred → Facts → Option Facts → Bool
@@ -141,6 +154,16 @@ name_form c h e = there_is (λ what. not (has_name_form what.name)) (naming e)
 unfoldable pub name_long : Config → History → Event → Bool
 name_long c h e = there_is (λ what. is_long_name what.family what.name) (naming e)
 
+-- 6: a SetLimit, by another than user 0
+unfoldable pub not_admin : Config → History → Event → Bool
+not_admin c h (Do sid (SetLimit uid bytes)) = is_not_admin (cred c h sid.0)
+not_admin c h _ = false
+
+-- 7: a SetLimit of no user of the file
+unfoldable pub no_user : Config → History → Event → Bool
+no_user c h (Do sid (SetLimit uid bytes)) = is_none (cred_of c.users uid)
+no_user c h _ = false
+
 -- 8: a call that names a description, and the session does not hold it, or it gives an object of the other family
 unfoldable pub bad_descr : Config → History → Event → Bool
 bad_descr c h (Do sid call) = there_is (λ named. not_held c h sid.0 named.family named.desc.0) (described call)
@@ -205,9 +228,18 @@ chown_denied c h _ = false
 unfoldable pub attr_range : Config → History → Event → Bool
 attr_range c h e = there_is (λ asked. creating h asked && out_of_range c (cred c h asked.session.0) (attributes_asked asked.kind)) (opening e)
 
--- 21: a creating open of a semaphore with a first value above 2,147,483,647
+-- 21: a creating open of a semaphore with a first value above 2,147,483,647, or a SetLimit above 1,000,000,000,000,000
 unfoldable pub value_range : Config → History → Event → Bool
+value_range c h (Do sid (SetLimit uid bytes)) = nat_lt LIMIT_MAX bytes
 value_range c h e = there_is (λ asked. creating h asked && there_is (nat_lt SEM_VALUE_MAX) (value_asked asked.kind)) (opening e)
+
+-- 22: a creating open of a queue, by another than user 0, while `queues_max` queues or more are alive
+unfoldable pub queue_count : Config → History → Event → Bool
+queue_count c h e = there_is (λ asked. creating h asked && is_some (queue_made c asked) && is_not_admin (cred c h asked.session.0) && nat_le c.limits.queues_max (queues_alive c h)) (opening e)
+
+-- 23: a creating open of a queue, and the caller's queues and the new one take more bytes together than the caller's limit
+unfoldable pub byte_limit : Config → History → Event → Bool
+byte_limit c h e = there_is (λ asked. creating h asked && there_is (λ given. there_is (above_limit c h given) (cred c h asked.session.0)) (queue_made c asked)) (opening e)
 
 -- 24: an open while the session holds 1,024 descriptions
 unfoldable pub descr_limit : Config → History → Event → Bool
@@ -252,6 +284,8 @@ forbids InCall = in_call
 forbids NotInCall = not_in_call
 forbids NameForm = name_form
 forbids NameLong = name_long
+forbids NotAdmin = not_admin
+forbids NoUser = no_user
 forbids BadDescr = bad_descr
 forbids NotForWrite = not_for_write
 forbids NotForRead = not_for_read
@@ -266,6 +300,8 @@ forbids NotOwner = not_owner
 forbids ChownDenied = chown_denied
 forbids AttrRange = attr_range
 forbids ValueRange = value_range
+forbids QueueCount = queue_count
+forbids ByteLimit = byte_limit
 forbids DescrLimit = descr_limit
 forbids PrioRange = prio_range
 forbids MessageLong = message_long

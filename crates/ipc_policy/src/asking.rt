@@ -2,9 +2,13 @@
 
 ghost use Rattle.std.specs.Prelude.{◌≡◌};
 ghost use Rattle.ipc_policy.specs.Names.{naming, opening, unlinking};
+ghost use Rattle.ipc_policy.specs.Objects.{kind_of};
 ghost use Rattle.ipc_policy.specs.Rules.{described};
 
-use ipc_terms::{Access, Asked, Call, Desc, Event, Family, Mode, Name, OpenFlags, Sid, Target};
+use crate::config::Config;
+use ipc_terms::{
+    Access, Asked, Attributes, Call, Desc, Event, Family, Kind, Mode, Name, OpenFlags, Sid, Target,
+};
 use std::marker::Model;
 
 /// Whose call it is, and the name of which family it names.
@@ -147,4 +151,19 @@ pub fn description_of(call: &Call) -> Option<Described>
         _ => return None,
     };
     Some(Described { family, desc })
+}
+
+/// What an open makes of what it asks for. A queue has the attributes that are given, else 10 messages
+/// of 8,192 bytes, or fewer and shorter ones where the limits are lower.
+pub fn kind_of(config: &Config, asked: Asked) -> Kind
+    ensures { result ≡ kind_of config.now asked }
+{
+    match asked {
+        Asked::Queue(Some(given)) => Kind::Queue(given),
+        Asked::Queue(None) => Kind::Queue(Attributes {
+            maxmsg: config.limits.msg_max.min(10),
+            msgsize: config.limits.msgsize_max.min(8192),
+        }),
+        Asked::Semaphore(value) => Kind::Semaphore(value),
+    }
 }

@@ -18,6 +18,9 @@ pub const HARD_MSGSIZE_MAX: u32 = 16_777_216;
 /// The greatest `queues_max`.
 pub const HARD_QUEUES_MAX: u32 = 65_536;
 
+/// The greatest limit of the bytes that a user's queues may take in all.
+pub const LIMIT_MAX: u64 = 1_000_000_000_000_000;
+
 /// Limits that are given at the start (`mq_overview(7)`): `msg_max`, from 1 to `HARD_MSG_MAX`, bounds
 /// the messages of a queue; `msgsize_max`, from 1 to `HARD_MSGSIZE_MAX`, the bytes of a message;
 /// `queues_max`, from 0 to `HARD_QUEUES_MAX`, the queues that are alive. User 0 has limits of its own.

@@ -1,7 +1,7 @@
-//! Laws of the policy, over every history; `bound`, `parked_listed`, `parked_alive`, `bounded`, `in_range` and
-//! `counted` are over the legal ones. These functions do nothing: what they ensure is what is proved.
+//! Laws of the policy, over every history; `bound`, `parked_listed`, `parked_alive`, `bounded`, `in_range`,
+//! `counted` and `within_limit` are over the legal ones. These functions do nothing: what they ensure is what is proved.
 
-ghost use Rattle.ipc_policy.specs.Laws.{VerdictIsLeast, RefusedIsQuiet, RefusedIsAnswered, ListedIsBound, BoundIsMade, ParkedIsListed, ParkedIsAlive, EachIsBounded, EachIsInRange, WaitsAtZero, EachValueIsCounted};
+ghost use Rattle.ipc_policy.specs.Laws.{VerdictIsLeast, RefusedIsQuiet, RefusedIsAnswered, ListedIsBound, BoundIsMade, ParkedIsListed, ParkedIsAlive, EachIsBounded, EachIsInRange, WaitsAtZero, EachValueIsCounted, WithinLimit};
 ghost use Rattle.ipc_policy.specs.Grow.{AcceptedGrows};
 ghost use Rattle.ipc_policy.specs.Rights.{HeldOutlives, RightsByDescription};
 ghost use Rattle.ipc_policy.specs.Readings.{EachParkedByPlace, EachInsideByPlace, EachInsideInOrder, EachNextIsGreatest};
@@ -77,6 +77,13 @@ pub fn in_range()
 /// post serves a parked wait or raises it, a wait and a trywait lower it.
 pub fn counted()
     ensures { EachValueIsCounted }
+{}
+
+/// In a legal history the queues that a user created take no more bytes in all than the user's limit, as long as no
+/// limit was set for the user: an open that creates a queue is refused above it, a queue's bytes come back with its
+/// end, and nothing else adds any (`getrlimit(2)`, `RLIMIT_MSGQUEUE`). A limit may be set below what is taken.
+pub fn within_limit()
+    ensures { WithinLimit }
 {}
 
 /// What a session holds by a description stays what it is until the session closes it or hangs up, and the verdict on a

@@ -1,15 +1,19 @@
 //! The conditions under which rules forbid.
 
-ghost use Rattle.std.specs.Prelude.{◌≡◌, nat_lt, is_some, option_and_then};
+ghost use Rattle.std.specs.Prelude.{◌≡◌, ◌+◌, nat_lt, is_some, option_and_then};
 ghost use Rattle.std.specs.Option.{option_copied};
 ghost use Rattle.ipc_access.specs.Users.{cred_of};
 ghost use Rattle.ipc_access.specs.Ownership.{lets_chmod, lets_chown};
-ghost use Rattle.ipc_terms.specs.Objects.{as_queue, attributes_asked, value_asked};
+ghost use Rattle.ipc_terms.specs.Objects.{as_queue, of_queue, attributes_asked, value_asked};
+ghost use Rattle.ipc_policy.specs.Objects.{kind_of};
+ghost use Rattle.ipc_policy.specs.Charges.{bytes_of};
 ghost use Rattle.ipc_terms.specs.declared.object.TheConstants.{SEM_VALUE_MAX};
-ghost use Rattle.ipc_policy.specs.Rules.{there_is, is_of_family, denied, denied_at, removal_denied, change_denied, reads_only, writes_only, bits_wanted, out_of_range};
+ghost use Rattle.ipc_policy.specs.Rules.{there_is, is_not_admin, above_limit, is_of_family, denied, denied_at, removal_denied, change_denied, reads_only, writes_only, bits_wanted, out_of_range};
 
 use ipc_access::{Cred, grants, may_chmod, may_chown, may_remove};
-use ipc_policy::{Config, HARD_MSG_MAX, HARD_MSGSIZE_MAX, Held};
+use ipc_descr::checked_bytes_of;
+use ipc_policy::{Config, HARD_MSG_MAX, HARD_MSGSIZE_MAX, Held, kind_of};
+use ipc_state::State;
 use ipc_terms::{Access, Asked, Attributes, Facts, Family, Gid, Kind, Object, SEM_VALUE_MAX, Uid};
 
 pub fn is_known(config: &Config, found: Option<Uid>) -> bool
@@ -43,6 +47,16 @@ pub fn as_queue(object: Option<Object>) -> Option<Attributes>
     ensures { result ≡ as_queue object }
 {
     match object?.kind {
+        Kind::Queue(attributes) => Some(attributes),
+        Kind::Semaphore(_) => None,
+    }
+}
+
+/// The attributes of the queue that an open makes, where it asks for a queue.
+pub fn queue_made(config: &Config, asked: Asked) -> Option<Attributes>
+    ensures { result ≡ of_queue (kind_of config.now asked) }
+{
+    match kind_of(config, asked) {
         Kind::Queue(attributes) => Some(attributes),
         Kind::Semaphore(_) => None,
     }
@@ -168,5 +182,41 @@ pub fn is_of_family(family: Family, object: Option<Object>) -> bool
     match object {
         Some(object) => object.kind.family() == family,
         None => false,
+    }
+}
+
+/// Whether there is a user, and it is another than user 0.
+pub fn is_not_admin(who: Option<&Cred>) -> bool
+    ensures { result ≡ is_not_admin (option_copied who.entry) }
+{
+    match who {
+        Some(who) => !who.is_root(),
+        None => false,
+    }
+}
+
+/// Whether the user's queues and one more of these attributes take more bytes than the user's may.
+pub fn is_above_limit(state: &State, who: Option<&Cred>, given: Option<Attributes>) -> bool
+    ensures { result ≡ there_is (λ given. there_is (above_limit state.now.config state.now.history given) (option_copied who.entry)) given }
+{
+    let (Some(who), Some(given)) = (who, given) else {
+        return false;
+    };
+    match state.limit(who.uid) {
+        Some(most) => takes_more(most, state.charged(who.uid), given),
+        None => false,
+    }
+}
+
+/// Whether so many bytes and those of a queue of these attributes are together more than `most`.
+fn takes_more(most: u64, used: u64, given: Attributes) -> bool
+    ensures { result ≡ nat_lt most (used + bytes_of given) }
+{
+    let Some(bytes) = checked_bytes_of(given.maxmsg, given.msgsize) else {
+        return true;
+    };
+    match used.checked_add(bytes) {
+        Some(all) => most < all,
+        None => true,
     }
 }

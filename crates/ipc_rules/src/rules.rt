@@ -2,17 +2,18 @@
 
 ghost use Rattle.std.specs.Prelude.{◌≡◌};
 ghost use Rattle.ipc_policy.specs.Names.{creating};
-ghost use Rattle.ipc_policy.specs.Rules.{forbids, no_session, in_call, not_in_call, name_form, name_long, bad_descr, not_for_write, not_for_read, dir_search, dir_read, absent, present, mode_denied, dir_write, sticky, not_owner, chown_denied, attr_range, value_range, descr_limit, prio_range, message_long, buffer_short, would_block, overflow, bad_key};
+ghost use Rattle.ipc_policy.specs.Rules.{forbids, no_session, in_call, not_in_call, name_form, name_long, not_admin, no_user, bad_descr, not_for_write, not_for_read, dir_search, dir_read, absent, present, mode_denied, dir_write, sticky, not_owner, chown_denied, attr_range, value_range, queue_count, byte_limit, descr_limit, prio_range, message_long, buffer_short, would_block, overflow, bad_key};
 ghost use Rattle.ipc_policy.specs.Verdict.{verdict};
 
 use crate::conditions::{
-    as_queue, attributes_asked, bits_of, is_chmod_denied, is_chown_denied, is_denied, is_denied_at,
-    is_known, is_of_family, is_out_of_range, is_read_only, is_removal_denied, is_too_great,
-    is_too_long, is_too_short, is_write_only,
+    as_queue, attributes_asked, bits_of, is_above_limit, is_chmod_denied, is_chown_denied,
+    is_denied, is_denied_at, is_known, is_not_admin, is_of_family, is_out_of_range, is_read_only,
+    is_removal_denied, is_too_great, is_too_long, is_too_short, is_write_only, queue_made,
 };
 use ipc_names::{has_form, is_long};
 use ipc_policy::{
-    DESCRIPTIONS_MAX, MQ_PRIO_MAX, Opening, description_of, naming_of, opening_of, unlinking_of,
+    DESCRIPTIONS_MAX, LIMIT_MAX, MQ_PRIO_MAX, Opening, description_of, naming_of, opening_of,
+    unlinking_of,
 };
 use ipc_state::State;
 use ipc_terms::{Call, Event, Rule};
@@ -74,6 +75,8 @@ pub fn forbids(state: &State, rule: Rule, event: &Event) -> bool
         Rule::NotInCall => not_in_call(state, event),
         Rule::NameForm => name_form(state, event),
         Rule::NameLong => name_long(state, event),
+        Rule::NotAdmin => not_admin(state, event),
+        Rule::NoUser => no_user(state, event),
         Rule::BadDescr => bad_descr(state, event),
         Rule::NotForWrite => not_for_write(state, event),
         Rule::NotForRead => not_for_read(state, event),
@@ -88,6 +91,8 @@ pub fn forbids(state: &State, rule: Rule, event: &Event) -> bool
         Rule::ChownDenied => chown_denied(state, event),
         Rule::AttrRange => attr_range(state, event),
         Rule::ValueRange => value_range(state, event),
+        Rule::QueueCount => queue_count(state, event),
+        Rule::ByteLimit => byte_limit(state, event),
         Rule::DescrLimit => descr_limit(state, event),
         Rule::PrioRange => prio_range(state, event),
         Rule::MessageLong => message_long(state, event),
@@ -95,8 +100,7 @@ pub fn forbids(state: &State, rule: Rule, event: &Event) -> bool
         Rule::WouldBlock => would_block(state, event),
         Rule::Overflow => overflow(state, event),
         Rule::BadKey => bad_key(state, event),
-        Rule::NotAdmin | Rule::NoUser | Rule::QueueCount | Rule::ByteLimit | Rule::NotifyTaken =>
-            false,
+        Rule::NotifyTaken => false,
     }
 }
 
@@ -159,6 +163,34 @@ fn name_long(state: &State, event: &Event) -> bool
     match naming_of(event) {
         Some(what) => is_long(what.family, what.name.as_slice()),
         None => false,
+    }
+}
+
+/// A SetLimit, by another than user 0.
+#[tactic(auto, unfolding(ipc_policy::specs::Rules::not_admin))]
+fn not_admin(state: &State, event: &Event) -> bool
+    ensures { result ≡ not_admin state.now.config state.now.history event.now }
+{
+    match event {
+        Event::Do {
+            sid,
+            call: Call::SetLimit { .. },
+        } => is_not_admin(state.cred(*sid)),
+        _ => false,
+    }
+}
+
+/// A SetLimit of no user of the file.
+#[tactic(auto, unfolding(ipc_policy::specs::Rules::no_user))]
+fn no_user(state: &State, event: &Event) -> bool
+    ensures { result ≡ no_user state.now.config state.now.history event.now }
+{
+    match event {
+        Event::Do {
+            call: Call::SetLimit { uid, .. },
+            ..
+        } => !is_known(state.config(), Some(*uid)),
+        _ => false,
     }
 }
 
@@ -353,15 +385,54 @@ fn attr_range(state: &State, event: &Event) -> bool
     }
 }
 
-/// A creating open of a semaphore with a first value above 2,147,483,647.
+/// A creating open of a semaphore with a first value above 2,147,483,647, or a SetLimit above
+/// 1,000,000,000,000,000.
 #[tactic(auto, unfolding(ipc_policy::specs::Rules::value_range))]
 fn value_range(state: &State, event: &Event) -> bool
     ensures { result ≡ value_range state.now.config state.now.history event.now }
 {
+    if let Event::Do {
+        call: Call::SetLimit { bytes, .. },
+        ..
+    } = event
+    {
+        return *bytes > LIMIT_MAX;
+    }
     match opening_of(event) {
         Some(asked) => is_creating(state, &asked) && is_too_great(asked.kind),
         None => false,
     }
+}
+
+/// A creating open of a queue, by another than user 0, while `queues_max` queues or more are alive.
+#[tactic(auto, unfolding(ipc_policy::specs::Rules::queue_count))]
+fn queue_count(state: &State, event: &Event) -> bool
+    ensures { result ≡ queue_count state.now.config state.now.history event.now }
+{
+    let Some(asked) = opening_of(event) else {
+        return false;
+    };
+    is_creating(state, &asked)
+        && queue_made(state.config(), asked.kind).is_some()
+        && is_not_admin(state.cred(asked.session))
+        && state.config().limits.queues_max as usize <= state.queue_count()
+}
+
+/// A creating open of a queue, and the caller's queues and the new one take more bytes together than
+/// the caller's limit.
+#[tactic(auto, unfolding(ipc_policy::specs::Rules::byte_limit))]
+fn byte_limit(state: &State, event: &Event) -> bool
+    ensures { result ≡ byte_limit state.now.config state.now.history event.now }
+{
+    let Some(asked) = opening_of(event) else {
+        return false;
+    };
+    is_creating(state, &asked)
+        && is_above_limit(
+            state,
+            state.cred(asked.session),
+            queue_made(state.config(), asked.kind),
+        )
 }
 
 /// An open while the session holds 1,024 descriptions.

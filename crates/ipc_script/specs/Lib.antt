@@ -4,3 +4,4 @@ pub mod Labels
 pub mod Steps
 pub mod Statuses
 pub mod Arguments
+pub mod Options

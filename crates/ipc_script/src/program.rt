@@ -11,7 +11,7 @@ ghost use Rattle.ipc_script.specs.Statuses.{status_of_fault, status_of_arguments
 use crate::fault::ScriptFault;
 use clap::error::ErrorKind;
 use std::alloc::AllocError;
-use std::io;
+use std::{fmt, io};
 
 /// Why a program ends before the end of its script, or without one.
 #[derive(Debug, Drop)]
@@ -35,13 +35,24 @@ impl ProgramFault {
         }
     }
 
-    /// Says why. A standard error that can't be written to is passed over.
+    /// Says why: help and the version on standard output, all else on standard error. One that can't
+    /// be written to is passed over.
     pub fn print(&self, rt: &(impl Print + Eprint)) {
-        let _ = match self {
-            ProgramFault::Arguments(error) => error.print(rt),
-            ProgramFault::NotUtf8 => eprintln!(rt; "error: an argument is not UTF-8"),
-            ProgramFault::Script(fault) => eprintln!(rt; "mqserve: {fault}"),
+        let _ = match self.status() {
+            0 => rt.print(self),
+            _ => rt.eprint(self),
         };
+    }
+}
+
+/// The text for a person, with its line ends.
+impl fmt::Display for ProgramFault {
+    fn fmt<W: fmt::Write>(&self, f: &mut fmt::Formatter<W>) -> fmt::Result {
+        match self {
+            ProgramFault::Arguments(error) => write!(f, "{error}"),
+            ProgramFault::NotUtf8 => f.write_str("error: an argument is not UTF-8\n"),
+            ProgramFault::Script(fault) => writeln!(f, "mqserve: {fault}"),
+        }
     }
 }
 

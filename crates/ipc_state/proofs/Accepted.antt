@@ -1,5 +1,5 @@
 -- What the tables have for a call that is accepted.
-use Rattle.std.proofs.Common.{◌≡◌, ℕ, ◌<◌, Bool, true, false, not, ◌&&◌, ◌||◌, eqb, cond, List, length, slice_get, Option, Some, None, is_some, refl, sym, ap, subst, ◌∙◌, arith}
+use Rattle.std.proofs.Common.{◌≡◌, ℕ, ◌<◌, ◌≤◌, Bool, true, false, not, ◌&&◌, ◌||◌, eqb, cond, List, length, slice_get, Option, Some, None, is_some, refl, sym, ap, subst, ◌∙◌, arith}
 use Rattle.std.specs.Prelude.{option_and_then, min, nat_lt}
 use Rattle.std.specs.Option.{option_map}
 use Rattle.std.proofs.lemmas.Option.{slice_get_within}
@@ -28,7 +28,8 @@ use Rattle.ipc_policy.specs.Names.{Opening, opening, queue_opening, semaphore_op
 use Rattle.ipc_policy.specs.Grow.{is_new}
 use Rattle.ipc_policy.specs.Objects.{object, attributes_of, kind_of}
 use Rattle.ipc_policy.specs.Descriptions.{holds}
-use Rattle.ipc_policy.specs.Rules.{there_is, is_of_family, not_held, out_of_range}
+use Rattle.ipc_policy.specs.Rules.{there_is, is_of_family, not_held, out_of_range, above_limit, queue_made}
+use Rattle.ipc_policy.specs.Charges.{limit}
 use Rattle.ipc_policy.specs.Verdict.{verdict}
 use Rattle.ipc_policy.proofs.Known.{bound_iff}
 use Rattle.ipc_tables.specs.declared.rows.Session.{Session}
@@ -37,11 +38,15 @@ use Rattle.ipc_terms.specs.declared.object.Kind.{Kind}
 use Rattle.ipc_terms.specs.declared.object.Kind.TheVariants.{Queue as QueueKind, Semaphore as SemaphoreKind}
 use Rattle.ipc_tables.specs.Objects.{HasRoom}
 use Rattle.ipc_tables.specs.Kept.{Kept, is_live_row, live_at}
-use Rattle.ipc_state.specs.Agrees.{Agrees, SessionsAgree}
+use Rattle.ipc_state.specs.Agrees.{Agrees, SessionsAgree, ChargesAgree}
 use Rattle.ipc_state.specs.Ranges.{first_bad}
 use Rattle.ipc_state.specs.declared.limits.Field.TheVariants.{MsgMax, MsgsizeMax}
 use Rattle.ipc_policy.proofs.Unforbidden.{off, caller_live, leaver_live}
-use Rattle.ipc_policy.proofs.OpenAccepted.{open_there, open_in_range, open_value_in_range}
+use Rattle.ipc_policy.proofs.OpenAccepted.{open_there, open_in_range, open_value_in_range, open_within_limit}
+use Rattle.ipc_policy.proofs.Limiting.{caller_limited}
+use Rattle.ipc_descr.specs.declared.charges.Charge.{Charge}
+use Rattle.ipc_tables.specs.Charging.{Affords}
+use Rattle.ipc_state.proofs.ChargeTables.{affords_kind}
 
 pub within_live : (xs : List Session) (s : ℕ) → live_at xs s ≡ true → s < length xs
 within_live xs s k = at (slice_get xs s) refl k where
@@ -104,24 +109,41 @@ not_zero n e = grind (arith, nat_tests)
 min_some : (a b : ℕ) → 0 < a → 0 < b → 0 < min a b
 min_some a b k l = omega arith
 
+min_most : (a b most : ℕ) → a ≤ most → min a b ≤ most
+min_most a b most le = omega arith
+
+-- what is not above a limit is not above the greatest limit
+at_most : (n most : ℕ) → nat_lt most n ≡ false → n ≤ most
+at_most n most e = grind (arith, nat_tests)
+
+under : (b : Bool) (hard limit n : ℕ) → limit ≤ hard → nat_lt (cond b hard limit) n ≡ false → n ≤ hard
+under true hard limit n le e = at_most n hard e
+under false hard limit n le e = let most = at_most n limit e in omega arith
+
 -- where no condition holds, the first does not, and none of the others does
 pub first_none : {X : Type 0} (b : Bool) (x : X) (o : Option X) → cond b (Some x) o ≡ None → (b ≡ false) × (o ≡ None)
 first_none true x o e = absurd cc
 first_none false x o e = (refl, e)
 
-pub limits_some : (c : Config) → first_bad c.limits ≡ None → (0 < c.limits.msg_max) × (0 < c.limits.msgsize_max)
-limits_some c e =
+limits_range : (c : Config) → first_bad c.limits ≡ None → ((0 < c.limits.msg_max) × (c.limits.msg_max ≤ 65536)) × ((0 < c.limits.msgsize_max) × (c.limits.msgsize_max ≤ 16777216))
+limits_range c e =
     let past1 = first_none _ MsgMax _ e in
     let past2 = first_none _ MsgsizeMax _ past1.1 in
-    (not_zero c.limits.msg_max (or_off _ _ past1.0).0, not_zero c.limits.msgsize_max (or_off _ _ past2.0).0)
+    let part1 = or_off _ _ past1.0 in
+    let part2 = or_off _ _ past2.0 in
+    ((not_zero c.limits.msg_max part1.0, at_most c.limits.msg_max 65536 part1.1), (not_zero c.limits.msgsize_max part2.0, at_most c.limits.msgsize_max 16777216 part2.1))
 
-attributes_some : (c : Config) (who : Cred) (given : Option Attributes) → first_bad c.limits ≡ None → out_of_range c (Some who) given ≡ false → (0 < (attributes_of c given).maxmsg) × (0 < (attributes_of c given).msgsize)
-attributes_some c who None e k = let some = limits_some c e in (min_some 10 c.limits.msg_max (omega arith) some.0, min_some 8192 c.limits.msgsize_max (omega arith) some.1)
-attributes_some c who (Some given) e k =
+pub limits_some : (c : Config) → first_bad c.limits ≡ None → (0 < c.limits.msg_max) × (0 < c.limits.msgsize_max)
+limits_some c e = let range = limits_range c e in (range.0.0, range.1.0)
+
+attributes_range : (c : Config) (who : Cred) (given : Option Attributes) → first_bad c.limits ≡ None → out_of_range c (Some who) given ≡ false → HasRoom (QueueKind (attributes_of c given))
+attributes_range c who None e k = let range = limits_range c e in ((min_some 10 c.limits.msg_max (omega arith) range.0.0, min_most 10 c.limits.msg_max 65536 (omega arith)), (min_some 8192 c.limits.msgsize_max (omega arith) range.1.0, min_most 8192 c.limits.msgsize_max 16777216 (omega arith)))
+attributes_range c who (Some given) e k =
+    let range = limits_range c e in
     let part1 = or_off _ _ k in
     let part2 = or_off _ _ part1.0 in
     let part3 = or_off _ _ part2.0 in
-    (not_zero given.maxmsg part3.0, not_zero given.msgsize part3.1)
+    ((not_zero given.maxmsg part3.0, under (eqb who.uid.0 0) 65536 c.limits.msg_max given.maxmsg range.0.1 part2.1), (not_zero given.msgsize part3.1, under (eqb who.uid.0 0) 16777216 c.limits.msgsize_max given.msgsize range.1.1 part1.1))
 
 -- an accepted call's session stands in the table
 pub caller_within : (c : Config) (h : History) (t : Kept) (sid : Sid) (call : Call) → Agrees c h t → verdict c h (Do sid call) ≡ None → sid.0 < length t.sessions
@@ -145,7 +167,7 @@ pub open_new : (c : Config) (h : History) (e : Event) (asked : Opening) → open
 open_new c h e asked is accepted none = new_at (has_create asked.flags) (is_bound h asked.family asked.name) (unbound_is h asked.family asked.name none) (ap (λ b. not (has_create asked.flags) && not b) (sym (unbound_is h asked.family asked.name none)) ∙ open_there c h e asked is accepted)
 
 room_at : (c : Config) (asked : Asked) (who : Cred) → first_bad c.limits ≡ None → out_of_range c (Some who) (attributes_asked asked) ≡ false → there_is (nat_lt SEM_VALUE_MAX) (value_asked asked) ≡ false → HasRoom (kind_of c asked)
-room_at c (AskedQueue given) who in_range one two = attributes_some c who given in_range one
+room_at c (AskedQueue given) who in_range one two = attributes_range c who given in_range one
 room_at c (AskedSemaphore value) who in_range one two = grind (arith, nat_tests)
 
 pub open_room : (c : Config) (h : History) (e : Event) (asked : Opening) (who : Cred) → first_bad c.limits ≡ None → opening e ≡ Some asked → verdict c h e ≡ None → bound h asked.family asked.name ≡ None → cred c h asked.session.0 ≡ Some who → HasRoom (kind_of c asked.kind)
@@ -154,3 +176,10 @@ open_room c h e asked who in_range is accepted none known =
     let one = ap (λ b. b && out_of_range c (cred c h asked.session.0) (attributes_asked asked.kind)) (sym new) ∙ open_in_range c h e asked is accepted in
     let two = ap (λ b. b && there_is (nat_lt SEM_VALUE_MAX) (value_asked asked.kind)) (sym new) ∙ open_value_in_range c h e asked is accepted in
     room_at c asked.kind who in_range (ap (λ w. out_of_range c w (attributes_asked asked.kind)) (sym known) ∙ one) two
+
+-- and its creator can afford it
+pub open_affords : (c : Config) (h : History) (e : Event) (asked : Opening) (charges : List Charge) (who : Cred) → opening e ≡ Some asked → verdict c h e ≡ None → bound h asked.family asked.name ≡ None → cred c h asked.session.0 ≡ Some who → ChargesAgree c h charges → Affords charges who.uid.0 (kind_of c asked.kind)
+open_affords c h e asked charges who is accepted none known a =
+    let new = open_new c h e asked is accepted none in
+    let fits = ap (λ b. b && there_is (λ given. there_is (above_limit c h given) (cred c h asked.session.0)) (queue_made c asked)) (sym new) ∙ open_within_limit c h e asked is accepted in
+    affords_kind c h charges who (kind_of c asked.kind) (caller_limited c h asked.session.0 who known) a (subst (λ (w : Option Cred). there_is (λ given. there_is (above_limit c h given) w) (queue_made c asked) ≡ false) known fits)

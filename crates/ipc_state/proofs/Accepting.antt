@@ -10,14 +10,14 @@ use Rattle.ipc_terms.specs.declared.ids.Mode.{Mode}
 use Rattle.ipc_terms.specs.declared.ids.Family.{Family}
 use Rattle.ipc_terms.specs.declared.ids.Family.TheVariants.{Mq, Sem}
 use Rattle.ipc_terms.specs.declared.ids.Target.{Target}
-use Rattle.ipc_terms.specs.declared.call.Call.TheVariants.{Umask, MqSend, MqReceive, MqGetattr, MqSetattr, SemPost, SemWait, SemTryWait, SemGetvalue, ListNames, StatName, Interrupt}
+use Rattle.ipc_terms.specs.declared.call.Call.TheVariants.{Umask, MqSend, MqReceive, MqGetattr, MqSetattr, SemPost, SemWait, SemTryWait, SemGetvalue, ListNames, StatName, SetLimit, Interrupt}
 use Rattle.ipc_terms.specs.Objects.{of_queue, as_queue}
 use Rattle.ipc_terms.specs.declared.call.Attributes.{Attributes}
 use Rattle.ipc_terms.specs.declared.object.Kind.{Kind}
 use Rattle.ipc_terms.specs.declared.object.Kind.TheVariants.{Queue as QueueKind, Semaphore as SemaphoreKind}
 use Rattle.ipc_terms.specs.declared.record.Event.{Event}
 use Rattle.ipc_terms.specs.declared.record.Event.TheVariants.{Hello, Do, Hangup}
-use Rattle.ipc_names.specs.Directory.{Directory, first_directory}
+use Rattle.ipc_names.specs.Directory.{Directory}
 use Rattle.ipc_policy.specs.declared.config.Config.{Config}
 use Rattle.ipc_policy.specs.declared.config.Held.{Held}
 use Rattle.ipc_policy.specs.History.{History, after_accepted, kept, there_is, gathered_below}
@@ -29,6 +29,8 @@ use Rattle.ipc_policy.specs.Life.{named, bindings, alive}
 use Rattle.ipc_policy.specs.Queues.{Withdraws, queue, queue_after, maxmsg}
 use Rattle.ipc_policy.specs.Semaphores.{Cancels, semaphore, semaphore_after, with_first}
 use Rattle.ipc_terms.specs.declared.object.Object.{Object}
+use Rattle.ipc_policy.specs.Charges.{sets_limit, limit}
+use Rattle.ipc_policy.proofs.Bindings.{object_with_facts}
 use Rattle.ipc_policy.specs.Parking.{Parked, parked}
 use Rattle.ipc_policy.specs.Laws.{SameValues}
 use Rattle.ipc_policy.specs.Grow.{Grows, hellos_after, user_after, live_after, mask_after, nonblock_after, named_after, held_after, opens_after, bindings_after, creations_after, made_after, first_value}
@@ -46,11 +48,14 @@ use Rattle.ipc_tables.specs.declared.rows.Body.TheVariants.{Queue as QueueBody, 
 use Rattle.ipc_tables.specs.declared.rows.ObjectRow.{ObjectRow}
 use Rattle.ipc_tables.specs.declared.rows.Session.{Session}
 use Rattle.ipc_terms.specs.Lists.{changed}
+use Rattle.ipc_descr.specs.declared.charges.Charge.{Charge}
 use Rattle.ipc_descr.specs.Descriptions.{Descriptions, is_of}
-use Rattle.ipc_tables.specs.Kept.{Kept, parked_on_at}
-use Rattle.ipc_tables.specs.Steps.{hung_up, living, ended, after_hello, after_umask, after_send, after_receive, after_post, after_wait, after_try, after_withdrawal, after_setattr, after_hangup}
+use Rattle.ipc_tables.specs.Kept.{Kept, parked_on_at, is_kept}
+use Rattle.ipc_tables.specs.Charging.{settled}
+use Rattle.ipc_tables.specs.Steps.{hung_up, living, ended, after_hello, after_umask, after_send, after_receive, after_post, after_wait, after_try, after_withdrawal, after_setattr, after_limit, after_hangup, first_tables}
 use Rattle.ipc_state.specs.Ranges.{first_bad}
-use Rattle.ipc_state.specs.Agrees.{Agrees, IsCore, SessionsAgree, DirectoryAgrees, ObjectsAgree, DescriptionsAgree, row_with, tickets_of, counter_of, Inside, inside, body_of}
+use Rattle.ipc_state.specs.Agrees.{Agrees, IsCore, SessionsAgree, DirectoryAgrees, ObjectsAgree, DescriptionsAgree, ChargesAgree, row_with, tickets_of, counter_of, Inside, inside, body_of}
+use Rattle.ipc_state.proofs.ChargeTables.{HaveFacts, taken_is, charged_same, limit_left, charges_kept, charges_settled, charges_limited, charges_first}
 use Rattle.ipc_state.proofs.SessionTables.{Columns, columns_of, columns_moved, sessions_parked, sessions_kept, sessions_begun, sessions_masked, sessions_ended}
 use Rattle.ipc_state.proofs.ParkedColumn.{parked_object, column_by_send, column_by_receive, column_by_post, column_by_wait, column_by_interrupt, column_by_hangup}
 use Rattle.ipc_state.proofs.Posting.{sessions_posted, sessions_waited, counter_posted, counter_waited, counter_tried, counter_cancelled}
@@ -86,14 +91,19 @@ untouched c h e p n d i b m o f =
 alive_same : (c : Config) (h k : History) → Untouched c h k → (o : ℕ) → alive k o ≡ alive h o
 alive_same c h k u o = alive_kept h k o (u.named' o) u.held' u.opens'
 
+-- and sets no limit
+charges_left : (c : Config) (h : History) (e : Event) (charges : List Charge) → Untouched c h (after_accepted h e) → ((u : Uid) → sets_limit u e h ≡ None) → ChargesAgree c h charges → ChargesAgree c (after_accepted h e) charges
+charges_left c h e charges u none a = charges_kept c h (after_accepted h e) charges (λ v. limit_left c h e v (none v)) (λ v. charged_same c h (after_accepted h e) v (alive_same c h (after_accepted h e) u) u.object' u.creations') a
+
 -- it leaves their tables, whatever it does to the sessions and to what stands in the objects
-pub left_alone : (c : Config) (h k : History) (t : Kept) (ss : List Session) (rows : List ObjectRow) → Untouched c h k → ((s d : ℕ) → is_nonblock k s d ≡ is_nonblock h s d) → SessionsAgree c k ss → ObjectsAgree c k rows t.created → Agrees c h t → Agrees c k (record t { sessions = ss; objects = rows })
-left_alone c h k t ss rows u n sessions' objects' a = record {
+pub left_alone : (c : Config) (h k : History) (t : Kept) (ss : List Session) (rows : List ObjectRow) → Untouched c h k → ((s d : ℕ) → is_nonblock k s d ≡ is_nonblock h s d) → ChargesAgree c k t.charges → SessionsAgree c k ss → ObjectsAgree c k rows t.created → Agrees c h t → Agrees c k (record t { sessions = ss; objects = rows })
+left_alone c h k t ss rows u n charges' sessions' objects' a = record {
   sessions = sessions';
   queues = record { bound = a.queues.bound ∙ sym (u.bindings' Mq); facts = a.queues.facts ∙ sym (u.directory' Mq) };
   semaphores = record { bound = a.semaphores.bound ∙ sym (u.bindings' Sem); facts = a.semaphores.facts ∙ sym (u.directory' Sem) };
   objects = objects';
   descriptions = descriptions_kept h k t.descriptions u.held' n u.opens' a.descriptions;
+  charges = charges';
 }
 
 -- and the objects too, where it says nothing of what stands in them
@@ -112,6 +122,7 @@ agrees_as : (c : Config) (h k : History) (t : Kept) → SameValues c k h → Agr
 agrees_as c h k t q a =
     let u : Untouched c h k = record { named' = q.named; held' = q.held; opens' = q.opens; bindings' = q.bindings; directory' = q.directory; creations' = q.creations; object' = q.object; facts' = q.facts } in
     left_alone c h k t t.sessions t.objects u q.is_nonblock
+    (charges_kept c h k t.charges q.limit q.charged a.charges)
     (record { users = λ s. a.sessions.users s ∙ sym (q.user s); masks = λ s row is. a.sessions.masks s row is ∙ sym (q.mask s); lives = λ s. a.sessions.lives s ∙ sym (q.live s); parks = λ s. a.sessions.parks s ∙ sym (ap (option_map (λ (p : Parked). p.object)) (q.parked s)); count = a.sessions.count ∙ sym q.hellos })
     (objects_same c h k t u (λ o. inside_same c h k o (q.queue o) (q.semaphore o)) a) a
 
@@ -121,7 +132,7 @@ agrees_begun c h t uid k =
     let e = Hello (Some uid) in
     let g = grows c h e in
     let u = untouched c h e (record { owner = λ m. refl; group = λ m. refl; mode = λ m. refl }) (λ o. refl) (λ d. refl) refl (λ f. refl) refl (λ o. refl) (λ o. refl) in
-    left_alone c h _ t _ t.objects u g.nonblock_of (sessions_begun c h t.sessions uid k.legal g k.agrees.sessions) (objects_same c h _ t u (λ o. others_inside c h e o refl refl) k.agrees) k.agrees
+    left_alone c h _ t _ t.objects u g.nonblock_of (charges_left c h e t.charges u (λ v. refl) k.agrees.charges) (sessions_begun c h t.sessions uid k.legal g k.agrees.sessions) (objects_same c h _ t u (λ o. others_inside c h e o refl refl) k.agrees) k.agrees
 
 -- an accepted umask
 pub agrees_masked : (c : Config) (h : History) (t : Kept) (sid : Sid) (m : Mode) → Agrees c h t → Agrees c (after_accepted h (Do sid (Umask m))) (after_umask t sid.0 (record { 0 = m.0 % 512 }))
@@ -129,29 +140,29 @@ agrees_masked c h t sid m a =
     let e = Do sid (Umask m) in
     let g = grows c h e in
     let u = untouched c h e (record { owner = λ m. refl; group = λ m. refl; mode = λ m. refl }) (λ o. refl) (λ d. refl) refl (λ f. refl) refl (λ o. refl) (λ o. refl) in
-    left_alone c h _ t _ t.objects u g.nonblock_of (sessions_masked c h t.sessions sid m g a.sessions) (objects_same c h _ t u (λ o. others_inside c h e o refl refl) a) a
+    left_alone c h _ t _ t.objects u g.nonblock_of (charges_left c h e t.charges u (λ v. refl) a.charges) (sessions_masked c h t.sessions sid m g a.sessions) (objects_same c h _ t u (λ o. others_inside c h e o refl refl) a) a
 
 -- a question changes nothing
-asked : (c : Config) (h : History) (t : Kept) (e : Event) → Untouched c h (after_accepted h e) → moves e ≡ false → ((o : ℕ) → first_value o e (is_bound h) (creations h) ≡ None) → hellos_after e (hellos h) ≡ hellos h → ((s : ℕ) → user_after s e (hellos h) (user h s) ≡ user h s) → ((s : ℕ) → live_after s e (hellos h) (live h s) ≡ live h s) → ((s : ℕ) → mask_after s e (mask h s) ≡ mask h s) → ((s d : ℕ) → nonblock_after s d e (opens h) (is_nonblock h s d) ≡ is_nonblock h s d) → Agrees c h t → Agrees c (after_accepted h e) t
-asked c h t e u still none n w l m b a =
+asked : (c : Config) (h : History) (t : Kept) (e : Event) → Untouched c h (after_accepted h e) → ((v : Uid) → sets_limit v e h ≡ None) → moves e ≡ false → ((o : ℕ) → first_value o e (is_bound h) (creations h) ≡ None) → hellos_after e (hellos h) ≡ hellos h → ((s : ℕ) → user_after s e (hellos h) (user h s) ≡ user h s) → ((s : ℕ) → live_after s e (hellos h) (live h s) ≡ live h s) → ((s : ℕ) → mask_after s e (mask h s) ≡ mask h s) → ((s d : ℕ) → nonblock_after s d e (opens h) (is_nonblock h s d) ≡ is_nonblock h s d) → Agrees c h t → Agrees c (after_accepted h e) t
+asked c h t e u limits still none n w l m b a =
     let g = grows c h e in
-    left_alone c h _ t t.sessions t.objects u (λ s d. g.nonblock_of s d ∙ b s d) (sessions_kept c h _ e t.sessions g n w l m (λ s. parked_by_others c h e s still) a.sessions) (objects_same c h _ t u (λ o. others_inside c h e o still (none o)) a) a
+    left_alone c h _ t t.sessions t.objects u (λ s d. g.nonblock_of s d ∙ b s d) (charges_left c h e t.charges u limits a.charges) (sessions_kept c h _ e t.sessions g n w l m (λ s. parked_by_others c h e s still) a.sessions) (objects_same c h _ t u (λ o. others_inside c h e o still (none o)) a) a
 
 pub agrees_listed : (c : Config) (h : History) (t : Kept) (sid : Sid) (family : Family) (start count : ℕ) → Agrees c h t → Agrees c (after_accepted h (Do sid (ListNames family start count))) t
 agrees_listed c h t sid family start count =
-    asked c h t (Do sid (ListNames family start count)) (untouched c h (Do sid (ListNames family start count)) (record { owner = λ m. refl; group = λ m. refl; mode = λ m. refl }) (λ o. refl) (λ d. refl) refl (λ f. refl) refl (λ o. refl) (λ o. refl)) refl (λ o. refl) refl (λ s. refl) (λ s. refl) (λ s. refl) (λ s d. refl)
+    asked c h t (Do sid (ListNames family start count)) (untouched c h (Do sid (ListNames family start count)) (record { owner = λ m. refl; group = λ m. refl; mode = λ m. refl }) (λ o. refl) (λ d. refl) refl (λ f. refl) refl (λ o. refl) (λ o. refl)) (λ v. refl) refl (λ o. refl) refl (λ s. refl) (λ s. refl) (λ s. refl) (λ s d. refl)
 
 pub agrees_told : (c : Config) (h : History) (t : Kept) (sid : Sid) (target : Target) → Agrees c h t → Agrees c (after_accepted h (Do sid (StatName target))) t
 agrees_told c h t sid target =
-    asked c h t (Do sid (StatName target)) (untouched c h (Do sid (StatName target)) (record { owner = λ m. refl; group = λ m. refl; mode = λ m. refl }) (λ o. refl) (λ d. refl) refl (λ f. refl) refl (λ o. refl) (λ o. refl)) refl (λ o. refl) refl (λ s. refl) (λ s. refl) (λ s. refl) (λ s d. refl)
+    asked c h t (Do sid (StatName target)) (untouched c h (Do sid (StatName target)) (record { owner = λ m. refl; group = λ m. refl; mode = λ m. refl }) (λ o. refl) (λ d. refl) refl (λ f. refl) refl (λ o. refl) (λ o. refl)) (λ v. refl) refl (λ o. refl) refl (λ s. refl) (λ s. refl) (λ s. refl) (λ s d. refl)
 
 pub agrees_asked : (c : Config) (h : History) (t : Kept) (sid : Sid) (desc : Desc) → Agrees c h t → Agrees c (after_accepted h (Do sid (MqGetattr desc))) t
 agrees_asked c h t sid desc =
-    asked c h t (Do sid (MqGetattr desc)) (untouched c h (Do sid (MqGetattr desc)) (record { owner = λ m. refl; group = λ m. refl; mode = λ m. refl }) (λ o. refl) (λ d. refl) refl (λ f. refl) refl (λ o. refl) (λ o. refl)) refl (λ o. refl) refl (λ s. refl) (λ s. refl) (λ s. refl) (λ s d. refl)
+    asked c h t (Do sid (MqGetattr desc)) (untouched c h (Do sid (MqGetattr desc)) (record { owner = λ m. refl; group = λ m. refl; mode = λ m. refl }) (λ o. refl) (λ d. refl) refl (λ f. refl) refl (λ o. refl) (λ o. refl)) (λ v. refl) refl (λ o. refl) refl (λ s. refl) (λ s. refl) (λ s. refl) (λ s d. refl)
 
 pub agrees_valued : (c : Config) (h : History) (t : Kept) (sid : Sid) (desc : Desc) → Agrees c h t → Agrees c (after_accepted h (Do sid (SemGetvalue desc))) t
 agrees_valued c h t sid desc =
-    asked c h t (Do sid (SemGetvalue desc)) (untouched c h (Do sid (SemGetvalue desc)) (record { owner = λ m. refl; group = λ m. refl; mode = λ m. refl }) (λ o. refl) (λ d. refl) refl (λ f. refl) refl (λ o. refl) (λ o. refl)) refl (λ o. refl) refl (λ s. refl) (λ s. refl) (λ s. refl) (λ s d. refl)
+    asked c h t (Do sid (SemGetvalue desc)) (untouched c h (Do sid (SemGetvalue desc)) (record { owner = λ m. refl; group = λ m. refl; mode = λ m. refl }) (λ o. refl) (λ d. refl) refl (λ f. refl) refl (λ o. refl) (λ o. refl)) (λ v. refl) refl (λ o. refl) refl (λ s. refl) (λ s. refl) (λ s. refl) (λ s d. refl)
 
 -- the body of an object changes as its queue does, or as its semaphore does
 queue_changed : (x : Object) (change : Tickets → Tickets) (m n : Inside) → ((z : Attributes) → of_queue x.kind ≡ Some z → tickets_of n.queue z ≡ change (tickets_of m.queue z)) → n.semaphore ≡ m.semaphore → body_of x.kind n ≡ with_body change (body_of x.kind m)
@@ -175,6 +186,7 @@ agrees_sent c h t sid desc priority bytes o k here =
     let open' = is_open c h t here.x.object here.given k here.made in
     subst (λ (i : ℕ). Agrees c (after_accepted h e) (after_send t i (record { place = length h; priority = priority }) sid)) here.same
     (left_alone c h _ t _ _ u g.nonblock_of
+    (charges_left c h e t.charges u (λ v. refl) k.agrees.charges)
     (sessions_parked c h _ e _ _ g refl (λ s. refl) (λ s. refl) (λ s. refl)
     (λ s. column_by_send c h sid desc priority bytes here.x s k.legal here.held (none_receives c h here.x.object here.given open' here.made))
     (sessions_sent c h t here.x.object here.given sid k.legal k.agrees here.lives here.made here.within))
@@ -198,6 +210,7 @@ agrees_received c h t sid desc room o k here =
     let open' = is_open c h t here.x.object here.given k here.made in
     subst (λ (i : ℕ). Agrees c (after_accepted h e) (after_receive t i sid)) here.same
     (left_alone c h _ t _ _ u g.nonblock_of
+    (charges_left c h e t.charges u (λ v. refl) k.agrees.charges)
     (sessions_parked c h _ e _ _ g refl (λ s. refl) (λ s. refl) (λ s. refl)
     (λ s. column_by_receive c h sid desc room here.x s k.legal here.held (none_sends c h here.x.object here.given open' here.made))
     (sessions_received c h t here.x.object here.given sid k.legal k.agrees here.lives here.made open' here.within))
@@ -220,6 +233,7 @@ agrees_posted c h t sid desc o k here =
     let u = untouched c h e (record { owner = λ m. refl; group = λ m. refl; mode = λ m. refl }) (λ i. refl) (λ d. refl) refl (λ f. refl) refl (λ i. refl) (λ i. refl) in
     subst (λ (i : ℕ). Agrees c (after_accepted h e) (after_post t i)) here.same
     (left_alone c h _ t _ _ u g.nonblock_of
+    (charges_left c h e t.charges u (λ v. refl) k.agrees.charges)
     (sessions_parked c h _ e _ _ g refl (λ s. refl) (λ s. refl) (λ s. refl)
     (λ s. column_by_post c h sid desc here.x s k.legal here.held)
     (sessions_posted c h t here.x.object here.given sid k.legal k.agrees here.lives here.made))
@@ -240,6 +254,7 @@ agrees_waited c h t sid desc o k here =
     let u = untouched c h e (record { owner = λ m. refl; group = λ m. refl; mode = λ m. refl }) (λ i. refl) (λ d. refl) refl (λ f. refl) refl (λ i. refl) (λ i. refl) in
     subst (λ (i : ℕ). Agrees c (after_accepted h e) (after_wait t i sid)) here.same
     (left_alone c h _ t _ _ u g.nonblock_of
+    (charges_left c h e t.charges u (λ v. refl) k.agrees.charges)
     (sessions_parked c h _ e _ _ g refl (λ s. refl) (λ s. refl) (λ s. refl)
     (λ s. column_by_wait c h sid desc here.x s here.held)
     (sessions_waited c h t here.x.object here.given sid k.legal k.agrees here.lives here.made here.within))
@@ -260,6 +275,7 @@ agrees_tried c h t sid desc o k here =
     let u = untouched c h e (record { owner = λ m. refl; group = λ m. refl; mode = λ m. refl }) (λ i. refl) (λ d. refl) refl (λ f. refl) refl (λ i. refl) (λ i. refl) in
     subst (λ (i : ℕ). Agrees c (after_accepted h e) (after_try t i)) here.same
     (left_alone c h _ t t.sessions _ u g.nonblock_of
+    (charges_left c h e t.charges u (λ v. refl) k.agrees.charges)
     (sessions_kept c h _ e t.sessions g refl (λ s. refl) (λ s. refl) (λ s. refl) (λ s. parked_by_try c h sid desc s) k.agrees.sessions)
     (record {
       rows = rows_changed c h (after_accepted h e) (inside c (after_accepted h e)) t.objects t.created here.x.object (with_counter tried) (alive_same c h _ u) u.object' u.facts'
@@ -326,6 +342,7 @@ interrupted c h t u sid k w =
     let g = grows c h e in
     let v = untouched c h e (record { owner = λ m. refl; group = λ m. refl; mode = λ m. refl }) (λ i. refl) (λ d. refl) refl (λ f. refl) refl (λ i. refl) (λ i. refl) in
     left_alone c h _ t u.sessions u.objects v g.nonblock_of
+    (charges_left c h e t.charges v (λ x. refl) k.agrees.charges)
     (sessions_parked c h _ e u.sessions (λ s. cond (eqb sid.0 s) None (parked_object c h s)) g refl (λ s. refl) (λ s. refl) (λ s. refl) (column_by_interrupt c h sid) w.sessions)
     (record { rows = w.rows ∙ rows_kept c h (after_accepted h e) (inside c (after_accepted h e)) (inside c (after_accepted h e)) (alive_same c h _ v) v.object' v.facts' (λ o. refl) v.creations'; count = k.agrees.objects.count ∙ sym v.creations' })
     k.agrees
@@ -347,24 +364,46 @@ agrees_set c h t sid desc nonblock x a is =
       semaphores = directory_kept h (after_accepted h e) Sem t.semaphores (g.bindings_of Sem) (directory_left h e (record { owner = λ m. refl; group = λ m. refl; mode = λ m. refl }) Sem) a.semaphores;
       objects = objects_same c h _ t u (λ o. others_inside c h e o refl refl) a;
       descriptions = descriptions_set h _ t.descriptions sid.0 desc.0 nonblock x u.held' g.nonblock_of u.opens' is a.descriptions;
+      charges = charges_left c h e t.charges u (λ v. refl) a.charges;
+    }
+
+-- an accepted limit
+pub agrees_limited : (c : Config) (h : History) (t : Kept) (sid : Sid) (uid : Uid) (bytes : ℕ) → Agrees c h t → Agrees c (after_accepted h (Do sid (SetLimit uid bytes))) (after_limit t uid.0 bytes)
+agrees_limited c h t sid uid bytes a =
+    let e = Do sid (SetLimit uid bytes) in
+    let g = grows c h e in
+    let u = untouched c h e (record { owner = λ m. refl; group = λ m. refl; mode = λ m. refl }) (λ i. refl) (λ d. refl) refl (λ f. refl) refl (λ i. refl) (λ i. refl) in
+    record {
+      sessions = sessions_kept c h _ e t.sessions g refl (λ s. refl) (λ s. refl) (λ s. refl) (λ s. parked_by_others c h e s refl) a.sessions;
+      queues = directory_kept h (after_accepted h e) Mq t.queues (u.bindings' Mq) (u.directory' Mq) a.queues;
+      semaphores = directory_kept h (after_accepted h e) Sem t.semaphores (u.bindings' Sem) (u.directory' Sem) a.semaphores;
+      objects = objects_same c h _ t u (λ o. others_inside c h e o refl refl) a;
+      descriptions = descriptions_kept h (after_accepted h e) t.descriptions u.held' g.nonblock_of u.opens' a.descriptions;
+      charges = charges_limited c h sid uid bytes t.charges (λ v. charged_same c h (after_accepted h e) v (alive_same c h (after_accepted h e) u) u.object' u.creations') a.charges;
     }
 
 -- an event that creates nothing, after which objects may be gone
-pub gone : (c : Config) (h k : History) (e : Event) (t : Kept) (ss : List Session) (xs : List ObjectRow) (queues' semaphores' : Directory) (d : Descriptions) (q : ℕ → Inside) (p : Opening → Bool) (w : ℕ → Held → Bool) → Grows c h k e → ((o : ℕ) → named k o ≡ kept p (named h o)) → ((i : ℕ) → held k i ≡ kept (w i) (held h i)) → opens k ≡ opens h → creations k ≡ creations h → ((o : ℕ) → object c k o ≡ object c h o) → ((o : ℕ) → facts c k o ≡ facts c h o) → ((o : ℕ) → inside c k o ≡ q o) → xs ≡ gathered_below (row_with c h q) (creations h) → SessionsAgree c k ss → DirectoryAgrees k Mq queues' → DirectoryAgrees k Sem semaphores' → DescriptionsAgree k d → Agrees c h t → Agrees c k (record t { sessions = ss; queues = queues'; semaphores = semaphores'; objects = living queues' semaphores' d.rows xs; descriptions = d })
-gone c h k e t ss xs queues' semaphores' d q p w g n h' i m o f same rows' sessions' mq sem descriptions' a = record {
-  sessions = sessions';
-  queues = mq;
-  semaphores = sem;
-  objects = objects_left c h k q queues' semaphores' d xs t.created mq sem descriptions' (λ j. alive_less h k j p w (n j) h' i) o f same m rows' a.objects.count;
-  descriptions = descriptions';
-}
+pub gone : (c : Config) (h k : History) (e : Event) (t : Kept) (ss : List Session) (xs : List ObjectRow) (queues' semaphores' : Directory) (d : Descriptions) (q : ℕ → Inside) (p : Opening → Bool) (w : ℕ → Held → Bool) → Grows c h k e → ((o : ℕ) → named k o ≡ kept p (named h o)) → ((i : ℕ) → held k i ≡ kept (w i) (held h i)) → opens k ≡ opens h → creations k ≡ creations h → ((o : ℕ) → object c k o ≡ object c h o) → ((o : ℕ) → facts c k o ≡ facts c h o) → ((o : ℕ) → inside c k o ≡ q o) → xs ≡ gathered_below (row_with c h q) (creations h) → Legal c h → ((u : Uid) → limit c k u ≡ limit c h u) → SessionsAgree c k ss → DirectoryAgrees k Mq queues' → DirectoryAgrees k Sem semaphores' → DescriptionsAgree k d → Agrees c h t → Agrees c k (record t { sessions = ss; queues = queues'; semaphores = semaphores'; objects = living queues' semaphores' d.rows xs; descriptions = d; charges = settled (is_kept queues' semaphores' d.rows) xs t.charges })
+gone c h k e t ss xs queues' semaphores' d q p w g n h' i m o f same rows' legal limits sessions' mq sem descriptions' a =
+    let left = objects_left c h k q queues' semaphores' d xs t.created mq sem descriptions' (λ j. alive_less h k j p w (n j) h' i) o f same m rows' a.objects.count in
+    let made : HaveFacts c h = object_with_facts c h legal in
+    let made' : HaveFacts c k = λ j. ap is_some (o j) ∙ made j ∙ ap is_some (sym (f j)) in
+    record {
+      sessions = sessions';
+      queues = mq;
+      semaphores = sem;
+      objects = left;
+      descriptions = descriptions';
+      charges = charges_settled c h k (is_kept queues' semaphores' d.rows) xs t.charges limits (λ u. taken_is c h q xs u made rows') (λ u. taken_is c k (inside c k) _ u made' left.rows) a.charges;
+    }
 
 -- an accepted hang-up
-hung : (c : Config) (h : History) (t u : Kept) (sid : Sid) → Agrees c h t → IsWithdrawn c h t u sid (inside c (after_accepted h (Hangup sid))) → Agrees c (after_accepted h (Hangup sid)) (ended (record t { sessions = u.sessions; objects = u.objects }) sid.0)
-hung c h t u sid a w =
+hung : (c : Config) (h : History) (t u : Kept) (sid : Sid) → IsCore c h t → IsWithdrawn c h t u sid (inside c (after_accepted h (Hangup sid))) → Agrees c (after_accepted h (Hangup sid)) (ended (record t { sessions = u.sessions; objects = u.objects }) sid.0)
+hung c h t u sid core w =
+    let a = core.agrees in
     let e = Hangup sid in
     let g = grows c h e in
-    gone c h (after_accepted h e) e t (changed hung_up u.sessions sid.0) u.objects t.queues t.semaphores _ (inside c (after_accepted h e)) (λ x. false) (λ i x. eqb sid.0 x.session.0) g g.named_by g.held_by g.open_count g.creation_count g.object_of (λ o. facts_made c h e (record { owner = λ m. refl; group = λ m. refl; mode = λ m. refl }) o) (λ o. refl) w.rows
+    gone c h (after_accepted h e) e t (changed hung_up u.sessions sid.0) u.objects t.queues t.semaphores _ (inside c (after_accepted h e)) (λ x. false) (λ i x. eqb sid.0 x.session.0) g g.named_by g.held_by g.open_count g.creation_count g.object_of (λ o. facts_made c h e (record { owner = λ m. refl; group = λ m. refl; mode = λ m. refl }) o) (λ o. refl) w.rows core.legal (λ v. limit_left c h e v refl)
     (sessions_ended c h u.sessions sid (λ s. cond (eqb sid.0 s) None (parked_object c h s)) g (column_by_hangup c h sid) w.sessions)
     (directory_kept h (after_accepted h e) Mq t.queues (g.bindings_of Mq) (directory_left h e (record { owner = λ m. refl; group = λ m. refl; mode = λ m. refl }) Mq) a.queues)
     (directory_kept h (after_accepted h e) Sem t.semaphores (g.bindings_of Sem) (directory_left h e (record { owner = λ m. refl; group = λ m. refl; mode = λ m. refl }) Sem) a.semaphores)
@@ -374,7 +413,7 @@ hung c h t u sid a w =
 pub agrees_ended : (c : Config) (h : History) (t : Kept) (sid : Sid) → IsCore c h t → sid.0 < length t.sessions → Agrees c (after_accepted h (Hangup sid)) (after_hangup t sid)
 agrees_ended c h t sid k lt =
     let w = withdrawn_at c h t sid (inside c (after_accepted h (Hangup sid))) k (hangup_inside c h sid) lt (parked c h sid.0) refl in
-    subst (λ v. Agrees c (after_accepted h (Hangup sid)) (ended v sid.0)) (sym w.others) (hung c h t (after_withdrawal t sid) sid k.agrees w)
+    subst (λ v. Agrees c (after_accepted h (Hangup sid)) (ended v sid.0)) (sym w.others) (hung c h t (after_withdrawal t sid) sid k w)
 
 -- whether there is a verdict, as a test says
 pub none_from : {X : Type 0} (o : Option X) (b : Bool) → is_some o ≡ not b → b ≡ true → o ≡ None
@@ -393,7 +432,7 @@ core_refused c h t e None k is some = absurd cc
 core_refused c h t e (Some rule) k is some = record { in_range = k.in_range; legal = (is, k.legal); agrees = agrees_as c h (record { event = e; rule = Some rule } ∷ h) t (same_values c h e rule) k.agrees }
 
 -- the tables of no history
-pub core_new : (c : Config) → first_bad c.limits ≡ None → IsCore c [] (record { sessions = []; queues = first_directory Mq; semaphores = first_directory Sem; objects = []; created = 0; descriptions = record { rows = []; opened = 0 } })
+pub core_new : (c : Config) → first_bad c.limits ≡ None → IsCore c [] (first_tables c.users)
 unfolding hellos user live mask creations bindings object facts directory directory_owner directory_group directory_mode opens held parked
 core_new c in_range = record {
   in_range = in_range;
@@ -404,5 +443,6 @@ core_new c in_range = record {
     semaphores = record { bound = refl; facts = refl };
     objects = record { rows = refl; count = refl };
     descriptions = record { rows = refl; opened = refl };
+    charges = charges_first c;
   };
 }

@@ -37,11 +37,12 @@ use Rattle.ipc_names.specs.Directory.{Directory, object_named}
 use Rattle.ipc_tables.specs.Kept.{Kept, directory_kept as directory_of}
 use Rattle.ipc_tables.specs.Objects.{is_number, facts_at, with_facts}
 use Rattle.ipc_tables.specs.Steps.{after_facts, after_directory}
-use Rattle.ipc_state.specs.Agrees.{Agrees, IsCore, SessionsAgree, DescriptionsAgree, Inside, inside, row_made, row_with, body_of}
+use Rattle.ipc_state.specs.Agrees.{Agrees, IsCore, SessionsAgree, DescriptionsAgree, ChargesAgree, Inside, inside, row_made, row_with}
 use Rattle.ipc_state.specs.Changes.{changing, changed_by}
 use Rattle.ipc_state.proofs.Gathered.{gathered_changed}
 use Rattle.ipc_state.proofs.Lookups.{row_other, row_own, found_is, directory_agrees, facts_alive, bound_alive}
 use Rattle.ipc_state.proofs.ObjectTables.{directory_kept, objects_kept, row_kept, alive_kept, descriptions_kept}
+use Rattle.ipc_state.proofs.ChargeTables.{charged_same, limit_left, charges_kept}
 use Rattle.ipc_state.proofs.Opens.{Ends, made_left}
 use Rattle.ipc_state.proofs.Opened.{sessions_apart, ends_inside}
 
@@ -53,14 +54,15 @@ record Changes (e : Event) : Type 0 where
   bindings' : (f : Family) (n : ℕ) (b : Family → List ℕ → Bool) (w : List Binding) → bindings_after f e b n w ≡ w
 
 changes_of : (sid : Sid) (call : Call) (target : Target) → changing call ≡ Some target → Changes (Do sid call)
-changes_of sid (Chmod mode target) meant k = record { ends = record { none = refl; apart = record { still = refl; hellos' = λ n. refl; user' = λ s n w. refl; live' = λ s n b. refl; mask' = λ s m. refl }; named' = λ o n b w. refl; opens' = λ n. refl; nonblock' = λ s d n was. refl; creations' = λ n b. refl }; named' = λ o n b w. refl; held' = λ d i n b w. refl; bindings' = λ f n b w. refl }
-changes_of sid (Chown owner group target) meant k = record { ends = record { none = refl; apart = record { still = refl; hellos' = λ n. refl; user' = λ s n w. refl; live' = λ s n b. refl; mask' = λ s m. refl }; named' = λ o n b w. refl; opens' = λ n. refl; nonblock' = λ s d n was. refl; creations' = λ n b. refl }; named' = λ o n b w. refl; held' = λ d i n b w. refl; bindings' = λ f n b w. refl }
+changes_of sid (Chmod mode target) meant k = record { ends = record { none = refl; apart = record { still = refl; hellos' = λ n. refl; user' = λ s n w. refl; live' = λ s n b. refl; mask' = λ s m. refl; limit' = λ u before. refl }; named' = λ o n b w. refl; opens' = λ n. refl; nonblock' = λ s d n was. refl; creations' = λ n b. refl }; named' = λ o n b w. refl; held' = λ d i n b w. refl; bindings' = λ f n b w. refl }
+changes_of sid (Chown owner group target) meant k = record { ends = record { none = refl; apart = record { still = refl; hellos' = λ n. refl; user' = λ s n w. refl; live' = λ s n b. refl; mask' = λ s m. refl; limit' = λ u before. refl }; named' = λ o n b w. refl; opens' = λ n. refl; nonblock' = λ s d n was. refl; creations' = λ n b. refl }; named' = λ o n b w. refl; held' = λ d i n b w. refl; bindings' = λ f n b w. refl }
 changes_of sid call meant k = absurd cc
 
 -- what it leaves of the tables
 record Left (c : Config) (h k : History) (t : Kept) : Type 0 where
   sessions : SessionsAgree c k t.sessions
   descriptions : DescriptionsAgree k t.descriptions
+  charges : ChargesAgree c k t.charges
   bindings' : (f : Family) → bindings k f ≡ bindings h f
   alive' : (o : ℕ) → alive k o ≡ alive h o
   object' : (o : ℕ) → object c k o ≡ object c h o
@@ -72,14 +74,18 @@ left_by c h t e p a =
     let g = grows c h e in
     let held' = λ (d : ℕ). g.held_by d ∙ p.held' d _ _ _ _ ∙ kept_all (held h d) in
     let opens' = g.open_count ∙ p.ends.opens' _ in
+    let alive' = λ (o : ℕ). alive_kept h (after_accepted h e) o (g.named_by o ∙ p.named' o _ _ _ ∙ kept_all _) held' opens' in
+    let object' = λ (o : ℕ). g.object_of o ∙ made_left e p.ends.none o _ _ _ _ in
+    let creations' = g.creation_count ∙ p.ends.creations' _ _ in
     record {
       sessions = sessions_apart c h e t p.ends.apart a;
       descriptions = descriptions_kept h (after_accepted h e) t.descriptions held' (λ s d. g.nonblock_of s d ∙ p.ends.nonblock' s d _ _) opens' a.descriptions;
       bindings' = λ f. g.bindings_of f ∙ p.bindings' f _ _ _;
-      alive' = λ o. alive_kept h (after_accepted h e) o (g.named_by o ∙ p.named' o _ _ _ ∙ kept_all _) held' opens';
-      object' = λ o. g.object_of o ∙ made_left e p.ends.none o _ _ _ _;
+      charges = charges_kept c h (after_accepted h e) t.charges (λ u. limit_left c h e u (p.ends.apart.limit' u h)) (λ u. charged_same c h (after_accepted h e) u alive' object' creations') a.charges;
+      alive' = alive';
+      object' = object';
       inside' = λ o. ends_inside c h e o p.ends;
-      creations' = g.creation_count ∙ p.ends.creations' _ _;
+      creations' = creations';
     }
 
 -- of a directory
@@ -90,6 +96,7 @@ in_directory c h k t Mq x l d o a = record {
   semaphores = directory_kept h k Sem t.semaphores (l.bindings' Sem) (d Sem) a.semaphores;
   objects = objects_kept c h k t.objects t.created l.alive' l.object' o l.inside' l.creations' a.objects;
   descriptions = l.descriptions;
+  charges = l.charges;
 }
 in_directory c h k t Sem x l d o a = record {
   sessions = l.sessions;
@@ -97,6 +104,7 @@ in_directory c h k t Sem x l d o a = record {
   semaphores = record { bound = a.semaphores.bound ∙ sym (l.bindings' Sem); facts = sym (d Sem) };
   objects = objects_kept c h k t.objects t.created l.alive' l.object' o l.inside' l.creations' a.objects;
   descriptions = l.descriptions;
+  charges = l.charges;
 }
 
 directory_given : (h : History) (sid : Sid) (call : Call) (f : Family) → changing call ≡ Some (Dir f) → (g : Family) → directory (after_accepted h (Do sid call)) g ≡ cond (same_family f g) (changed_by call (directory h f)) (directory h g)
@@ -155,6 +163,7 @@ in_object c h k t o x at l d was is others a = record {
     count = a.objects.count ∙ sym l.creations';
   };
   descriptions = l.descriptions;
+  charges = l.charges;
 }
 
 meant_own : (h : History) (f : Family) (name : List ℕ) (o : ℕ) → bound h f name ≡ Some o → there_is (λ n. eqb n o) (bound h f name) ≡ true

@@ -9,6 +9,7 @@ pub mod HeldQueues
 pub mod ParkedColumn
 pub mod SessionTables
 pub mod ObjectTables
+pub mod ChargeTables
 pub mod Serving
 pub mod Posting
 pub mod Opens

@@ -32,7 +32,7 @@ use Rattle.ipc_tables.specs.declared.rows.Session.{Session}
 use Rattle.ipc_tables.specs.declared.rows.ObjectRow.{ObjectRow}
 use Rattle.ipc_descr.specs.declared.row.Row.{Row}
 use Rattle.ipc_descr.specs.Descriptions.{Descriptions, is_desc, is_of, is_to, is_open}
-use Rattle.ipc_tables.specs.Objects.{is_number, row_at, facts_at, queue_in, queue_at, semaphore_in, semaphore_at}
+use Rattle.ipc_tables.specs.Objects.{bytes_taken, is_number, row_at, facts_at, queue_in, queue_at, semaphore_in, semaphore_at}
 use Rattle.ipc_tables.specs.declared.rows.Body.{Body}
 use Rattle.ipc_tables.specs.Kept.{Kept, directory_kept, parked_on_at, is_alive}
 use Rattle.ipc_terms.specs.Objects.{of_queue, as_queue, of_semaphore, as_semaphore}
@@ -202,7 +202,7 @@ row_other o i false w v q e = refl
 pub row_own : (o : ℕ) (b : Bool) (w : Option Object) (v : Option Facts) (q : Inside) (row : ObjectRow) → cond b (row_made o w v q) None ≡ Some row → is_number o row ≡ true
 row_own o true None v q row e = absurd cc
 row_own o true (Some x) None q row e = absurd cc
-row_own o true (Some x) (Some y) q row e = let same : record { number = o; object = x; facts = y; body = body_of x.kind q } ≡ row = cc in ap (λ (r : ObjectRow). eqb r.number o) (sym same) ∙ eq-eqb o o refl
+row_own o true (Some x) (Some y) q row e = let same : record { number = o; object = x; facts = y; bytes = bytes_taken x.kind; body = body_of x.kind q } ≡ row = cc in ap (λ (r : ObjectRow). eqb r.number o) (sym same) ∙ eq-eqb o o refl
 row_own o false w v q row e = absurd cc
 
 pub row_at_is : (c : Config) (h : History) (objects : List ObjectRow) (created o : ℕ) → ObjectsAgree c h objects created → row_at objects o ≡ row_with c h (inside c h) o

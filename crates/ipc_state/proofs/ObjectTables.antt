@@ -21,7 +21,7 @@ use Rattle.ipc_tables.specs.declared.rows.ObjectRow.{ObjectRow}
 use Rattle.ipc_descr.specs.declared.row.Row.{Row}
 use Rattle.ipc_terms.specs.Lists.{changed_first}
 use Rattle.ipc_descr.specs.Descriptions.{Descriptions, is_desc, with_nonblock}
-use Rattle.ipc_tables.specs.Objects.{is_number, new_body, new_row}
+use Rattle.ipc_tables.specs.Objects.{is_number, bytes_taken, new_body, new_row}
 use Rattle.ipc_tables.specs.declared.rows.Body.{Body}
 use Rattle.ipc_tables.specs.Kept.{is_alive}
 use Rattle.ipc_tables.specs.Steps.{living}
@@ -75,7 +75,7 @@ none_if false = refl
 row_left : (o : ℕ) (keep : ObjectRow → Bool) (b d : Bool) (w : Option Object) (v : Option Facts) (q : Inside) → ((row : ObjectRow) → row.number ≡ o → keep row ≡ d) → (d ≡ true → b ≡ true) → passing keep (cond b (row_made o w v q) None) ≡ cond d (row_made o w v q) None
 row_left o keep true d None v q all less = none_if d
 row_left o keep true d (Some x) None q all less = none_if d
-row_left o keep true d (Some x) (Some y) q all less = ap (λ b. cond b (row_made o (Some x) (Some y) q) None) (all (record { number = o; object = x; facts = y; body = body_of x.kind q }) refl)
+row_left o keep true d (Some x) (Some y) q all less = ap (λ b. cond b (row_made o (Some x) (Some y) q) None) (all (record { number = o; object = x; facts = y; bytes = bytes_taken x.kind; body = body_of x.kind q }) refl)
 row_left o keep false true w v q all less = absurd (let k = less refl in cc)
 row_left o keep false false w v q all less = refl
 
@@ -97,7 +97,7 @@ objects_created c h k xs created x y n l o f m lives made made' new a = record {
   rows = sym (
       gathered_more (row_with c k (inside c k)) (row_with c h (inside c h)) (creations k) (creations h) n (λ i lt. row_kept i (alive k i) (alive h i) (object c k i) (object c h i) (facts c k i) (facts c h i) (inside c k i) (inside c h i) (l i lt) (o i lt) (f i lt) (m i lt))
       ∙ ap (λ w. gathered_below (row_with c h (inside c h)) (creations h) ++ listed w) (row_kept (creations h) (alive k (creations h)) true (object c k (creations h)) (Some x) (facts c k (creations h)) (Some y) (inside c k (creations h)) (inside c k (creations h)) lives made made' refl)
-      ∙ ap (λ b. gathered_below (row_with c h (inside c h)) (creations h) ++ record { number = creations h; object = x; facts = y; body = b } ∷ []) new
+      ∙ ap (λ b. gathered_below (row_with c h (inside c h)) (creations h) ++ record { number = creations h; object = x; facts = y; bytes = bytes_taken x.kind; body = b } ∷ []) new
       ∙ ap (λ i. gathered_below (row_with c h (inside c h)) (creations h) ++ new_row i x y ∷ []) (sym a.count)
       ∙ ap (λ l. l ++ new_row created x y ∷ []) (sym a.rows));
   count = ap (λ i. i + 1) a.count ∙ sym n;
@@ -110,7 +110,7 @@ with_inside change row = record row { body = change row.body }
 row_changed : (o : ℕ) (change : Body → Body) (b : Bool) (w : Option Object) (v : Option Facts) (m n : Inside) → ((x : Object) → w ≡ Some x → body_of x.kind n ≡ change (body_of x.kind m)) → cond b (row_made o w v n) None ≡ option_map (with_inside change) (cond b (row_made o w v m) None)
 row_changed o change true None v m n e = refl
 row_changed o change true (Some x) None m n e = refl
-row_changed o change true (Some x) (Some y) m n e = ap (λ b. Some (record { number = o; object = x; facts = y; body = b })) (e x refl)
+row_changed o change true (Some x) (Some y) m n e = ap (λ b. Some (record { number = o; object = x; facts = y; bytes = bytes_taken x.kind; body = b })) (e x refl)
 row_changed o change false w v m n e = refl
 
 pub rows_changed : (c : Config) (h k : History) (q : ℕ → Inside) (xs : List ObjectRow) (created o : ℕ) (change : Body → Body) → ((i : ℕ) → alive k i ≡ alive h i) → ((i : ℕ) → object c k i ≡ object c h i) → ((i : ℕ) → facts c k i ≡ facts c h i) → ((i : ℕ) → (i ≡ o → ⊥) → q i ≡ inside c h i) → ((x : Object) → object c h o ≡ Some x → body_of x.kind (q o) ≡ change (body_of x.kind (inside c h o))) → creations k ≡ creations h → ObjectsAgree c h xs created → changed_first (is_number o) (with_inside change) xs ≡ gathered_below (row_with c k q) (creations k)

@@ -33,7 +33,8 @@ use Rattle.ipc_descr.specs.Descriptions.{is_of, is_desc}
 use Rattle.ipc_tables.specs.Kept.{Kept}
 use Rattle.ipc_tables.specs.Steps.{with_binding, without_binding, with_object, after_found, after_created, after_close, after_unlink}
 use Rattle.ipc_tables.specs.declared.tables.Grant.{Grant}
-use Rattle.ipc_state.specs.Agrees.{Agrees, SessionsAgree, DirectoryAgrees, inside}
+use Rattle.ipc_state.specs.Agrees.{Agrees, IsCore, SessionsAgree, DirectoryAgrees, inside}
+use Rattle.ipc_state.proofs.ChargeTables.{charged_same, limit_left, charges_kept, charges_created}
 use Rattle.ipc_state.proofs.Lookups.{bound_alive}
 use Rattle.ipc_state.proofs.SessionTables.{sessions_kept}
 use Rattle.ipc_policy.proofs.Facts.{GivesNothing, facts_made, directory_left}
@@ -96,6 +97,7 @@ agrees_found c h t e asked o p a is =
           (λ i. others_inside c h e i p.apart.still (made_open e asked p.is i _ _ _ _ ∙ made_none _ _ _ _ old))
           (g.creation_count ∙ p.creations' _ _ ∙ rw old refl) a.objects;
       descriptions = descriptions_opened c h _ t.descriptions e asked o g p a.descriptions (found_by h asked o is);
+      charges = charges_kept c h _ t.charges (λ u. limit_left c h e u (p.apart.limit' u h)) (λ u. charged_same c h _ u (λ i. found_alive c h e asked o i p is) (λ i. g.object_of i ∙ made_open e asked p.is i _ _ _ _ ∙ made_none _ _ _ _ old) (g.creation_count ∙ p.creations' _ _ ∙ rw old refl)) a.charges;
     }
 
 -- an accepted open that creates
@@ -165,6 +167,12 @@ agrees_created c h t e asked who p a new none is =
           (semaphore_by_others h e n p.apart.still ∙ ap (λ v. with_first v (semaphore h n)) (first n ∙ created_at n _ _) ∙ ap (with_first (option_or (value_asked asked.kind) None)) (not_created_still h n (omega arith))))
           a.objects;
       descriptions = descriptions_opened c h k t.descriptions e asked t.created g p a.descriptions (created_opened h asked t.created new none a.objects.count);
+      charges = charges_created c h k (made_by c asked who) t.charges (λ u. limit_left c h e u (p.apart.limit' u h)) (g.creation_count ∙ p.creations' n (is_bound h) ∙ rw new refl)
+          (λ o lt. created_other c h e asked o p new none lt)
+          (λ o lt. g.object_of o ∙ made_open e asked p.is o n (is_bound h) _ _ ∙ new_is _ _ _ _ new ∙ other_at n o _ _ lt)
+          (created_alive c h e asked p new none)
+          (g.object_of n ∙ made_open e asked p.is n n (is_bound h) _ _ ∙ new_is _ _ _ _ new ∙ created_at n _ _ ∙ made_who (made_by c asked) _ who _ is)
+          a.charges;
     }))
 
 -- an event that opens nothing leaves what stands in the objects
@@ -172,8 +180,9 @@ pub ends_inside : (c : Config) (h : History) (e : Event) (o : ℕ) → Ends e �
 ends_inside c h e o p = others_inside c h e o p.apart.still (made_left e p.none o _ _ _ _)
 
 -- an accepted close
-pub agrees_closed : (c : Config) (h : History) (t : Kept) (e : Event) (sid : Sid) (desc : Desc) → Closes e sid desc → Agrees c h t → Agrees c (after_accepted h e) (after_close t sid.0 desc.0)
-agrees_closed c h t e sid desc p a =
+pub agrees_closed : (c : Config) (h : History) (t : Kept) (e : Event) (sid : Sid) (desc : Desc) → Closes e sid desc → IsCore c h t → Agrees c (after_accepted h e) (after_close t sid.0 desc.0)
+agrees_closed c h t e sid desc p core =
+    let a = core.agrees in
     let g = grows c h e in
     gone c h (after_accepted h e) e t t.sessions t.objects t.queues t.semaphores _ (inside c h) (λ asked. unlinks asked.family asked.name e) (λ i x. eqb sid.0 x.session.0 && eqb desc.0 i) g
     (λ o. g.named_by o ∙ p.ends.named' o _ _ _)
@@ -184,6 +193,8 @@ agrees_closed c h t e sid desc p a =
     (λ o. facts_made c h e p.gives o ∙ made_left e p.ends.none o _ _ _ _)
     (λ o. ends_inside c h e o p.ends)
     a.objects.rows
+    core.legal
+    (λ u. limit_left c h e u (p.ends.apart.limit' u h))
     (sessions_apart c h e t p.ends.apart a)
     (directory_same h e Mq t.queues p.gives (g.bindings_of Mq ∙ p.bindings' Mq _ _ _) a.queues)
     (directory_same h e Sem t.semaphores p.gives (g.bindings_of Sem ∙ p.bindings' Sem _ _ _) a.semaphores)
@@ -206,8 +217,9 @@ left_of Mq name t = refl
 left_of Sem name t = refl
 
 -- an accepted unlink
-pub agrees_unlinked : (c : Config) (h : History) (t : Kept) (e : Event) (what : Naming) → Unlinks e what → Agrees c h t → Agrees c (after_accepted h e) (after_unlink t what.family what.name)
-agrees_unlinked c h t e what p a =
+pub agrees_unlinked : (c : Config) (h : History) (t : Kept) (e : Event) (what : Naming) → Unlinks e what → IsCore c h t → Agrees c (after_accepted h e) (after_unlink t what.family what.name)
+agrees_unlinked c h t e what p core =
+    let a = core.agrees in
     let g = grows c h e in
     let names = names_unbound c h t e what.family what.name p.gives a (λ f. g.bindings_of f ∙ p.bindings' f _ _ _) in
     let held' = λ (i : ℕ). g.held_by i ∙ p.held' i _ _ _ _ in
@@ -221,6 +233,8 @@ agrees_unlinked c h t e what p a =
     (λ o. facts_made c h e p.gives o ∙ made_left e p.ends.none o _ _ _ _)
     (λ o. ends_inside c h e o p.ends)
     a.objects.rows
+    core.legal
+    (λ u. limit_left c h e u (p.ends.apart.limit' u h))
     (sessions_apart c h e t p.ends.apart a)
     names.0
     names.1

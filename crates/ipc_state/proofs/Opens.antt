@@ -22,6 +22,7 @@ use Rattle.ipc_policy.specs.Names.{Opening, Naming, opening, unlinking, unlinks,
 use Rattle.ipc_policy.specs.Objects.{kind_of}
 use Rattle.ipc_policy.specs.Descriptions.{opens, opened, opened_by, held_as, held, is_nonblock}
 use Rattle.ipc_policy.specs.Life.{named, gives_object, alive}
+use Rattle.ipc_policy.specs.Charges.{sets_limit}
 use Rattle.ipc_policy.specs.Queues.{Queue, empty_queue}
 use Rattle.ipc_policy.specs.Semaphores.{Semaphore, no_semaphore, with_first}
 use Rattle.ipc_policy.specs.Grow.{Grows, is_new, hellos_after, user_after, live_after, mask_after, nonblock_after, named_after, held_after, opens_after, bindings_after, creations_after, made_after}
@@ -33,13 +34,14 @@ use Rattle.ipc_state.specs.Agrees.{DescriptionsAgree, row_held, body_of}
 use Rattle.ipc_policy.proofs.Facts.{GivesNothing}
 use Rattle.ipc_state.proofs.ObjectTables.{and_off}
 
--- an event that says nothing of sessions and of what is parked
+-- an event that says nothing of sessions, of what is parked, and of limits
 pub record Apart (e : Event) : Type 0 where
   pub still : moves e ≡ false
   pub hellos' : (n : ℕ) → hellos_after e n ≡ n
   pub user' : (s n : ℕ) (w : Option Uid) → user_after s e n w ≡ w
   pub live' : (s n : ℕ) (b : Bool) → live_after s e n b ≡ b
   pub mask' : (s m : ℕ) → mask_after s e m ≡ m
+  pub limit' : (u : Uid) (before : History) → sets_limit u e before ≡ None
 
 -- an open: what it says of each value
 pub record Opens (e : Event) (asked : Opening) : Type 0 where
@@ -57,10 +59,10 @@ pub record Opens (e : Event) (asked : Opening) : Type 0 where
 pub opens_of : (e : Event) (asked : Opening) → opening e ≡ Some asked → Opens e asked
 opens_of (Do sid (MqOpen given)) asked k =
     let same : queue_opening sid given ≡ asked = cc in
-    subst (Opens (Do sid (MqOpen given))) same (record { is = refl; gives = record { owner = λ m. refl; group = λ m. refl; mode = λ m. refl }; apart = record { still = refl; hellos' = λ n. refl; user' = λ s n w. refl; live' = λ s n b. refl; mask' = λ s m. refl }; family' = λ c. refl; named' = λ o n b w. refl; held' = λ d i n b w. refl; opens' = λ n. refl; nonblock' = λ s d n was. refl; bindings' = λ f n b w. refl; creations' = λ n b. refl })
+    subst (Opens (Do sid (MqOpen given))) same (record { is = refl; gives = record { owner = λ m. refl; group = λ m. refl; mode = λ m. refl }; apart = record { still = refl; hellos' = λ n. refl; user' = λ s n w. refl; live' = λ s n b. refl; mask' = λ s m. refl; limit' = λ u before. refl }; family' = λ c. refl; named' = λ o n b w. refl; held' = λ d i n b w. refl; opens' = λ n. refl; nonblock' = λ s d n was. refl; bindings' = λ f n b w. refl; creations' = λ n b. refl })
 opens_of (Do sid (SemOpen given)) asked k =
     let same : semaphore_opening sid given ≡ asked = cc in
-    subst (Opens (Do sid (SemOpen given))) same (record { is = refl; gives = record { owner = λ m. refl; group = λ m. refl; mode = λ m. refl }; apart = record { still = refl; hellos' = λ n. refl; user' = λ s n w. refl; live' = λ s n b. refl; mask' = λ s m. refl }; family' = λ c. refl; named' = λ o n b w. refl; held' = λ d i n b w. refl; opens' = λ n. refl; nonblock' = λ s d n was. refl; bindings' = λ f n b w. refl; creations' = λ n b. refl })
+    subst (Opens (Do sid (SemOpen given))) same (record { is = refl; gives = record { owner = λ m. refl; group = λ m. refl; mode = λ m. refl }; apart = record { still = refl; hellos' = λ n. refl; user' = λ s n w. refl; live' = λ s n b. refl; mask' = λ s m. refl; limit' = λ u before. refl }; family' = λ c. refl; named' = λ o n b w. refl; held' = λ d i n b w. refl; opens' = λ n. refl; nonblock' = λ s d n was. refl; bindings' = λ f n b w. refl; creations' = λ n b. refl })
 opens_of (Do sid call) asked k = absurd cc
 opens_of (Hello found) asked k = absurd cc
 opens_of (Hangup sid) asked k = absurd cc
@@ -84,10 +86,10 @@ pub record Unlinks (e : Event) (what : Naming) : Type 0 where
 pub unlinks_of : (e : Event) (what : Naming) → unlinking e ≡ Some what → Unlinks e what
 unlinks_of (Do sid (MqUnlink name)) what k =
     let same : record { session = sid; family = Mq; name = name } ≡ what = cc in
-    subst (Unlinks (Do sid (MqUnlink name))) same (record { gives = record { owner = λ m. refl; group = λ m. refl; mode = λ m. refl }; ends = record { none = refl; apart = record { still = refl; hellos' = λ n. refl; user' = λ s n w. refl; live' = λ s n b. refl; mask' = λ s m. refl }; named' = λ o n b w. refl; opens' = λ n. refl; nonblock' = λ s d n was. refl; creations' = λ n b. refl }; held' = λ d i n b w. refl; bindings' = λ f n b w. refl })
+    subst (Unlinks (Do sid (MqUnlink name))) same (record { gives = record { owner = λ m. refl; group = λ m. refl; mode = λ m. refl }; ends = record { none = refl; apart = record { still = refl; hellos' = λ n. refl; user' = λ s n w. refl; live' = λ s n b. refl; mask' = λ s m. refl; limit' = λ u before. refl }; named' = λ o n b w. refl; opens' = λ n. refl; nonblock' = λ s d n was. refl; creations' = λ n b. refl }; held' = λ d i n b w. refl; bindings' = λ f n b w. refl })
 unlinks_of (Do sid (SemUnlink name)) what k =
     let same : record { session = sid; family = Sem; name = name } ≡ what = cc in
-    subst (Unlinks (Do sid (SemUnlink name))) same (record { gives = record { owner = λ m. refl; group = λ m. refl; mode = λ m. refl }; ends = record { none = refl; apart = record { still = refl; hellos' = λ n. refl; user' = λ s n w. refl; live' = λ s n b. refl; mask' = λ s m. refl }; named' = λ o n b w. refl; opens' = λ n. refl; nonblock' = λ s d n was. refl; creations' = λ n b. refl }; held' = λ d i n b w. refl; bindings' = λ f n b w. refl })
+    subst (Unlinks (Do sid (SemUnlink name))) same (record { gives = record { owner = λ m. refl; group = λ m. refl; mode = λ m. refl }; ends = record { none = refl; apart = record { still = refl; hellos' = λ n. refl; user' = λ s n w. refl; live' = λ s n b. refl; mask' = λ s m. refl; limit' = λ u before. refl }; named' = λ o n b w. refl; opens' = λ n. refl; nonblock' = λ s d n was. refl; creations' = λ n b. refl }; held' = λ d i n b w. refl; bindings' = λ f n b w. refl })
 unlinks_of (Do sid call) what k = absurd cc
 unlinks_of (Hello found) what k = absurd cc
 unlinks_of (Hangup sid) what k = absurd cc
@@ -101,10 +103,10 @@ pub record Closes (e : Event) (sid : Sid) (desc : Desc) : Type 0 where
   pub unlinks' : (f : Family) (name : List ℕ) → unlinks f name e ≡ false
 
 pub queue_closes : (sid : Sid) (desc : Desc) → Closes (Do sid (MqClose desc)) sid desc
-queue_closes sid desc = record { gives = record { owner = λ m. refl; group = λ m. refl; mode = λ m. refl }; ends = record { none = refl; apart = record { still = refl; hellos' = λ n. refl; user' = λ s n w. refl; live' = λ s n b. refl; mask' = λ s m. refl }; named' = λ o n b w. refl; opens' = λ n. refl; nonblock' = λ s d n was. refl; creations' = λ n b. refl }; held' = λ d i n b w. refl; bindings' = λ f n b w. refl; unlinks' = λ f name. refl }
+queue_closes sid desc = record { gives = record { owner = λ m. refl; group = λ m. refl; mode = λ m. refl }; ends = record { none = refl; apart = record { still = refl; hellos' = λ n. refl; user' = λ s n w. refl; live' = λ s n b. refl; mask' = λ s m. refl; limit' = λ u before. refl }; named' = λ o n b w. refl; opens' = λ n. refl; nonblock' = λ s d n was. refl; creations' = λ n b. refl }; held' = λ d i n b w. refl; bindings' = λ f n b w. refl; unlinks' = λ f name. refl }
 
 pub semaphore_closes : (sid : Sid) (desc : Desc) → Closes (Do sid (SemClose desc)) sid desc
-semaphore_closes sid desc = record { gives = record { owner = λ m. refl; group = λ m. refl; mode = λ m. refl }; ends = record { none = refl; apart = record { still = refl; hellos' = λ n. refl; user' = λ s n w. refl; live' = λ s n b. refl; mask' = λ s m. refl }; named' = λ o n b w. refl; opens' = λ n. refl; nonblock' = λ s d n was. refl; creations' = λ n b. refl }; held' = λ d i n b w. refl; bindings' = λ f n b w. refl; unlinks' = λ f name. refl }
+semaphore_closes sid desc = record { gives = record { owner = λ m. refl; group = λ m. refl; mode = λ m. refl }; ends = record { none = refl; apart = record { still = refl; hellos' = λ n. refl; user' = λ s n w. refl; live' = λ s n b. refl; mask' = λ s m. refl; limit' = λ u before. refl }; named' = λ o n b w. refl; opens' = λ n. refl; nonblock' = λ s d n was. refl; creations' = λ n b. refl }; held' = λ d i n b w. refl; bindings' = λ f n b w. refl; unlinks' = λ f name. refl }
 
 -- what an open makes, and what an event that opens nothing leaves
 pub made_open : {A : Type 0} (e : Event) (asked : Opening) → opening e ≡ Some asked → (o n : ℕ) (b : Family → List ℕ → Bool) (make : Opening → Option A) (w : Option A) → made_after o e b n make w ≡ cond (is_new asked b && eqb n o) (option_or (make asked) w) w

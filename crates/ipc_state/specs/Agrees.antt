@@ -3,6 +3,7 @@ use Rattle.std.specs.Prelude.{◌≡◌, Bool, ℕ, List, length, map, slice_get
 use Rattle.std.specs.Option.{option_map}
 use Rattle.ipc_terms.specs.declared.facts.Facts.{Facts}
 use Rattle.ipc_terms.specs.declared.ids.Sid.{Sid}
+use Rattle.ipc_terms.specs.declared.ids.Uid.{Uid}
 use Rattle.ipc_terms.specs.declared.ids.Family.{Family}
 use Rattle.ipc_terms.specs.declared.ids.Family.TheVariants.{Mq, Sem}
 use Rattle.ipc_terms.specs.declared.call.Attributes.{Attributes}
@@ -13,6 +14,8 @@ use Rattle.ipc_terms.specs.declared.object.Object.{Object}
 use Rattle.ipc_names.specs.Directory.{Directory}
 use Rattle.ipc_descr.specs.declared.row.Row.{Row}
 use Rattle.ipc_descr.specs.Descriptions.{Descriptions}
+use Rattle.ipc_descr.specs.declared.charges.Charge.{Charge}
+use Rattle.ipc_descr.specs.Charges.{charge_of}
 use Rattle.ipc_queue.specs.declared.queue.Ticket.{Ticket}
 use Rattle.ipc_queue.specs.declared.queue.ParkedSend.{ParkedSend}
 use Rattle.ipc_queue.specs.Tickets.{Tickets}
@@ -21,6 +24,7 @@ use Rattle.ipc_tables.specs.declared.rows.Session.{Session}
 use Rattle.ipc_tables.specs.declared.rows.Body.{Body}
 use Rattle.ipc_tables.specs.declared.rows.Body.TheVariants.{Queue as QueueBody, Semaphore as SemaphoreBody}
 use Rattle.ipc_tables.specs.declared.rows.ObjectRow.{ObjectRow}
+use Rattle.ipc_tables.specs.Objects.{bytes_taken}
 use Rattle.ipc_tables.specs.Kept.{Kept, live_at, parked_on_at}
 use Rattle.ipc_policy.specs.declared.config.Config.{Config}
 use Rattle.ipc_policy.specs.declared.config.Held.{Held}
@@ -33,6 +37,7 @@ use Rattle.ipc_policy.specs.Queues.{Send, Wait, Queue, attributes, queue}
 use Rattle.ipc_policy.specs.Semaphores.{Semaphore, semaphore}
 use Rattle.ipc_policy.specs.Parking.{parked}
 use Rattle.ipc_policy.specs.Life.{bindings, alive}
+use Rattle.ipc_policy.specs.Charges.{charged, limit}
 use Rattle.ipc_policy.specs.Verdict.{Legal}
 use Rattle.ipc_state.specs.Ranges.{first_bad}
 
@@ -93,7 +98,7 @@ body_of (SemaphoreKind value) x = SemaphoreBody (counter_of x.semaphore)
 
 -- the row of object o
 abbrev pub row_made : ℕ → Option Object → Option Facts → Inside → Option ObjectRow
-row_made o (Some x) (Some at) q = Some (record { number = o; object = x; facts = at; body = body_of x.kind q })
+row_made o (Some x) (Some at) q = Some (record { number = o; object = x; facts = at; bytes = bytes_taken x.kind; body = body_of x.kind q })
 row_made o _ _ q = None
 
 -- the row of object o with what stands in it, while it is alive
@@ -118,12 +123,21 @@ pub record DescriptionsAgree (h : History) (t : Descriptions) : Type 0 where
   pub rows : t.rows ≡ gathered_below (λ d. option_map (row_held (is_nonblock h) d) (held h d)) (opens h)
   pub opened : t.opened ≡ opens h
 
+-- the charge of user u, if it is a user
+abbrev pub charge_meant : Config → History → Uid → Option Charge
+charge_meant c h u = option_map (λ most. record { uid = u; limit = most; used = charged c h u }) (limit c h u)
+
+-- each user is charged with what the queues take that the user created, and has the limit that was set last
+abbrev pub ChargesAgree : Config → History → List Charge → Type 0
+ChargesAgree c h charges = (u : Uid) → charge_of charges u.0 ≡ charge_meant c h u
+
 pub record Agrees (c : Config) (h : History) (t : Kept) : Type 0 where
   pub sessions : SessionsAgree c h t.sessions
   pub queues : DirectoryAgrees h Mq t.queues
   pub semaphores : DirectoryAgrees h Sem t.semaphores
   pub objects : ObjectsAgree c h t.objects t.created
   pub descriptions : DescriptionsAgree h t.descriptions
+  pub charges : ChargesAgree c h t.charges
 
 -- the limits are in their ranges, every verdict in the history is the policy's, and the tables are the history's
 pub record IsCore (c : Config) (h : History) (t : Kept) : Type 0 where

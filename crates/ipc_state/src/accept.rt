@@ -2,7 +2,7 @@
 
 ghost use Rattle.std.specs.Prelude.{◌≡◌, false, ◌+◌, ◌^◌, ◌<◌, ◌∷◌, length, None, IsSome, OnOk, OnErr};
 ghost use Rattle.ipc_terms.specs.declared.record.Event.TheVariants.{Hello, Do, Hangup};
-ghost use Rattle.ipc_terms.specs.declared.call.Call.TheVariants.{Umask, MqSend, MqReceive, MqSetattr, SemPost, SemWait, SemTryWait, Interrupt};
+ghost use Rattle.ipc_terms.specs.declared.call.Call.TheVariants.{Umask, MqSend, MqReceive, MqSetattr, SemPost, SemWait, SemTryWait, SetLimit, Interrupt};
 ghost use Rattle.ipc_policy.specs.History.{after_accepted};
 ghost use Rattle.ipc_policy.specs.Names.{opening, nonblock_asked};
 ghost use Rattle.ipc_policy.specs.Objects.{made_by, first_facts};
@@ -13,11 +13,10 @@ ghost use Rattle.ipc_state.specs.Memory.{takes_memory};
 use crate::changing::accept_change;
 use crate::looking::object_number;
 use ipc_access::Cred;
-use ipc_policy::{Config, Opening, opening_of};
+use ipc_policy::{Config, Opening, kind_of, opening_of};
 use ipc_tables::{Grant, Tables};
 use ipc_terms::{
-    Asked, Attributes, Bytes, Call, Desc, Event, Facts, Family, Kind, Mode, NoMemory, Object, Rule,
-    Sid, Uid,
+    Asked, Bytes, Call, Desc, Event, Facts, Family, Mode, NoMemory, Object, Rule, Sid, Uid,
 };
 use ipc_trail::Trail;
 use std::alloc::Global;
@@ -105,6 +104,7 @@ fn accept_in_place(tables: &mut Tables, config: &Config, past: &Trail, sid: Sid,
         Call::Chmod { target, .. } => accept_change(tables, config, past, sid, call, target),
         Call::Chown { target, .. } => accept_change(tables, config, past, sid, call, target),
         Call::MqGetattr(_) => {}
+        Call::SetLimit { uid, bytes } => accept_limit(tables, config, past, sid, *uid, *bytes),
         Call::SemGetvalue(_) => {}
         Call::ListNames { .. } => {}
         Call::StatName(_) => {}
@@ -199,6 +199,14 @@ fn accept_setattr(
     ensures { Agrees config.now (after_accepted past.now.history (Do sid (MqSetattr desc nonblock))) tables.new }
 {
     tables.set_nonblock(sid, desc, nonblock);
+}
+
+fn accept_limit(tables: &mut Tables, config: &Config, past: &Trail, sid: Sid, uid: Uid, bytes: u64)
+    requires core { IsCore config.now past.now.history tables.old }
+    requires accepted { verdict config.now past.now.history (Do sid (SetLimit uid bytes)) ≡ None }
+    ensures { Agrees config.now (after_accepted past.now.history (Do sid (SetLimit uid bytes))) tables.new }
+{
+    tables.set_limit(uid, bytes);
 }
 
 fn accept_post(tables: &mut Tables, config: &Config, past: &Trail, sid: Sid, desc: Desc)
@@ -311,17 +319,9 @@ fn grant_of(asked: &Opening) -> Grant
 fn new_object(config: &Config, asked: &Opening, who: &Cred) -> Object
     ensures { result ≡ made_by config.now asked.now who.now }
 {
-    let kind = match asked.kind {
-        Asked::Queue(Some(given)) => Kind::Queue(given),
-        Asked::Queue(None) => Kind::Queue(Attributes {
-            maxmsg: config.limits.msg_max.min(10),
-            msgsize: config.limits.msgsize_max.min(8192),
-        }),
-        Asked::Semaphore(value) => Kind::Semaphore(value),
-    };
     Object {
         creator: who.uid,
-        kind,
+        kind: kind_of(config, asked.kind),
     }
 }
 

@@ -11,6 +11,7 @@ ghost use Rattle.ipc_policy.specs.Descriptions.{opens, holds, held_count, is_non
 ghost use Rattle.ipc_policy.specs.Life.{names};
 ghost use Rattle.ipc_policy.specs.Queues.{next};
 ghost use Rattle.ipc_policy.specs.Parking.{parked};
+ghost use Rattle.ipc_policy.specs.Charges.{queues_alive, limit, charged};
 ghost use Rattle.ipc_policy.specs.Rules.{there_is, object_held, is_full, is_empty, is_zero, is_greatest};
 ghost use Rattle.ipc_policy.specs.Verdict.{verdict, Legal};
 ghost use Rattle.ipc_state.specs.Ranges.{first_bad};
@@ -27,7 +28,7 @@ use ipc_sem::Sem;
 use ipc_tables::Tables;
 use ipc_terms::{
     Desc, Event, Facts, Family, Mode, Name, Names, NoMemory, Object, Record, Rule, SEM_VALUE_MAX,
-    Sid, Target,
+    Sid, Target, Uid,
 };
 use ipc_trail::Trail;
 use std::alloc::Global;
@@ -55,16 +56,17 @@ impl Model for State {
 }
 
 impl State {
-    /// A state in which nothing has happened. Takes no memory.
-    pub fn new(alloc: Global, config: Config) -> Self
+    /// A state in which nothing has happened. An `Err` drops the configuration.
+    pub fn new(alloc: Global, config: Config) -> Result<State, NoMemory>
         requires { first_bad config.limits ≡ None }
-        ensures { result ≡ record { config = config; history = [] } }
+        ensures { IfOk result (λ state. state ≡ record { config = config; history = [] }) }
     {
-        State {
+        let tables = Tables::new(alloc, &config.users)?;
+        Ok(State {
             config,
             trail: Trail::new(alloc),
-            tables: Tables::new(alloc),
-        }
+            tables,
+        })
     }
 
     /// The trail is legal. Does nothing; a fact of every state.
@@ -321,6 +323,29 @@ impl State {
             &self.tables,
             looking::object_number(&self.tables, sid, desc),
         )
+    }
+
+    /// How many queues are alive.
+    pub fn queue_count(&self) -> usize
+        ensures { result ≡ queues_alive self.now.config self.now.history }
+    {
+        self.tables.queue_count()
+    }
+
+    /// How many bytes the queues of the user may take, if it is a user of the file
+    /// (`getrlimit(2)`, `RLIMIT_MSGQUEUE`).
+    pub fn limit(&self, uid: Uid) -> Option<u64>
+        ensures { result ≡ limit self.now.config self.now.history uid }
+    {
+        self.config.users.cred(uid)?;
+        Some(self.tables.charges().limit(uid))
+    }
+
+    /// How many bytes the queues that the user created take, full or empty.
+    pub fn charged(&self, uid: Uid) -> u64
+        ensures { result ≡ charged self.now.config self.now.history uid }
+    {
+        self.tables.charges().used(uid)
     }
 
     /// Records the event with its verdict, and does what is accepted. An `Err` changes nothing, and

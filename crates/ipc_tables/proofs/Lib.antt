@@ -1,1 +1,2 @@
 pub mod CallTables
+pub mod CoveredCharges

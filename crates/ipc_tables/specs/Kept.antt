@@ -4,11 +4,12 @@ use Rattle.ipc_terms.specs.declared.ids.Family.{Family}
 use Rattle.ipc_terms.specs.declared.ids.Family.TheVariants.{Mq, Sem}
 use Rattle.ipc_names.specs.Directory.{Directory, names_object}
 use Rattle.ipc_descr.specs.declared.row.Row.{Row}
+use Rattle.ipc_descr.specs.declared.charges.Charge.{Charge}
 use Rattle.ipc_descr.specs.Descriptions.{Descriptions, is_open}
 use Rattle.ipc_tables.specs.declared.rows.Session.{Session}
 use Rattle.ipc_tables.specs.declared.rows.ObjectRow.{ObjectRow}
 
--- all that is kept: sessions stand at their numbers, objects in the order of theirs, while they are alive
+-- all that is kept: sessions stand at their numbers, objects in the order of theirs, while they are alive, and users' charges in the order of the user file
 pub record Kept : Type 0 where
   pub sessions : List Session
   pub queues : Directory
@@ -16,6 +17,7 @@ pub record Kept : Type 0 where
   pub objects : List ObjectRow
   pub created : ℕ
   pub descriptions : Descriptions
+  pub charges : List Charge
 
 -- whether there is a session, and it is live
 abbrev pub is_live_row : Option Session → Bool
@@ -38,3 +40,7 @@ directory_kept Sem t = t.semaphores
 -- a name is bound to object o, or a description gives it
 abbrev pub is_alive : Directory → Directory → List Row → ℕ → Bool
 is_alive queues semaphores rows o = names_object queues.bindings o || names_object semaphores.bindings o || is_open rows o
+
+-- the same of an object in its table
+abbrev pub is_kept : Directory → Directory → List Row → ObjectRow → Bool
+is_kept queues semaphores rows row = is_alive queues semaphores rows row.number

@@ -1,3 +1,4 @@
 pub mod Objects
 pub mod Kept
+pub mod Charging
 pub mod Steps

@@ -1,5 +1,5 @@
 -- Objects in their table, and what is looked up there.
-use Rattle.std.specs.Prelude.{Bool, ℕ, ◌<◌, ◌≤◌, ◌==◌, List, [], find, Option, Some, None, option_and_then}
+use Rattle.std.specs.Prelude.{Bool, ℕ, ◌<◌, ◌≤◌, ◌==◌, List, [], find, Option, Some, None, is_some, option_and_then}
 use Rattle.std.specs.Option.{option_map}
 use Rattle.ipc_terms.specs.declared.facts.Facts.{Facts}
 use Rattle.ipc_terms.specs.declared.object.Kind.{Kind}
@@ -7,15 +7,16 @@ use Rattle.ipc_terms.specs.declared.object.Kind.TheVariants.{Queue as QueueKind,
 use Rattle.ipc_terms.specs.declared.object.TheConstants.{SEM_VALUE_MAX}
 use Rattle.ipc_terms.specs.declared.object.Object.{Object}
 use Rattle.ipc_terms.specs.declared.ids.Sid.{Sid}
+use Rattle.ipc_descr.specs.Charges.{bytes_of}
 use Rattle.ipc_queue.specs.Tickets.{Tickets, withdrawn as withdrawn_call}
 use Rattle.ipc_sem.specs.Counters.{Counter, withdrawn as withdrawn_wait}
 use Rattle.ipc_tables.specs.declared.rows.Body.{Body}
 use Rattle.ipc_tables.specs.declared.rows.Body.TheVariants.{Queue as QueueBody, Semaphore as SemaphoreBody}
 use Rattle.ipc_tables.specs.declared.rows.ObjectRow.{ObjectRow}
 
--- a queue has room for a message of a byte, and a semaphore's first value is in its range
+-- a queue has room for a message of a byte and for no more than the greatest has, and a semaphore's first value is in its range
 abbrev pub HasRoom : Kind → Type 0
-HasRoom (QueueKind attributes) = (0 < attributes.maxmsg) × (0 < attributes.msgsize)
+HasRoom (QueueKind attributes) = ((0 < attributes.maxmsg) × (attributes.maxmsg ≤ 65536)) × ((0 < attributes.msgsize) × (attributes.msgsize ≤ 16777216))
 HasRoom (SemaphoreKind value) = value ≤ SEM_VALUE_MAX
 
 -- the queue, if it is one
@@ -43,6 +44,11 @@ abbrev pub without_call : Sid → Body → Body
 without_call who (QueueBody queue) = QueueBody (withdrawn_call who queue)
 without_call who (SemaphoreBody semaphore) = SemaphoreBody (withdrawn_wait who semaphore)
 
+-- the bytes that an object takes: those of a queue
+abbrev pub bytes_taken : Kind → ℕ
+bytes_taken (QueueKind attributes) = bytes_of attributes.maxmsg attributes.msgsize
+bytes_taken (SemaphoreKind value) = 0
+
 -- what stands in a new object
 abbrev pub new_body : Kind → Body
 new_body (QueueKind attributes) = QueueBody (record { maxmsg = attributes.maxmsg; msgsize = attributes.msgsize; tickets = []; senders = []; receivers = [] })
@@ -50,11 +56,15 @@ new_body (SemaphoreKind value) = SemaphoreBody (record { value = value; waiters 
 
 -- the row of a new object
 abbrev pub new_row : ℕ → Object → Facts → ObjectRow
-new_row o object facts = record { number = o; object = object; facts = facts; body = new_body object.kind }
+new_row o object facts = record { number = o; object = object; facts = facts; bytes = bytes_taken object.kind; body = new_body object.kind }
 
 -- whether this is object o
 abbrev pub is_number : ℕ → ObjectRow → Bool
 is_number o row = row.number == o
+
+-- whether it is a queue
+abbrev pub is_queue : ObjectRow → Bool
+is_queue row = is_some (queue_in row.body)
 
 -- the row of object o
 abbrev pub row_at : List ObjectRow → ℕ → Option ObjectRow

@@ -1,5 +1,5 @@
 -- What each call does to the tables.
-use Rattle.std.specs.Prelude.{◌≡◌, Bool, true, false, ℕ, ◌+◌, ◌<◌, List, [], ◌∷◌, ◌++◌, length, filter, Option, Some, None, option_and_then}
+use Rattle.std.specs.Prelude.{◌≡◌, Bool, true, false, ℕ, ◌+◌, ◌<◌, List, [], ◌∷◌, ◌++◌, length, filter, map, Option, Some, None, option_and_then}
 use Rattle.std.specs.Option.{option_map}
 use Rattle.ipc_terms.specs.Lists.{first, changed, changed_first}
 use Rattle.ipc_terms.specs.Objects.{family_of}
@@ -10,8 +10,10 @@ use Rattle.ipc_terms.specs.declared.ids.Sid.{Sid}
 use Rattle.ipc_terms.specs.declared.ids.Mode.{Mode}
 use Rattle.ipc_terms.specs.declared.object.Object.{Object}
 use Rattle.ipc_terms.specs.declared.facts.Facts.{Facts}
-use Rattle.ipc_names.specs.Directory.{Directory, without_name}
+use Rattle.ipc_names.specs.Directory.{Directory, first_directory, without_name}
 use Rattle.ipc_descr.specs.declared.row.Row.{Row}
+use Rattle.ipc_access.specs.declared.users.User.{User}
+use Rattle.ipc_descr.specs.Charges.{uncharged, with_limit}
 use Rattle.ipc_descr.specs.Descriptions.{with_open, is_desc, without_desc, without_session, with_nonblock}
 use Rattle.ipc_queue.specs.declared.queue.Ticket.{Ticket}
 use Rattle.ipc_queue.specs.declared.queue.ParkedSend.{ParkedSend}
@@ -27,7 +29,21 @@ use Rattle.ipc_tables.specs.declared.rows.Session.{Session}
 use Rattle.ipc_tables.specs.declared.rows.ObjectRow.{ObjectRow}
 use Rattle.ipc_tables.specs.declared.tables.Grant.{Grant}
 use Rattle.ipc_tables.specs.Objects.{is_number, queue_at, semaphore_at, new_row, with_queue, with_semaphore, with_withdrawal, with_facts}
-use Rattle.ipc_tables.specs.Kept.{Kept, is_alive, parked_on_at}
+use Rattle.ipc_tables.specs.Kept.{Kept, is_kept, parked_on_at}
+use Rattle.ipc_tables.specs.Charging.{charged_with, settled}
+
+-- no sessions, names, objects and descriptions, and users of whom nothing is taken
+abbrev pub first_tables : List User → Kept
+first_tables users =
+    record {
+      sessions = [];
+      queues = first_directory Mq;
+      semaphores = first_directory Sem;
+      objects = [];
+      created = 0;
+      descriptions = record { rows = []; opened = 0 };
+      charges = map uncharged users;
+    }
 
 abbrev pub with_mask : Mode → Session → Session
 with_mask mask row = record row { mask = mask }
@@ -69,6 +85,7 @@ with_object t grant object facts =
       objects = t.objects ++ new_row t.created object facts ∷ [];
       created = t.created + 1;
       descriptions = with_open t.descriptions grant.session t.created grant.access grant.nonblock;
+      charges = charged_with t.charges object.creator.0 object.kind;
     }
 
 -- an open that creates an object
@@ -77,14 +94,15 @@ after_created t grant name object facts = with_object (with_binding (family_of o
 
 -- the objects that are alive
 abbrev pub living : Directory → Directory → List Row → List ObjectRow → List ObjectRow
-living queues semaphores rows objects = filter (λ row. is_alive queues semaphores rows row.number) objects
+living queues semaphores rows objects = filter (is_kept queues semaphores rows) objects
 
--- other descriptions are held, and the objects that nothing keeps are gone
+-- other descriptions are held, and the objects that nothing keeps are gone, with what they took of their creators' bytes
 abbrev pub with_rows : Kept → List Row → Kept
 with_rows t rows =
     record t {
       descriptions = record t.descriptions { rows = rows };
       objects = living t.queues t.semaphores rows t.objects;
+      charges = settled (is_kept t.queues t.semaphores rows) t.objects t.charges;
     }
 
 abbrev pub after_close : Kept → ℕ → ℕ → Kept
@@ -92,7 +110,11 @@ after_close t s d = with_rows t (without_desc t.descriptions.rows s d)
 
 -- the objects that nothing keeps are gone
 abbrev pub with_living : Kept → Kept
-with_living t = record t { objects = living t.queues t.semaphores t.descriptions.rows t.objects }
+with_living t =
+    record t {
+      objects = living t.queues t.semaphores t.descriptions.rows t.objects;
+      charges = settled (is_kept t.queues t.semaphores t.descriptions.rows) t.objects t.charges;
+    }
 
 abbrev pub after_unlink : Kept → Family → List ℕ → Kept
 after_unlink t family name = with_living (without_binding family name t)
@@ -199,3 +221,7 @@ after_facts t o facts = record t { objects = changed_first (is_number o) (with_f
 -- the directory of a family has them
 abbrev pub after_directory : Kept → Family → Facts → Kept
 after_directory t family facts = with_directory family (λ d. record d { facts = facts }) t
+
+-- user u's queues may take so many bytes
+abbrev pub after_limit : Kept → ℕ → ℕ → Kept
+after_limit t u bytes = record t { charges = with_limit t.charges u bytes }

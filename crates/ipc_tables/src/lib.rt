@@ -2,6 +2,8 @@
 //! what stands in them, and descriptions. It knows no user file and no rule.
 #![tactic(auto)]
 
+mod charging;
+mod living;
 mod rows;
 mod tables;
 

@@ -144,11 +144,13 @@ impl Body {
     }
 }
 
-/// An object by its number, with its present owner, group and mode, and what stands in it.
+/// An object by its number, with its present owner, group and mode, the bytes that it takes of its
+/// creator's, and what stands in it.
 #[derive(Drop)]
 pub struct ObjectRow {
     pub number: u64,
     pub object: Object,
     pub facts: Facts,
+    pub bytes: u64,
     pub body: Body,
 }

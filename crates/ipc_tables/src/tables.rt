@@ -1,19 +1,23 @@
 //! The tables.
 
-ghost use Rattle.std.specs.Prelude.{◌≡◌, ◌+◌, ◌^◌, ◌<◌, [], true, false, length, slice_get, position, is_some, IsSome, Some, None, OnOk, OnErr};
+ghost use Rattle.std.specs.Prelude.{count_by, ◌≡◌, ◌+◌, ◌^◌, ◌<◌, [], true, false, length, slice_get, position, is_some, IsSome, Some, None, IfOk, OnOk, OnErr};
 ghost use Rattle.std.specs.Option.{option_copied, option_map};
 ghost use Rattle.ipc_terms.specs.Lists.{changed};
 ghost use Rattle.ipc_terms.specs.Objects.{family_of};
 ghost use Rattle.ipc_terms.specs.declared.ids.Family.TheVariants.{Mq, Sem as SemFamily};
 ghost use Rattle.ipc_names.specs.Directory.{first_directory, object_named};
 ghost use Rattle.ipc_descr.specs.Descriptions.{row_of, is_open};
-ghost use Rattle.ipc_tables.specs.Objects.{HasRoom, is_number, row_at, queue_at, semaphore_at};
+ghost use Rattle.ipc_tables.specs.Charging.{Covered, Affords};
+ghost use Rattle.ipc_tables.specs.Objects.{HasRoom, is_number, is_queue, row_at, queue_at, semaphore_at};
 ghost use Rattle.ipc_sem.specs.Counters.{overflows};
 ghost use Rattle.ipc_tables.specs.Kept.{directory_kept, is_alive};
-ghost use Rattle.ipc_tables.specs.Steps.{hung_up, with_parked, with_object, living, with_binding, without_binding, ReceiverStands, SenderStands, WaiterStands, after_post, after_wait, after_try, after_hello, after_umask, after_found, after_created, after_close, after_unlink, after_hangup, after_send, after_receive, after_withdrawal, ended, after_setattr, after_facts, after_directory};
+ghost use Rattle.ipc_tables.specs.Steps.{hung_up, with_parked, with_object, living, with_binding, without_binding, ReceiverStands, SenderStands, WaiterStands, after_post, after_wait, after_try, after_hello, after_umask, after_found, after_created, after_close, after_unlink, after_hangup, after_send, after_receive, after_withdrawal, ended, after_setattr, after_facts, after_directory, after_limit, with_living, first_tables};
 
+use crate::charging::{charge, settle};
+use crate::living::{keep_living, keeps};
 use crate::rows::{Body, ObjectRow, Session};
-use ipc_descr::Descrs;
+use ipc_access::Users;
+use ipc_descr::{Charges, Descrs};
 use ipc_names::NameDir;
 use ipc_queue::{Queue, ReceiveOutcome, SendOutcome};
 use ipc_sem::{Sem, WaitOutcome};
@@ -30,7 +34,8 @@ pub struct Grant {
 }
 
 /// Sessions stand at their numbers. Of the objects, those that are alive: numbered by the objects
-/// created before them, and in the order of their numbers.
+/// created before them, and in the order of their numbers. Each user is charged with the bytes that
+/// its queues take.
 #[derive(Drop)]
 pub struct Tables {
     sessions: Vec<Session>,
@@ -39,6 +44,7 @@ pub struct Tables {
     objects: Vec<ObjectRow>,
     created: u64,
     descriptions: Descrs,
+    charges: Charges,
 }
 
 impl Model for Tables {
@@ -46,25 +52,27 @@ impl Model for Tables {
 
     ghost Value = { Kept };
 
-    ghost view = { λ a. record { sessions = a.sessions.items; queues = a.queues; semaphores = a.semaphores; objects = a.objects.items; created = a.created; descriptions = a.descriptions } };
+    ghost view = { λ a. record { sessions = a.sessions.items; queues = a.queues; semaphores = a.semaphores; objects = a.objects.items; created = a.created; descriptions = a.descriptions; charges = a.charges } };
 }
 
 /// The mask of a session that has set none: octal 022.
 const FIRST_MASK: Mode = Mode(0o22);
 
 impl Tables {
-    /// No sessions, names, objects and descriptions. Takes no memory.
-    pub fn new(alloc: Global) -> Self
-        ensures { result ≡ record { sessions = []; queues = first_directory Mq; semaphores = first_directory SemFamily; objects = []; created = 0; descriptions = record { rows = []; opened = 0 } } }
+    /// No sessions, names, objects and descriptions, and users of whom nothing is taken.
+    pub fn new(alloc: Global, users: &Users) -> Result<Tables, NoMemory>
+        ensures { IfOk result (λ tables. tables ≡ first_tables users.now) }
     {
-        Tables {
+        let charges = Charges::new(alloc, users)?;
+        Ok(Tables {
             sessions: Vec::new(alloc),
             queues: NameDir::new(alloc, Family::Mq),
             semaphores: NameDir::new(alloc, Family::Sem),
             objects: Vec::new(alloc),
             created: 0,
             descriptions: Descrs::new(alloc),
-        }
+            charges,
+        })
     }
 
     /// The session of the number, live or not.
@@ -119,6 +127,20 @@ impl Tables {
         &self.descriptions
     }
 
+    /// How many bytes each user's queues take, and how many they may.
+    pub fn charges(&self) -> &Charges
+        ensures { result.now ≡ self.now.charges }
+    {
+        &self.charges
+    }
+
+    /// How many queues are alive.
+    pub fn queue_count(&self) -> usize
+        ensures { result ≡ count_by is_queue self.now.objects }
+    {
+        count_queues(&self.objects)
+    }
+
     /// Starts a session of the user. An `Err` changes nothing.
     pub fn start_session(&mut self, user: Uid) -> Result<(), NoMemory>
         ensures ok { OnOk result (self.new ≡ after_hello self.old user) }
@@ -153,7 +175,8 @@ impl Tables {
         Ok(())
     }
 
-    /// Makes an object, binds the name in its family's directory to it, and opens it. An `Err` changes nothing.
+    /// Makes an object, binds the name in its family's directory to it, opens it, and charges its
+    /// creator with what it takes. An `Err` changes nothing.
     pub fn open_created(
         &mut self,
         alloc: Global,
@@ -166,6 +189,7 @@ impl Tables {
         requires opened { self.old.descriptions.opened < 2 ^ 63 }
         requires created { self.old.created + 1 < 2 ^ 64 }
         requires room { HasRoom object.kind }
+        requires affords { Affords self.old.charges object.creator.0 object.kind }
         ensures ok { OnOk result (self.new ≡ after_created self.old grant name.now object facts) }
         ensures err { OnErr result (self.new ≡ self.old) }
     {
@@ -179,7 +203,7 @@ impl Tables {
         Ok(())
     }
 
-    /// Makes an object of the next number, and opens it. An `Err` changes nothing.
+    /// Makes an object of the next number, opens it, and charges its creator. An `Err` changes nothing.
     fn add(
         &mut self,
         alloc: Global,
@@ -190,6 +214,7 @@ impl Tables {
         requires opened { self.old.descriptions.opened < 2 ^ 63 }
         requires created { self.old.created + 1 < 2 ^ 64 }
         requires room { HasRoom object.kind }
+        requires affords { Affords self.old.charges object.creator.0 object.kind }
         ensures ok { OnOk result (self.new ≡ with_object self.old grant object facts) }
         ensures err { OnErr result (self.new ≡ self.old) }
     {
@@ -201,6 +226,7 @@ impl Tables {
             number,
             object,
             facts,
+            bytes: charge(&mut self.charges, object),
             body: Body::new(alloc, object.kind),
         };
         push_within(&mut self.objects, row);
@@ -373,16 +399,27 @@ impl Tables {
         self.descriptions.set_nonblock(sid, desc, nonblock);
     }
 
-    /// Closes the description, if the session holds it. An object that nothing keeps is gone.
+    /// Sets how many bytes the user's queues may take, if it is a user.
+    pub fn set_limit(&mut self, uid: Uid, bytes: u64)
+        ensures { self.new ≡ after_limit self.old uid.0 bytes }
+    {
+        self.charges.set_limit(uid, bytes);
+    }
+
+    /// Closes the description, if the session holds it. An object that nothing keeps is gone, and its
+    /// creator is no longer charged with it.
     pub fn close(&mut self, sid: Sid, desc: Desc)
+        requires { Covered self.old.charges self.old.objects }
         ensures { self.new ≡ after_close self.old sid.0 desc.0 }
     {
         self.descriptions.close(sid, desc);
         self.remove_dead();
     }
 
-    /// Leaves the name of the family unbound. An object that nothing keeps is gone.
+    /// Leaves the name of the family unbound. An object that nothing keeps is gone, and its creator is
+    /// no longer charged with it.
     pub fn unlink(&mut self, family: Family, name: &Name)
+        requires { Covered self.old.charges self.old.objects }
         ensures { self.new ≡ after_unlink self.old family name.now }
     {
         self.unbind(family, name);
@@ -390,9 +427,10 @@ impl Tables {
     }
 
     /// Ends the session: withdraws its parked call, and closes what it holds. An object that nothing
-    /// keeps is gone.
+    /// keeps is gone, and its creator is no longer charged with it.
     pub fn end_session(&mut self, sid: Sid)
-        requires { sid.0 < length self.old.sessions }
+        requires session { sid.0 < length self.old.sessions }
+        requires covered { Covered self.old.charges self.old.objects }
         ensures { self.new ≡ after_hangup self.old sid }
     {
         self.withdraw(sid);
@@ -401,7 +439,8 @@ impl Tables {
 
     /// The session is live no more, and what it holds is closed. An object that nothing keeps is gone.
     fn end(&mut self, sid: Sid)
-        requires { sid.0 < length self.old.sessions }
+        requires session { sid.0 < length self.old.sessions }
+        requires covered { Covered self.old.charges self.old.objects }
         ensures { self.new ≡ ended self.old sid.0 }
     {
         self.mark_ended(sid);
@@ -409,10 +448,19 @@ impl Tables {
         self.remove_dead();
     }
 
-    /// Removes the objects that nothing keeps, with what stands in them.
+    /// Removes the objects that nothing keeps, with what stands in them, and gives their creators back
+    /// what they took.
     fn remove_dead(&mut self)
-        ensures { self.new ≡ record self.old { objects = living self.old.queues self.old.semaphores self.old.descriptions.rows self.old.objects } }
+        requires { Covered self.old.charges self.old.objects }
+        ensures { self.new ≡ with_living self.old }
     {
+        settle(
+            &mut self.charges,
+            &self.objects,
+            &self.queues,
+            &self.semaphores,
+            &self.descriptions,
+        );
         keep_living(
             &mut self.objects,
             &self.queues,
@@ -439,32 +487,6 @@ fn give_facts(directory: &mut NameDir, facts: Facts)
     directory.set_owner(facts.owner, facts.group);
 }
 
-/// Keeps the objects that have a name, or that a description gives.
-fn keep_living(
-    objects: &mut Vec<ObjectRow>,
-    queues: &NameDir,
-    semaphores: &NameDir,
-    descriptions: &Descrs,
-)
-    ensures { objects.new.items ≡ living queues.now semaphores.now descriptions.now.rows objects.old.items }
-{
-    objects.retain(|row| keeps(queues, semaphores, descriptions, row.number));
-}
-
-/// Whether the object has a name, or a description gives it.
-fn keeps(queues: &NameDir, semaphores: &NameDir, descriptions: &Descrs, object: u64) -> bool
-    ensures { result ≡ is_alive queues.now semaphores.now descriptions.now.rows object }
-{
-    queues.names_object(object) || semaphores.names_object(object) || is_open(descriptions, object)
-}
-
-/// Whether a description gives the object.
-fn is_open(descriptions: &Descrs, object: u64) -> bool
-    ensures { result ≡ is_open descriptions.now.rows object }
-{
-    descriptions.uses(object) > 0
-}
-
 fn find_object(objects: &[ObjectRow], number: u64) -> Option<&ObjectRow>
     ensures { option_copied result ≡ row_at objects.now number }
 {
@@ -475,4 +497,13 @@ fn find_index(objects: &[ObjectRow], number: u64) -> Option<usize>
     ensures { result ≡ position (is_number number) objects.now }
 {
     objects.iter().position(|row| row.number == number)
+}
+
+fn count_queues(objects: &[ObjectRow]) -> usize
+    ensures { result ≡ count_by is_queue objects.now }
+{
+    objects
+        .iter()
+        .filter(|row| matches!(row.body, Body::Queue(_)))
+        .count()
 }

@@ -116,6 +116,12 @@ pub enum Call {
         group: Option<Gid>,
         target: Target,
     },
+    /// Sets how many bytes the user's queues may take in all (`getrlimit(2)`, `RLIMIT_MSGQUEUE`;
+    /// `mq_overview(7)`). For user 0 alone.
+    SetLimit {
+        uid: Uid,
+        bytes: u64,
+    },
     /// Ends the session's call that is parked: that call is answered that it was interrupted, and has no
     /// other effect (POSIX.1-2017, `EINTR`).
     Interrupt,

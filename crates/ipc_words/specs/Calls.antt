@@ -14,7 +14,7 @@ use Rattle.ipc_terms.specs.declared.ids.Target.{Target}
 use Rattle.ipc_terms.specs.declared.ids.Target.TheVariants as target
 use Rattle.ipc_words.specs.declared.calls.Manner.{Manner}
 use Rattle.ipc_words.specs.declared.commands.Verb.{Verb}
-use Rattle.ipc_words.specs.declared.commands.Verb.TheVariants.{Umask, MqOpen, MqClose, MqSend, MqReceive, MqGetattr, MqSetattr, MqUnlink, SemOpen, SemClose, SemUnlink, SemPost, SemWait, SemTryWait, SemGetvalue, Ls, Stat, Chmod, Chown, Interrupt}
+use Rattle.ipc_words.specs.declared.commands.Verb.TheVariants.{Umask, MqOpen, MqClose, MqSend, MqReceive, MqGetattr, MqSetattr, MqUnlink, SemOpen, SemClose, SemUnlink, SemPost, SemWait, SemTryWait, SemGetvalue, Ls, Stat, Chmod, Chown, SetLimit, Interrupt}
 use Rattle.ipc_words.specs.declared.faults.WordFault.{WordFault}
 use Rattle.ipc_words.specs.declared.faults.WordFault.TheVariants.{Usage, NoMemory}
 use Rattle.ipc_words.specs.Grammar.{Form, app_of_form, form_of_word}
@@ -134,6 +134,10 @@ meaning_of Chown rows =
     value_at id_of_word (codes "gid") rows >>= λ group.
     target_of_rows rows >>= λ target.
     Ok (call.Chown (option_map (λ n. record { 0 = n }) owner) (option_map (λ n. record { 0 = n }) group) target)
+meaning_of SetLimit rows =
+    count_at (codes "uid") rows >>= λ uid.
+    value_at (decimal_within (2 ^ 64 - 1)) (codes "bytes") rows >>= λ bytes.
+    Ok (call.SetLimit (record { 0 = uid }) bytes)
 meaning_of Interrupt rows = Ok call.Interrupt
 
 -- ---- what words mean

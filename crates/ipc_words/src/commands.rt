@@ -27,6 +27,7 @@ pub enum Verb {
     Stat,
     Chmod,
     Chown,
+    SetLimit,
     Interrupt,
 }
 
@@ -52,7 +53,7 @@ pub struct Form {
 }
 
 /// All commands.
-pub static FORMS: [Form; 20] = [
+pub static FORMS: [Form; 21] = [
     Form {
         word: "umask",
         verb: Verb::Umask,
@@ -167,6 +168,11 @@ pub static FORMS: [Form; 20] = [
             Required("family"),
             Optional("name"),
         ],
+    },
+    Form {
+        word: "set-limit",
+        verb: Verb::SetLimit,
+        arguments: &[Required("uid"), Required("bytes")],
     },
     Form {
         word: "interrupt",

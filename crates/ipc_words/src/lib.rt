@@ -27,6 +27,7 @@ use crate::parsing::matches_of_words;
 pub use answers::line_of_answer;
 pub use faults::WordFault;
 use ipc_terms::Call;
+pub use readings::optional_count;
 use std::alloc::Global;
 pub use usage::usage_of_commands;
 

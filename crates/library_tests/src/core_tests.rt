@@ -280,4 +280,5 @@ fn the_laws_are_there(_rt: HostRuntime) {
     laws::in_range();
     laws::counted();
     laws::rights();
+    laws::within_limit();
 }

@@ -4,6 +4,8 @@
 #[cfg(test)]
 mod access_tests;
 #[cfg(test)]
+mod charges_tests;
+#[cfg(test)]
 mod core_tests;
 #[cfg(test)]
 mod descriptions_tests;

@@ -36,13 +36,14 @@ enum Meaning {
     Stat(Family, &'static [u8]),
     Chmod(u16, Family, Option<&'static [u8]>),
     Chown(Option<u32>, Option<u32>, Family, Option<&'static [u8]>),
+    SetLimit(u32, u64),
     Interrupt,
 }
 
 use Meaning::{
     BadValue, Chmod, Chown, Close, Directory, Getattr, Interrupt, List, Open, Receive, SemClose,
-    SemGetvalue, SemOpen, SemPost, SemTryWait, SemUnlink, SemWait, Send, Setattr, Stat, Umask,
-    Unlink, Usage,
+    SemGetvalue, SemOpen, SemPost, SemTryWait, SemUnlink, SemWait, Send, SetLimit, Setattr, Stat,
+    Umask, Unlink, Usage,
 };
 
 /// Whether the words mean this.
@@ -107,6 +108,9 @@ fn is_call(call: &Call, meaning: &Meaning) -> bool {
             },
             List(wanted, first, most),
         ) => family == wanted && start == first && count == most,
+        (Call::SetLimit { uid, bytes }, SetLimit(number, wanted)) => {
+            uid.0 == *number && bytes == wanted
+        }
         (Call::Interrupt, Interrupt) => true,
         _ => is_semaphore_call(call, meaning),
     }
@@ -265,7 +269,7 @@ static SEMAPHORES: [Row; 14] = [
     ("sem-open /a --value 4294967296", BadValue("value")),
 ];
 
-static CHANGES: [Row; 9] = [
+static CHANGES: [Row; 13] = [
     (
         "chmod 640 mq /jobs",
         Chmod(0o640, Family::Mq, Some(b"/jobs")),
@@ -284,6 +288,13 @@ static CHANGES: [Row; 9] = [
     ("chmod x x hex:2", BadValue("octal")),
     ("chown Keep x x hex:2", BadValue("uid")),
     ("chown keep 00 x hex:2", BadValue("gid")),
+    ("set-limit 0 819200", SetLimit(0, 819_200)),
+    (
+        "set-limit 4294967295 18446744073709551615",
+        SetLimit(u32::MAX, u64::MAX),
+    ),
+    ("set-limit x x", BadValue("uid")),
+    ("set-limit 0 x", BadValue("bytes")),
 ];
 
 static OPENS: [Row; 11] = [
@@ -396,6 +407,7 @@ mq-send 0 -1 hi
 mq-receive 0 -1
 mq-setattr 0 --block
 mq-unlink -a
+set-limit 0 -1
 stat mq -a
 interrupt -
 --interrupt
@@ -444,6 +456,8 @@ ls mq 0 --value 1
 stat
 stat mq /a /b
 stat mq --mode 600
+set-limit 0
+set-limit 0 1 2
 interrupt 0
 interrupt --nonblock
 interrupt interrupt
@@ -520,7 +534,7 @@ const FAMILIES: &[&str] = &["", "MQ", "mqs", "m", "queue", "hex:6d71", "mq "];
 
 const PAIRS: &[&str] = &["hex:2", "hex:2D", "hex:2g", "hex:2d ", "hex:hex:", "hex:-1"];
 
-static UNREAD: [Unread; 22] = [
+static UNREAD: [Unread; 24] = [
     (&["umask"], MODES, &[], "octal"),
     (&["mq-open", "/a", "r", "--mode"], MODES, &[], "mode"),
     (&["mq-close"], DESCRIPTIONS, &[], "d"),
@@ -558,6 +572,8 @@ static UNREAD: [Unread; 22] = [
         &["--maxmsg", "1"],
         "msgsize",
     ),
+    (&["set-limit"], COUNTS, &["0"], "uid"),
+    (&["set-limit", "0"], DESCRIPTIONS, &[], "bytes"),
     (&["mq-open"], PAIRS, &["r"], "name"),
     (&["mq-unlink"], PAIRS, &[], "name"),
     (&["stat", "sem"], PAIRS, &[], "name"),
@@ -766,6 +782,7 @@ const USAGE: &str = "  umask <octal>
   stat <family> [name]
   chmod <octal> <family> [name]
   chown <uid> <gid> <family> [name]
+  set-limit <uid> <bytes>
   interrupt
 ";
 

@@ -1,7 +1,8 @@
 //! Runs scripts whose answers are known, and prints for each whether it writes them.
 //!
-//! `NAME.in` is a script and `NAME.out` what it writes. Where it ends by a fault, `NAME.err` has
-//! the fault's line and `NAME.status` its exit status.
+//! `NAME.in` is a script and `NAME.out` what it writes; `NAME.args` has the program's arguments, if there
+//! are any, one a line. Where it ends by a fault, `NAME.err` has the fault's text and `NAME.status` its exit
+//! status.
 #![tactic(auto)]
 
 mod row;
@@ -10,7 +11,7 @@ use row::judge;
 use std::io;
 
 /// The scripts, in the order in which they are run.
-const ROWS: [&str; 75] = [
+const ROWS: [&str; 83] = [
     "first_run",
     "present_before_mode",
     "name_forms",
@@ -67,6 +68,13 @@ const ROWS: [&str; 75] = [
     "semaphore_modes_changed",
     "owner_of_the_directory",
     "chmod_and_chown_words",
+    "bytes_charged_until_gone",
+    "attributes_before_bytes",
+    "queues_counted_over_all_users",
+    "only_user_0_creates",
+    "hang_up_gives_bytes_back",
+    "limits_lowered",
+    "greatest_queues_of_user_0",
     "parked_under_an_older_label",
     "labels_and_sessions",
     "lines_and_words",
@@ -86,6 +94,7 @@ const ROWS: [&str; 75] = [
     "limits_msg_max",
     "limits_msgsize_max",
     "limits_queues_max",
+    "limits_not_a_number",
 ];
 
 fn main(rt: HostRuntime) -> io::Result<()> {

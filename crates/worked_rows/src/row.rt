@@ -1,7 +1,6 @@
 //! One script, and what it must write.
 
-use ipc_core::Limits;
-use ipc_script::{ScriptFault, run_script};
+use ipc_script::{ProgramFault, limits_of_words, run_script};
 use std::alloc::{AllocError, Global};
 use std::rt::Files;
 use std::{fs, io};
@@ -18,7 +17,8 @@ struct Outcome {
 pub fn judge(rt: &(impl Files + AllocGlobal), name: &str) -> io::Result<String> {
     let alloc = rt.alloc();
     let input = fs::read(rt, format!(in alloc; "{name}.in")?)?;
-    let given = run(alloc, limits_of(name), &input)?;
+    let arguments = read_or(rt, name, "args", "")?;
+    let given = outcome_of(alloc, arguments.as_str(), &input)?;
     let wanted = Outcome {
         output: read_or(rt, name, "out", "")?,
         error: read_or(rt, name, "err", "")?,
@@ -36,32 +36,13 @@ pub fn judge(rt: &(impl Files + AllocGlobal), name: &str) -> io::Result<String> 
     Ok(String::from_str(alloc, "as written")?)
 }
 
-/// The limits of the server; those of the scripts about limits are each out of range in one.
-fn limits_of(name: &str) -> Limits {
-    let limits = Limits::STANDARD;
-    match name {
-        "limits_msg_max" => Limits {
-            msg_max: 0,
-            ..limits
-        },
-        "limits_msgsize_max" => Limits {
-            msgsize_max: 16_777_217,
-            ..limits
-        },
-        "limits_queues_max" => Limits {
-            queues_max: 65_537,
-            ..limits
-        },
-        _ => limits,
-    }
-}
-
-fn run(alloc: Global, limits: Limits, input: &[u8]) -> Result<Outcome, AllocError> {
+/// What the program gives by these arguments, one a line.
+fn outcome_of(alloc: Global, arguments: &str, input: &[u8]) -> Result<Outcome, AllocError> {
+    let words = words_of(alloc, arguments)?;
     let mut output = Vec::new(alloc);
-    let ended = run_script(alloc, limits, input, &mut output);
-    let (error, status) = match ended {
+    let (error, status) = match run(alloc, &words, input, &mut output) {
         Ok(()) => (String::new(alloc), 0),
-        Err(fault) => (error_line(alloc, fault)?, fault.status()),
+        Err(fault) => (format!(in alloc; "{fault}")?, fault.status()),
     };
     Ok(Outcome {
         output: String::from_utf8_lossy(alloc, &output)?,
@@ -70,8 +51,25 @@ fn run(alloc: Global, limits: Limits, input: &[u8]) -> Result<Outcome, AllocErro
     })
 }
 
-fn error_line(alloc: Global, fault: ScriptFault) -> Result<String, AllocError> {
-    format!(in alloc; "mqserve: {fault}\n")
+/// The program's name, and the arguments.
+fn words_of(alloc: Global, arguments: &str) -> Result<Vec<&str>, AllocError> {
+    let mut words = Vec::new(alloc);
+    words.push("mqserve")?;
+    for word in arguments.lines() {
+        words.push(word)?;
+    }
+    Ok(words)
+}
+
+fn run(
+    alloc: Global,
+    words: &[&str],
+    input: &[u8],
+    output: &mut Vec<u8>,
+) -> Result<(), ProgramFault> {
+    let limits = limits_of_words(alloc, "", words)?;
+    run_script(alloc, limits, input, output)?;
+    Ok(())
 }
 
 /// The text of a file that may be missing.

@@ -7,7 +7,7 @@ use Rattle.ipc_policy.proofs.Known.{opens_le-length, creations_le-length, mask_l
 use Rattle.ipc_names.specs.Directory.{Directory, object_named}
 use Rattle.ipc_tables.specs.Kept.{is_live_row, directory_kept}
 use Rattle.ipc_state.proofs.Lookups.{found_is, directory_agrees}
-use Rattle.ipc_state.proofs.Accepted.{cred_row, user_row, opener_live, open_new, open_room}
+use Rattle.ipc_state.proofs.Accepted.{cred_row, user_row, opener_live, open_new, open_room, open_affords}
 use Rattle.ipc_state.proofs.Opens.{opens_of}
 use Rattle.ipc_state.proofs.Opened.{agrees_found, agrees_created}
 use Rattle.ipc_state.proofs.accept.accept_open.Goals as goal
@@ -87,6 +87,21 @@ open_created-requires-clause-room c =
     let row = sym c.session.ensures ∙ c.in-Some-session.is in
     let who = ap (λ (s : Sid). cred c.args.config.now h s.0) (sym session) ∙ sym (cred_row c.args.config.now h t.sessions c.asked.inside.session.0 c.in-Some-session.session a.sessions row) ∙ sym c.cred.ensures ∙ ap option_copied c.in-Some-cred.is in
     rw c.new_object-object.ensures (open_room c.args.config.now h e asked c.in-Some-cred.who.now c.requires.core.in_range is c.requires.accepted (found ∙ c.in_default-get.is) who)
+
+pub open_created-requires-clause-affords : goal.open_created-requires-clause-affords
+open_created-requires-clause-affords c =
+    let h = c.args.past.now.history in
+    let t = c.args.tables.now in
+    let a = c.requires.core.agrees in
+    let e = c.args.event.now in
+    let asked = c.in-Some.asked in
+    let is = sym c.opening_of.ensures ∙ c.in-Some.is in
+    let named = c.get.ensures ∙ ap (λ (d : Directory). object_named d.bindings c.asked.inside.name.now) c.names.ensures ∙ ap (λ (x : Opening). object_named (directory_kept x.family t).bindings x.name) c.asked.view_is in
+    let found = sym (found_is h asked.family (directory_kept asked.family t) asked.name (directory_agrees c.args.config.now h t asked.family a)) ∙ sym named in
+    let session = ap (λ (x : Opening). x.session) c.asked.view_is in
+    let row = sym c.session.ensures ∙ c.in-Some-session.is in
+    let who = ap (λ (s : Sid). cred c.args.config.now h s.0) (sym session) ∙ sym (cred_row c.args.config.now h t.sessions c.asked.inside.session.0 c.in-Some-session.session a.sessions row) ∙ sym c.cred.ensures ∙ ap option_copied c.in-Some-cred.is in
+    rw c.new_object-object.ensures (open_affords c.args.config.now h e asked t.charges c.in-Some-cred.who.now is c.requires.accepted (found ∙ c.in_default-get.is) who a.charges)
 
 pub returns-clause-ok : goal.returns-clause-ok
 returns-clause-ok c =

@@ -1,4 +1,4 @@
-use Rattle.std.proofs.Common.{◌≡◌, Some, is_some, ap, sym, ◌∙◌}
+use Rattle.std.proofs.Common.{Some, is_some, ap, ◌∙◌}
 use Rattle.ipc_policy.proofs.Bindings.{bound_made}
 use Rattle.ipc_names.specs.Directory.{Directory}
 use Rattle.ipc_state.proofs.Lookups.{directory_agrees}

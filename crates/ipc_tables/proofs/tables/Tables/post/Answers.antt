@@ -34,7 +34,7 @@ returns-in-Some-post c =
     let place = ap (position (is_number c.args.object)) (sym c.deref.ensures.value) ∙ sym c.find_index.ensures ∙ c.in-Some.is in
     let there = at_row semaphore_in c.self.inside.objects.items c.args.object c.in-Some.index c.index_mut.result.now place c.index_mut.ensures.value in
     let served = sym c.in-Some-post.is ∙ c.post.ensures.served ∙ ap (option_and_then (λ (q : Counter). first q.waiters)) (sym there) in
-    rw (c.set_parked.ensures, ← c.self.view_is, c.post.ensures.rest) (after_post_is (record { sessions = inside.sessions.items; queues = inside.queues; semaphores = inside.semaphores; objects = inside.objects.items; created = inside.created; descriptions = inside.descriptions }) c.args.object _ _ (Some c.in-Some-post.waiter) served refl (place_changed (is_number c.args.object) (with_semaphore posted) inside.objects.items c.in-Some.index c.index_mut.result.now place c.index_mut.ensures.value))
+    rw (c.set_parked.ensures, ← c.self.view_is, c.post.ensures.rest) (after_post_is (record { sessions = inside.sessions.items; queues = inside.queues; semaphores = inside.semaphores; objects = inside.objects.items; created = inside.created; descriptions = inside.descriptions; charges = inside.charges }) c.args.object _ _ (Some c.in-Some-post.waiter) served refl (place_changed (is_number c.args.object) (with_semaphore posted) inside.objects.items c.in-Some.index c.index_mut.result.now place c.index_mut.ensures.value))
 
 pub returns-in_default-post : goal.returns-in_default-post
 returns-in_default-post c =
@@ -42,4 +42,4 @@ returns-in_default-post c =
     let place = ap (position (is_number c.args.object)) (sym c.deref.ensures.value) ∙ sym c.find_index.ensures ∙ c.in-Some.is in
     let there = at_row semaphore_in c.self.inside.objects.items c.args.object c.in-Some.index c.index_mut.result.now place c.index_mut.ensures.value in
     let served = sym c.in_default-post.is ∙ c.post.ensures.served ∙ ap (option_and_then (λ (q : Counter). first q.waiters)) (sym there) in
-    rw (← c.self.view_is, c.post.ensures.rest) (after_post_is (record { sessions = inside.sessions.items; queues = inside.queues; semaphores = inside.semaphores; objects = inside.objects.items; created = inside.created; descriptions = inside.descriptions }) c.args.object _ _ None served refl (place_changed (is_number c.args.object) (with_semaphore posted) inside.objects.items c.in-Some.index c.index_mut.result.now place c.index_mut.ensures.value))
+    rw (← c.self.view_is, c.post.ensures.rest) (after_post_is (record { sessions = inside.sessions.items; queues = inside.queues; semaphores = inside.semaphores; objects = inside.objects.items; created = inside.created; descriptions = inside.descriptions; charges = inside.charges }) c.args.object _ _ None served refl (place_changed (is_number c.args.object) (with_semaphore posted) inside.objects.items c.in-Some.index c.index_mut.result.now place c.index_mut.ensures.value))

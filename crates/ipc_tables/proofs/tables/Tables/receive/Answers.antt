@@ -34,7 +34,7 @@ returns-in-Took-clause-ok c =
     let place = ap (position (is_number c.args.object)) (sym c.deref.ensures.value) ∙ sym c.find_index.ensures ∙ c.in-Some.is in
     let there = at_place inside.objects.items c.args.object c.in-Some.index c.index_mut.result.now place c.index_mut.ensures.value in
     let outcome = ap Some (sym c.in-Took.is) ∙ c.in_ok-receive.ensures.outcome ∙ ap (option_map receive_outcome) (sym there) in
-    rw (← c.self.view_is, c.in_ok-receive.ensures.ok) (after_receive_is (record { sessions = inside.sessions.items; queues = inside.queues; semaphores = inside.semaphores; objects = inside.objects.items; created = inside.created; descriptions = inside.descriptions }) c.args.object c.args.sid _ _ _ outcome refl (place_changed (is_number c.args.object) (with_queue (received c.args.sid)) inside.objects.items c.in-Some.index c.index_mut.result.now place c.index_mut.ensures.value))
+    rw (← c.self.view_is, c.in_ok-receive.ensures.ok) (after_receive_is (record { sessions = inside.sessions.items; queues = inside.queues; semaphores = inside.semaphores; objects = inside.objects.items; created = inside.created; descriptions = inside.descriptions; charges = inside.charges }) c.args.object c.args.sid _ _ _ outcome refl (place_changed (is_number c.args.object) (with_queue (received c.args.sid)) inside.objects.items c.in-Some.index c.index_mut.result.now place c.index_mut.ensures.value))
 
 pub returns-in-TookAndAdmitted-clause-ok : goal.returns-in-TookAndAdmitted-clause-ok
 returns-in-TookAndAdmitted-clause-ok c =
@@ -42,7 +42,7 @@ returns-in-TookAndAdmitted-clause-ok c =
     let place = ap (position (is_number c.args.object)) (sym c.deref.ensures.value) ∙ sym c.find_index.ensures ∙ c.in-Some.is in
     let there = at_place inside.objects.items c.args.object c.in-Some.index c.index_mut.result.now place c.index_mut.ensures.value in
     let outcome = ap Some (sym c.in-TookAndAdmitted.is) ∙ c.in_ok-receive.ensures.outcome ∙ ap (option_map receive_outcome) (sym there) in
-    rw (c.set_parked.ensures, ← c.self.view_is, c.in_ok-receive.ensures.ok) (after_receive_is (record { sessions = inside.sessions.items; queues = inside.queues; semaphores = inside.semaphores; objects = inside.objects.items; created = inside.created; descriptions = inside.descriptions }) c.args.object c.args.sid _ _ _ outcome refl (place_changed (is_number c.args.object) (with_queue (received c.args.sid)) inside.objects.items c.in-Some.index c.index_mut.result.now place c.index_mut.ensures.value))
+    rw (c.set_parked.ensures, ← c.self.view_is, c.in_ok-receive.ensures.ok) (after_receive_is (record { sessions = inside.sessions.items; queues = inside.queues; semaphores = inside.semaphores; objects = inside.objects.items; created = inside.created; descriptions = inside.descriptions; charges = inside.charges }) c.args.object c.args.sid _ _ _ outcome refl (place_changed (is_number c.args.object) (with_queue (received c.args.sid)) inside.objects.items c.in-Some.index c.index_mut.result.now place c.index_mut.ensures.value))
 
 pub returns-in-Parked-clause-ok : goal.returns-in-Parked-clause-ok
 returns-in-Parked-clause-ok c =
@@ -50,4 +50,4 @@ returns-in-Parked-clause-ok c =
     let place = ap (position (is_number c.args.object)) (sym c.deref.ensures.value) ∙ sym c.find_index.ensures ∙ c.in-Some.is in
     let there = at_place inside.objects.items c.args.object c.in-Some.index c.index_mut.result.now place c.index_mut.ensures.value in
     let outcome = ap Some (sym c.in-Parked.is) ∙ c.in_ok-receive.ensures.outcome ∙ ap (option_map receive_outcome) (sym there) in
-    rw (c.set_parked-in-Parked.ensures, ← c.self.view_is, c.in_ok-receive.ensures.ok) (after_receive_is (record { sessions = inside.sessions.items; queues = inside.queues; semaphores = inside.semaphores; objects = inside.objects.items; created = inside.created; descriptions = inside.descriptions }) c.args.object c.args.sid _ _ _ outcome refl (place_changed (is_number c.args.object) (with_queue (received c.args.sid)) inside.objects.items c.in-Some.index c.index_mut.result.now place c.index_mut.ensures.value))
+    rw (c.set_parked-in-Parked.ensures, ← c.self.view_is, c.in_ok-receive.ensures.ok) (after_receive_is (record { sessions = inside.sessions.items; queues = inside.queues; semaphores = inside.semaphores; objects = inside.objects.items; created = inside.created; descriptions = inside.descriptions; charges = inside.charges }) c.args.object c.args.sid _ _ _ outcome refl (place_changed (is_number c.args.object) (with_queue (received c.args.sid)) inside.objects.items c.in-Some.index c.index_mut.result.now place c.index_mut.ensures.value))

@@ -8,4 +8,4 @@ use Rattle.ipc_tables.proofs.tables.Tables.set_parked.Goals as goal
 pub returns : goal.returns
 returns c =
     let inside = c.self.inside in
-    rw (← c.self.view_is) (ap (λ (l : List Session). record { sessions = l; queues = inside.queues; semaphores = inside.semaphores; objects = inside.objects.items; created = inside.created; descriptions = inside.descriptions }) (set_changed (with_parked c.args.object) inside.sessions.items c.args.sid.0 c.index_mut-session.result.now (rw (ap (λ (t : Kept). length t.sessions) c.self.view_is) c.requires) c.index_mut-session.ensures.value))
+    rw (← c.self.view_is) (ap (λ (l : List Session). record { sessions = l; queues = inside.queues; semaphores = inside.semaphores; objects = inside.objects.items; created = inside.created; descriptions = inside.descriptions; charges = inside.charges }) (set_changed (with_parked c.args.object) inside.sessions.items c.args.sid.0 c.index_mut-session.result.now (rw (ap (λ (t : Kept). length t.sessions) c.self.view_is) c.requires) c.index_mut-session.ensures.value))

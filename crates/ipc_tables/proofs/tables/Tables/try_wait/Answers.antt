@@ -15,10 +15,10 @@ pub returns-in-Some : goal.returns-in-Some
 returns-in-Some c =
     let inside = c.self.inside in
     let place = ap (position (is_number c.args.object)) (sym c.deref.ensures.value) ∙ sym c.find_index.ensures ∙ c.in-Some.is in
-    rw (← c.self.view_is, c.try_wait.ensures) (ap (with_objects (record { sessions = inside.sessions.items; queues = inside.queues; semaphores = inside.semaphores; objects = inside.objects.items; created = inside.created; descriptions = inside.descriptions })) (place_changed (is_number c.args.object) (with_semaphore tried) inside.objects.items c.in-Some.index c.index_mut.result.now place c.index_mut.ensures.value))
+    rw (← c.self.view_is, c.try_wait.ensures) (ap (with_objects (record { sessions = inside.sessions.items; queues = inside.queues; semaphores = inside.semaphores; objects = inside.objects.items; created = inside.created; descriptions = inside.descriptions; charges = inside.charges })) (place_changed (is_number c.args.object) (with_semaphore tried) inside.objects.items c.in-Some.index c.index_mut.result.now place c.index_mut.ensures.value))
 
 pub returns-in_default : goal.returns-in_default
 returns-in_default c =
     let inside = c.self.inside in
     let place = ap (position (is_number c.args.object)) (sym c.deref.ensures.value) ∙ sym c.find_index.ensures ∙ c.in_default.is in
-    rw (← c.self.view_is) (ap (with_objects (record { sessions = inside.sessions.items; queues = inside.queues; semaphores = inside.semaphores; objects = inside.objects.items; created = inside.created; descriptions = inside.descriptions })) (sym (none_changed (is_number c.args.object) (with_semaphore tried) inside.objects.items place)))
+    rw (← c.self.view_is) (ap (with_objects (record { sessions = inside.sessions.items; queues = inside.queues; semaphores = inside.semaphores; objects = inside.objects.items; created = inside.created; descriptions = inside.descriptions; charges = inside.charges })) (sym (none_changed (is_number c.args.object) (with_semaphore tried) inside.objects.items place)))

@@ -13,6 +13,6 @@ returns c =
     let parked = parked_row inside.sessions.items c.args.sid.0 c.index.result.now c.in-Some.object (rw (ap (λ (t : Kept). length t.sessions) c.self.view_is) c.requires) c.index.ensures c.in-Some.is in
     let found = ap (position (is_number c.in-Some.object)) (sym c.deref.ensures.value) ∙ sym c.find_index.ensures in
     elim c.match-find_index.branch [
-      | in-Some-find_index w ↦ rw (c.set_parked.ensures, w.self-is, ← c.self.view_is, w.withdraw.ensures) (after_withdrawal_is (record { sessions = inside.sessions.items; queues = inside.queues; semaphores = inside.semaphores; objects = inside.objects.items; created = inside.created; descriptions = inside.descriptions }) c.args.sid c.in-Some.object _ parked (place_changed (is_number c.in-Some.object) (with_withdrawal c.args.sid) inside.objects.items w.in-Some-find_index.index w.index_mut.result.now (found ∙ w.in-Some-find_index.is) w.index_mut.ensures.value))
-      | in_default-find_index w ↦ rw (c.set_parked.ensures, w.self-is, ← c.self.view_is) (after_withdrawal_is (record { sessions = inside.sessions.items; queues = inside.queues; semaphores = inside.semaphores; objects = inside.objects.items; created = inside.created; descriptions = inside.descriptions }) c.args.sid c.in-Some.object _ parked (sym (none_changed (is_number c.in-Some.object) (with_withdrawal c.args.sid) inside.objects.items (found ∙ w.in_default-find_index.is))))
+      | in-Some-find_index w ↦ rw (c.set_parked.ensures, w.self-is, ← c.self.view_is, w.withdraw.ensures) (after_withdrawal_is (record { sessions = inside.sessions.items; queues = inside.queues; semaphores = inside.semaphores; objects = inside.objects.items; created = inside.created; descriptions = inside.descriptions; charges = inside.charges }) c.args.sid c.in-Some.object _ parked (place_changed (is_number c.in-Some.object) (with_withdrawal c.args.sid) inside.objects.items w.in-Some-find_index.index w.index_mut.result.now (found ∙ w.in-Some-find_index.is) w.index_mut.ensures.value))
+      | in_default-find_index w ↦ rw (c.set_parked.ensures, w.self-is, ← c.self.view_is) (after_withdrawal_is (record { sessions = inside.sessions.items; queues = inside.queues; semaphores = inside.semaphores; objects = inside.objects.items; created = inside.created; descriptions = inside.descriptions; charges = inside.charges }) c.args.sid c.in-Some.object _ parked (sym (none_changed (is_number c.in-Some.object) (with_withdrawal c.args.sid) inside.objects.items (found ∙ w.in_default-find_index.is))))
     ]

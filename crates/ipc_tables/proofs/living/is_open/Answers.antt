@@ -1,7 +1,7 @@
 use Rattle.std.proofs.Common.{◌≡◌, ℕ, Bool, true, false, not, ◌==◌, nat_lt, ◌∙◌, ap, arith}
 use Rattle.std.proofs.lemmas.Bool.Decides.{nat_tests}
 use Rattle.ipc_descr.proofs.Answering.{uses_test}
-use Rattle.ipc_tables.proofs.tables.is_open.Goals as goal
+use Rattle.ipc_tables.proofs.living.is_open.Goals as goal
 
 positive : (n : ℕ) (b : Bool) → (0 == n) ≡ not b → nat_lt 0 n ≡ b
 positive n true e = grind (arith, nat_tests)
