@@ -6,7 +6,7 @@ ghost use Rattle.ipc_names.specs.Directory.{first_directory, object_named, witho
 
 use crate::listing;
 use ipc_access::DirFacts;
-use ipc_terms::{Binding, Family, Gid, Mode, Name, Names, NoMemory, Uid};
+use ipc_terms::{Binding, Family, Gid, Mode, Name, Names, NoMemory, Uid, page_of};
 use std::alloc::Global;
 use std::marker::Model;
 
@@ -93,7 +93,7 @@ impl NameDir {
     pub fn list(&self, alloc: Global, start: u32, count: u16) -> Result<Names, NoMemory>
         ensures { IfOk result (λ names. names ≡ page start count (bound_names self.now.bindings)) }
     {
-        let asked = listing::page_of(&self.bindings, start, count);
+        let asked = page_of(&self.bindings, u64::from(start), count);
         Ok(Names::new(listing::names_of(alloc, asked)?))
     }
 

@@ -36,7 +36,7 @@ cred_known : (c : Config) (h : History) → Legal c h → (s : ℕ) → live h s
 unfolding cred
 cred_known c h legal s k = cred_at c h s (user h s) refl (live_user c h legal s k) (known_user c h legal s)
 
-caller_known : (c : Config) (h : History) → Legal c h → (sid : Sid) (call : Call) → None ≡ verdict c h (Do sid call) → is_some (cred c h sid.0) ≡ true
+pub caller_known : (c : Config) (h : History) → Legal c h → (sid : Sid) (call : Call) → None ≡ verdict c h (Do sid call) → is_some (cred c h sid.0) ≡ true
 caller_known c h legal sid call accepted = cred_known c h legal sid.0 (caller_live c h sid call (sym accepted))
 
 -- so an accepted creation fixes what it fixes

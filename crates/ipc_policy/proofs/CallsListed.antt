@@ -136,7 +136,7 @@ not_ended_send o m (Receives w) q e = e
 not_ended_send o m (Sends v) q e = refl
 not_ended_send o m Rests q e = refl
 
-not_ended_receive : (o : ℕ) (w : Wait) (a : Act) (q : Queue) → ends_receive w a q ≡ false → ends_call w.session (record { object = o; place = w.place; kind = Receiving }) a q ≡ false
+pub not_ended_receive : (o : ℕ) (w : Wait) (a : Act) (q : Queue) → ends_receive w a q ≡ false → ends_call w.session (record { object = o; place = w.place; kind = Receiving }) a q ≡ false
 not_ended_receive o w (Withdraws s) q e = rw e refl
 not_ended_receive o w (Receives v) q e = refl
 not_ended_receive o w (Sends m) q e = e

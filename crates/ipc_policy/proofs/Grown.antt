@@ -7,7 +7,7 @@ use Rattle.ipc_policy.specs.Grow.{Grows}
 use Rattle.ipc_policy.proofs.Facts.{owner_grows, group_grows, mode_grows, facts_grow, directory_grows}
 use Rattle.ipc_policy.proofs.Holding.{held_grows, count_grows}
 use Rattle.ipc_policy.proofs.Growing.{hello_grows, user_grows, live_grows, mask_grows, is_bound_grows, creations_grow, bound_grows, made_grows, opens_grow, nonblock_grows}
-use Rattle.ipc_policy.proofs.Queueing.{queue_grows, semaphore_grows, parked_grows, outbox_grows}
+use Rattle.ipc_policy.proofs.Queueing.{queue_grows, registered_grows, semaphore_grows, parked_grows, outbox_grows}
 use Rattle.ipc_policy.proofs.Charging.{limit_grows, charge_grows, charged_grows, queues_grow}
 use Rattle.ipc_policy.proofs.Living.{named_grows, bindings_grow, names_grow, alive_grows}
 
@@ -33,6 +33,7 @@ grows c h e = record {
   count_of = count_grows h e;
   nonblock_of = nonblock_grows h e;
   queue_of = queue_grows c h e;
+  registered_to = registered_grows c h e;
   semaphore_of = semaphore_grows h e;
   parked_in = parked_grows c h e;
   named_by = named_grows h e;

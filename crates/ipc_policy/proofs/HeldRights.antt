@@ -7,7 +7,7 @@ use Rattle.ipc_terms.specs.Rules.{every_rule}
 use Rattle.ipc_terms.specs.Names.{same_family}
 use Rattle.ipc_terms.specs.Objects.{family_of, as_queue, as_semaphore}
 use Rattle.ipc_terms.specs.declared.rule.Rule.{Rule}
-use Rattle.ipc_terms.specs.declared.rule.Rule.TheVariants.{NoSession, InCall, NotInCall, BadDescr, NotForWrite, NotForRead, PrioRange, MessageLong, BufferShort, WouldBlock, Overflow}
+use Rattle.ipc_terms.specs.declared.rule.Rule.TheVariants.{NoSession, InCall, NotInCall, BadDescr, NotForWrite, NotForRead, PrioRange, MessageLong, BufferShort, NotifyTaken, WouldBlock, Overflow}
 use Rattle.ipc_terms.specs.declared.ids.Sid.{Sid}
 use Rattle.ipc_terms.specs.declared.ids.Desc.{Desc}
 use Rattle.ipc_terms.specs.declared.ids.Family.{Family}
@@ -18,7 +18,7 @@ use Rattle.ipc_terms.specs.declared.object.Kind.TheVariants.{Queue, Semaphore}
 use Rattle.ipc_terms.specs.declared.object.TheConstants.{SEM_VALUE_MAX}
 use Rattle.ipc_terms.specs.declared.call.Attributes.{Attributes}
 use Rattle.ipc_terms.specs.declared.call.Call.{Call}
-use Rattle.ipc_terms.specs.declared.call.Call.TheVariants.{MqOpen, MqClose, MqSend, MqReceive, MqGetattr, MqSetattr, SemOpen, SemClose, SemPost, SemWait, SemTryWait, SemGetvalue}
+use Rattle.ipc_terms.specs.declared.call.Call.TheVariants.{MqOpen, MqClose, MqSend, MqReceive, MqGetattr, MqSetattr, MqNotify, SemOpen, SemClose, SemPost, SemWait, SemTryWait, SemGetvalue}
 use Rattle.ipc_terms.specs.declared.record.Event.{Event}
 use Rattle.ipc_terms.specs.declared.record.Event.TheVariants.{Hello, Do, Hangup}
 use Rattle.ipc_policy.specs.declared.config.Config.{Config}
@@ -29,10 +29,11 @@ use Rattle.ipc_policy.specs.Names.{creations, bound}
 use Rattle.ipc_policy.specs.Objects.{object}
 use Rattle.ipc_policy.specs.Descriptions.{opens, held, if_of, holds, is_nonblock, ends_held}
 use Rattle.ipc_policy.specs.Queues.{Send, has_none, attributes, contents, is_full, is_empty}
+use Rattle.ipc_policy.specs.Registrations.{registered}
 use Rattle.ipc_policy.specs.Semaphores.{value, is_zero, is_greatest}
 use Rattle.ipc_policy.specs.Parking.{parked}
 use Rattle.ipc_policy.specs.Grow.{held_after}
-use Rattle.ipc_policy.specs.Rules.{is_of_family, not_held, attributes_held, described, reads_only, writes_only, is_interrupt, forbids, no_session, in_call, not_in_call, name_form, name_long, not_admin, no_user, bad_descr, not_for_write, not_for_read, dir_search, dir_read, absent, present, mode_denied, dir_write, sticky, not_owner, chown_denied, attr_range, value_range, queue_count, byte_limit, descr_limit, prio_range, message_long, buffer_short, would_block, overflow, bad_key}
+use Rattle.ipc_policy.specs.Rules.{is_of_family, not_held, attributes_held, described, reads_only, writes_only, is_interrupt, forbids, no_session, in_call, not_in_call, name_form, name_long, not_admin, no_user, bad_descr, not_for_write, not_for_read, dir_search, dir_read, absent, present, mode_denied, dir_write, sticky, not_owner, chown_denied, attr_range, value_range, queue_count, byte_limit, descr_limit, prio_range, message_long, buffer_short, notify_taken, would_block, overflow, bad_key}
 use Rattle.ipc_policy.specs.Verdict.{verdict}
 use Rattle.ipc_policy.specs.Rights.{SameObject, SameByDescription}
 use Rattle.ipc_policy.proofs.Holding.{held_below, held_grows}
@@ -141,6 +142,7 @@ by_description NotForRead = not_for_read
 by_description PrioRange = prio_range
 by_description MessageLong = message_long
 by_description BufferShort = buffer_short
+by_description NotifyTaken = notify_taken
 by_description WouldBlock = would_block
 by_description Overflow = overflow
 by_description _ = λ c h e. false
@@ -152,6 +154,7 @@ asked_no_other c h sid (MqSend desc priority bytes) named is = refl
 asked_no_other c h sid (MqReceive desc length') named is = refl
 asked_no_other c h sid (MqGetattr desc) named is = refl
 asked_no_other c h sid (MqSetattr desc nonblock) named is = refl
+asked_no_other c h sid (MqNotify desc on) named is = refl
 asked_no_other c h sid (SemClose desc) named is = refl
 asked_no_other c h sid (SemPost desc) named is = refl
 asked_no_other c h sid (SemWait desc) named is = refl
@@ -192,6 +195,12 @@ unfolding buffer_short
 buffer_alike c h k sid (MqReceive desc length') named is same = ap (there_is (λ (x : Attributes). nat_lt length' x.msgsize)) (attributes_alike c h k sid.0 desc.0 (at_desc c h k sid.0 Mq desc named is same))
 buffer_alike c h k sid call named is same = refl
 
+notify_alike : (c : Config) (h k : History) (sid : Sid) (call : Call) (named : Described) → described call ≡ Some named → SameByDescription c h k sid.0 named.desc.0 → notify_taken c h (Do sid call) ≡ notify_taken c k (Do sid call)
+unfolding notify_taken
+notify_alike c h k sid (MqNotify desc on) named is same =
+    ap (λ b. on && b) (by_held c h k sid.0 desc.0 (at_desc c h k sid.0 Mq desc named is same) (there_is (λ x. is_some (registered c h x.object))) (there_is (λ x. is_some (registered c k x.object))) refl (λ x at. at.registered))
+notify_alike c h k sid call named is same = refl
+
 block_alike : (c : Config) (h k : History) (sid : Sid) (call : Call) (named : Described) → described call ≡ Some named → SameByDescription c h k sid.0 named.desc.0 → would_block c h (Do sid call) ≡ would_block c k (Do sid call)
 unfolding would_block
 block_alike c h k sid (MqSend desc priority bytes) named is same =
@@ -223,6 +232,7 @@ forbid_alike c h k sid call named is same NotForRead = not_for_read_alike c h k 
 forbid_alike c h k sid call named is same PrioRange = prio_alike c h k sid call
 forbid_alike c h k sid call named is same MessageLong = message_alike c h k sid call named is same
 forbid_alike c h k sid call named is same BufferShort = buffer_alike c h k sid call named is same
+forbid_alike c h k sid call named is same NotifyTaken = notify_alike c h k sid call named is same
 forbid_alike c h k sid call named is same WouldBlock = block_alike c h k sid call named is same
 forbid_alike c h k sid call named is same Overflow = overflow_alike c h k sid call named is same
 forbid_alike c h k sid call named is same rule = refl

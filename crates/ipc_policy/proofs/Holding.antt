@@ -6,7 +6,7 @@ use Rattle.std.proofs.lemmas.Bool.{cases_eq, eqb-true, eq-eqb, ne_eqb, and_parts
 use Rattle.ipc_terms.specs.declared.rule.Rule.{Rule}
 use Rattle.ipc_terms.specs.declared.ids.Sid.{Sid}
 use Rattle.ipc_terms.specs.declared.ids.Desc.{Desc}
-use Rattle.ipc_terms.specs.declared.call.Call.TheVariants.{Umask, MqOpen, MqClose, MqSend, MqReceive, MqGetattr, MqSetattr, MqUnlink, SemOpen, SemClose, SemUnlink, SemPost, SemWait, SemTryWait, SemGetvalue, ListNames, StatName, Chmod, Chown, SetLimit, Interrupt}
+use Rattle.ipc_terms.specs.declared.call.Call.TheVariants.{Umask, MqOpen, MqClose, MqSend, MqReceive, MqGetattr, MqSetattr, MqNotify, MqUnlink, SemOpen, SemClose, SemUnlink, SemPost, SemWait, SemTryWait, SemGetvalue, ListNames, StatName, Chmod, Chown, SetLimit, Interrupt, Audit}
 use Rattle.ipc_terms.specs.declared.record.Event.{Event}
 use Rattle.ipc_terms.specs.declared.record.Record.{Record}
 use Rattle.ipc_terms.specs.declared.record.Event.TheVariants.{Hello, Do, Hangup}
@@ -230,6 +230,7 @@ count_grows h (Do sid (MqSend desc priority bytes)) s = count_quiet h (Do sid (M
 count_grows h (Do sid (MqReceive desc room)) s = count_quiet h (Do sid (MqReceive desc room)) s refl (held_grows h (Do sid (MqReceive desc room)))
 count_grows h (Do sid (MqGetattr desc)) s = count_quiet h (Do sid (MqGetattr desc)) s refl (held_grows h (Do sid (MqGetattr desc)))
 count_grows h (Do sid (MqSetattr desc nonblock)) s = count_quiet h (Do sid (MqSetattr desc nonblock)) s refl (held_grows h (Do sid (MqSetattr desc nonblock)))
+count_grows h (Do sid (MqNotify desc on)) s = count_quiet h (Do sid (MqNotify desc on)) s refl (held_grows h (Do sid (MqNotify desc on)))
 count_grows h (Do sid (MqUnlink name)) s = count_quiet h (Do sid (MqUnlink name)) s refl (held_grows h (Do sid (MqUnlink name)))
 count_grows h (Do sid (SemUnlink name)) s = count_quiet h (Do sid (SemUnlink name)) s refl (held_grows h (Do sid (SemUnlink name)))
 count_grows h (Do sid (SemPost desc)) s = count_quiet h (Do sid (SemPost desc)) s refl (held_grows h (Do sid (SemPost desc)))
@@ -242,4 +243,5 @@ count_grows h (Do sid (Chmod mode target)) s = count_quiet h (Do sid (Chmod mode
 count_grows h (Do sid (Chown owner group target)) s = count_quiet h (Do sid (Chown owner group target)) s refl (held_grows h (Do sid (Chown owner group target)))
 count_grows h (Do sid (SetLimit uid bytes)) s = count_quiet h (Do sid (SetLimit uid bytes)) s refl (held_grows h (Do sid (SetLimit uid bytes)))
 count_grows h (Do sid Interrupt) s = count_quiet h (Do sid Interrupt) s refl (held_grows h (Do sid Interrupt))
+count_grows h (Do sid (Audit start count)) s = count_quiet h (Do sid (Audit start count)) s refl (held_grows h (Do sid (Audit start count)))
 count_grows h (Hangup sid) s = count_left h sid s

@@ -36,3 +36,11 @@ pub mod WaitSteps
 pub mod OpenAccepted
 pub mod HeldRights
 pub mod Limiting
+pub mod Registering
+pub mod Moments
+pub mod Granting
+pub mod Tracing
+pub mod Delivering
+pub mod Bringing
+pub mod OneFate
+pub mod RegisteredSteps

@@ -9,7 +9,7 @@ use Rattle.ipc_terms.specs.declared.binding.Binding.{Binding}
 use Rattle.ipc_terms.specs.declared.ids.Family.{Family}
 use Rattle.ipc_terms.specs.declared.ids.Family.TheVariants.{Mq, Sem}
 use Rattle.ipc_terms.specs.declared.rule.Rule.{Rule}
-use Rattle.ipc_terms.specs.declared.call.Call.TheVariants.{Umask, MqOpen, MqClose, MqSend, MqReceive, MqGetattr, MqSetattr, MqUnlink, SemOpen, SemClose, SemUnlink, SemPost, SemWait, SemTryWait, SemGetvalue, ListNames, StatName, Chmod, Chown, SetLimit, Interrupt}
+use Rattle.ipc_terms.specs.declared.call.Call.TheVariants.{Umask, MqOpen, MqClose, MqSend, MqReceive, MqGetattr, MqSetattr, MqNotify, MqUnlink, SemOpen, SemClose, SemUnlink, SemPost, SemWait, SemTryWait, SemGetvalue, ListNames, StatName, Chmod, Chown, SetLimit, Interrupt, Audit}
 use Rattle.ipc_terms.specs.declared.record.Event.{Event}
 use Rattle.ipc_terms.specs.declared.record.Event.TheVariants.{Hello, Do, Hangup}
 use Rattle.ipc_policy.specs.History.{History}
@@ -89,6 +89,7 @@ listed_more h f name known (Do sid (MqSend desc priority bytes)) = known
 listed_more h f name known (Do sid (MqReceive desc room)) = known
 listed_more h f name known (Do sid (MqGetattr desc)) = known
 listed_more h f name known (Do sid (MqSetattr desc nonblock)) = known
+listed_more h f name known (Do sid (MqNotify desc on)) = known
 listed_more h f name known (Do sid (MqUnlink given)) = found_unlinked h Mq f name given known
 listed_more h f name known (Do sid (SemUnlink given)) = found_unlinked h Sem f name given known
 listed_more h f name known (Do sid (SemClose desc)) = known
@@ -102,6 +103,7 @@ listed_more h f name known (Do sid (Chmod mode target)) = known
 listed_more h f name known (Do sid (Chown owner group target)) = known
 listed_more h f name known (Do sid (SetLimit uid bytes)) = known
 listed_more h f name known (Do sid Interrupt) = known
+listed_more h f name known (Do sid (Audit start count)) = known
 listed_more h f name known (Hangup sid) = known
 
 listed_at : (h : History) (f : Family) (name : List ℕ) → found (bindings h f) name ≡ bound h f name → (e : Event) (r : Option Rule) → found (bindings (record { event = e; rule = r } ∷ h) f) name ≡ bound (record { event = e; rule = r } ∷ h) f name

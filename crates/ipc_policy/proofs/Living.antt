@@ -8,7 +8,7 @@ use Rattle.ipc_terms.specs.declared.binding.Binding.{Binding}
 use Rattle.ipc_terms.specs.declared.ids.Family.{Family}
 use Rattle.ipc_terms.specs.declared.ids.Family.TheVariants.{Mq, Sem}
 use Rattle.ipc_terms.specs.declared.rule.Rule.{Rule}
-use Rattle.ipc_terms.specs.declared.call.Call.TheVariants.{Umask, MqOpen, MqClose, MqSend, MqReceive, MqGetattr, MqSetattr, MqUnlink, SemOpen, SemClose, SemUnlink, SemPost, SemWait, SemTryWait, SemGetvalue, ListNames, StatName, Chmod, Chown, SetLimit, Interrupt}
+use Rattle.ipc_terms.specs.declared.call.Call.TheVariants.{Umask, MqOpen, MqClose, MqSend, MqReceive, MqGetattr, MqSetattr, MqNotify, MqUnlink, SemOpen, SemClose, SemUnlink, SemPost, SemWait, SemTryWait, SemGetvalue, ListNames, StatName, Chmod, Chown, SetLimit, Interrupt, Audit}
 use Rattle.ipc_terms.specs.declared.record.Event.{Event}
 use Rattle.ipc_terms.specs.declared.record.Event.TheVariants.{Hello, Do, Hangup}
 use Rattle.ipc_policy.specs.History.{History, kept, unended, listed, gathered_below, any_below}
@@ -144,6 +144,7 @@ bindings_grow h (Do sid (MqSend desc priority bytes)) f = bindings_quiet h (Do s
 bindings_grow h (Do sid (MqReceive desc room)) f = bindings_quiet h (Do sid (MqReceive desc room)) f refl (λ o. kept_all (named h o))
 bindings_grow h (Do sid (MqGetattr desc)) f = bindings_quiet h (Do sid (MqGetattr desc)) f refl (λ o. kept_all (named h o))
 bindings_grow h (Do sid (MqSetattr desc nonblock)) f = bindings_quiet h (Do sid (MqSetattr desc nonblock)) f refl (λ o. kept_all (named h o))
+bindings_grow h (Do sid (MqNotify desc on)) f = bindings_quiet h (Do sid (MqNotify desc on)) f refl (λ o. kept_all (named h o))
 bindings_grow h (Do sid (MqUnlink name)) f = bindings_unlinked h (Do sid (MqUnlink name)) Mq name refl (λ o. refl) f
 bindings_grow h (Do sid (SemUnlink name)) f = bindings_unlinked h (Do sid (SemUnlink name)) Sem name refl (λ o. refl) f
 bindings_grow h (Do sid (SemClose desc)) f = bindings_quiet h (Do sid (SemClose desc)) f refl (λ o. kept_all (named h o))
@@ -157,6 +158,7 @@ bindings_grow h (Do sid (Chmod mode target)) f = bindings_quiet h (Do sid (Chmod
 bindings_grow h (Do sid (Chown owner group target)) f = bindings_quiet h (Do sid (Chown owner group target)) f refl (λ o. kept_all (named h o))
 bindings_grow h (Do sid (SetLimit uid bytes)) f = bindings_quiet h (Do sid (SetLimit uid bytes)) f refl (λ o. kept_all (named h o))
 bindings_grow h (Do sid Interrupt) f = bindings_quiet h (Do sid Interrupt) f refl (λ o. kept_all (named h o))
+bindings_grow h (Do sid (Audit start count)) f = bindings_quiet h (Do sid (Audit start count)) f refl (λ o. kept_all (named h o))
 bindings_grow h (Hangup sid) f = bindings_quiet h (Hangup sid) f refl (λ o. kept_all (named h o))
 
 -- the names alone
@@ -182,6 +184,7 @@ names_grow h (Do sid (MqSend desc priority bytes)) f = ap (map (λ (b : Binding)
 names_grow h (Do sid (MqReceive desc room)) f = ap (map (λ (b : Binding). b.name)) (bindings_grow h (Do sid (MqReceive desc room)) f)
 names_grow h (Do sid (MqGetattr desc)) f = ap (map (λ (b : Binding). b.name)) (bindings_grow h (Do sid (MqGetattr desc)) f)
 names_grow h (Do sid (MqSetattr desc nonblock)) f = ap (map (λ (b : Binding). b.name)) (bindings_grow h (Do sid (MqSetattr desc nonblock)) f)
+names_grow h (Do sid (MqNotify desc on)) f = ap (map (λ (b : Binding). b.name)) (bindings_grow h (Do sid (MqNotify desc on)) f)
 names_grow h (Do sid (MqUnlink name)) f = ap (map (λ (b : Binding). b.name)) (bindings_grow h (Do sid (MqUnlink name)) f) ∙ names_filtered Mq f name (bindings h f)
 names_grow h (Do sid (SemUnlink name)) f = ap (map (λ (b : Binding). b.name)) (bindings_grow h (Do sid (SemUnlink name)) f) ∙ names_filtered Sem f name (bindings h f)
 names_grow h (Do sid (SemClose desc)) f = ap (map (λ (b : Binding). b.name)) (bindings_grow h (Do sid (SemClose desc)) f)
@@ -195,6 +198,7 @@ names_grow h (Do sid (Chmod mode target)) f = ap (map (λ (b : Binding). b.name)
 names_grow h (Do sid (Chown owner group target)) f = ap (map (λ (b : Binding). b.name)) (bindings_grow h (Do sid (Chown owner group target)) f)
 names_grow h (Do sid (SetLimit uid bytes)) f = ap (map (λ (b : Binding). b.name)) (bindings_grow h (Do sid (SetLimit uid bytes)) f)
 names_grow h (Do sid Interrupt) f = ap (map (λ (b : Binding). b.name)) (bindings_grow h (Do sid Interrupt) f)
+names_grow h (Do sid (Audit start count)) f = ap (map (λ (b : Binding). b.name)) (bindings_grow h (Do sid (Audit start count)) f)
 names_grow h (Hangup sid) f = ap (map (λ (b : Binding). b.name)) (bindings_grow h (Hangup sid) f)
 
 -- which objects are alive

@@ -109,11 +109,11 @@ stays_live c h (Hello found) s p keeps now = or_true (eqb (hellos h) s) (live h 
 stays_live c h (Do sid call) s p keeps now = now
 stays_live c h (Hangup sid) s p keeps now = let other = another_hangup s p sid (queue c h p.object) keeps in rw (other, now) refl
 
-if_of_is : (s d : ℕ) (h : History) (x : Held) → holds h s d ≡ Some x → if_of s x ≡ Some x
+pub if_of_is : (s d : ℕ) (h : History) (x : Held) → holds h s d ≡ Some x → if_of s x ≡ Some x
 unfolding holds
 if_of_is s d h x e = let now : held h d ≡ Some x = holds_is_held h s d x e in rw now at e
 
-session_is : (s : ℕ) (x : Held) → if_of s x ≡ Some x → x.session.0 ≡ s
+pub session_is : (s : ℕ) (x : Held) → if_of s x ≡ Some x → x.session.0 ≡ s
 session_is s x e = at (eqb x.session.0 s) refl e where
   at : (b : Bool) → eqb x.session.0 s ≡ b → cond b (Some x) None ≡ Some x → x.session.0 ≡ s
   at true q k = eqb-true _ _ q
@@ -141,7 +141,7 @@ unfolding holds
 holds_on h s d x e now keeps = ap (option_and_then (if_of s)) (held_grows h e d ∙ held_on h d x e (holds_is_held h s d x now) keeps) ∙ if_of_is s d h x now
 
 -- a parked session closes nothing
-not_closed : (c : Config) (h : History) (e : Event) (s d : ℕ) (x : Held) (p : Parked) → None ≡ verdict c h e → parked c h s ≡ Some p → ends_parked c s p e h ≡ false → x.session.0 ≡ s → ends_held d x e ≡ false
+pub not_closed : (c : Config) (h : History) (e : Event) (s d : ℕ) (x : Held) (p : Parked) → None ≡ verdict c h e → parked c h s ≡ Some p → ends_parked c s p e h ≡ false → x.session.0 ≡ s → ends_held d x e ≡ false
 not_closed c h (Do sid (MqClose desc)) s d x p legal k keeps mine =
     let other : eqb sid.0 s ≡ false = another_call c h sid (MqClose desc) s legal refl (ap is_some k) in
     let other' : eqb sid.0 x.session.0 ≡ false = subst (λ (n : ℕ). eqb sid.0 n ≡ false) (sym mine) other in

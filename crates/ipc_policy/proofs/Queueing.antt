@@ -1,4 +1,4 @@
--- What one accepted event does to a queue, to a semaphore, to a session's parked call, and to its answers.
+-- What one accepted event does to a queue, to its registration, to a semaphore, to a session's parked call, and to its answers.
 use Rattle.std.proofs.Common.{◌≡◌, ℕ, ◌++◌, ◌∷◌, [], length, cond, Option, Some, None, refl, sym, ap, ◌∙◌}
 use Rattle.std.specs.Option.{option_or}
 use Rattle.ipc_terms.specs.Objects.{value_asked}
@@ -12,8 +12,9 @@ use Rattle.ipc_policy.specs.Descriptions.{holds}
 use Rattle.ipc_policy.specs.Queues.{act_by, queue, queue_after, room, attributes, is_full, is_empty}
 use Rattle.ipc_policy.specs.Names.{is_bound, creations}
 use Rattle.ipc_policy.specs.Semaphores.{semaphore_act, semaphore_act_by, gives_value, with_first, semaphore_after, semaphore, is_zero}
+use Rattle.ipc_policy.specs.Registrations.{registered}
 use Rattle.ipc_policy.specs.Parking.{parked}
-use Rattle.ipc_policy.specs.Grow.{live_after, first_value, parked_after}
+use Rattle.ipc_policy.specs.Grow.{live_after, first_value, registered_after, parked_after}
 use Rattle.ipc_policy.specs.Verdict.{verdict, caller, answers, answers_at, for_session, outbox}
 use Rattle.ipc_policy.proofs.Growing.{live_grows, made_grows}
 
@@ -35,6 +36,10 @@ semaphore_grows h e o = ap (λ v. with_first v (semaphore_after (semaphore_act o
 pub refused_semaphore : (h : History) (e : Event) (rule : Rule) (o : ℕ) → semaphore (record { event = e; rule = Some rule } ∷ h) o ≡ semaphore h o
 unfolding semaphore
 refused_semaphore h e rule o = refl
+
+pub registered_grows : (c : Config) (h : History) (e : Event) (o : ℕ) → registered c (record { event = e; rule = None } ∷ h) o ≡ registered_after o e (length h) (holds h) (queue c h o) (registered c h o)
+unfolding registered
+registered_grows c h e o = refl
 
 pub parked_grows : (c : Config) (h : History) (e : Event) (s : ℕ) → parked c (record { event = e; rule = None } ∷ h) s ≡ parked_after s e (length h) (holds h) (is_full c h) (is_empty c h) (is_zero c h) (queue c h) (semaphore h) (parked c h s)
 unfolding parked

@@ -2,7 +2,7 @@
 use Rattle.std.proofs.Common.{◌≡◌, refl}
 use Rattle.ipc_terms.specs.declared.rule.Rule.{Rule}
 use Rattle.ipc_terms.specs.declared.ids.Target.TheVariants.{Dir, Name}
-use Rattle.ipc_terms.specs.declared.call.Call.TheVariants.{Umask, MqOpen, MqClose, MqSend, MqReceive, MqGetattr, MqSetattr, MqUnlink, SemOpen, SemClose, SemUnlink, SemPost, SemWait, SemTryWait, SemGetvalue, ListNames, StatName, Chmod, Chown, SetLimit, Interrupt}
+use Rattle.ipc_terms.specs.declared.call.Call.TheVariants.{Umask, MqOpen, MqClose, MqSend, MqReceive, MqGetattr, MqSetattr, MqNotify, MqUnlink, SemOpen, SemClose, SemUnlink, SemPost, SemWait, SemTryWait, SemGetvalue, ListNames, StatName, Chmod, Chown, SetLimit, Interrupt, Audit}
 use Rattle.ipc_terms.specs.declared.record.Event.{Event}
 use Rattle.ipc_terms.specs.declared.record.Event.TheVariants.{Hello, Do, Hangup}
 use Rattle.ipc_policy.specs.declared.config.Config.{Config}
@@ -13,15 +13,16 @@ use Rattle.ipc_policy.specs.Objects.{object, owner, group, mode, facts, director
 use Rattle.ipc_policy.specs.Descriptions.{opens, held, holds, held_count, is_nonblock}
 use Rattle.ipc_policy.specs.Life.{named, bindings, names, alive}
 use Rattle.ipc_policy.specs.Queues.{queue}
+use Rattle.ipc_policy.specs.Registrations.{registered}
 use Rattle.ipc_policy.specs.Semaphores.{semaphore, value}
 use Rattle.ipc_policy.specs.Parking.{parked}
 use Rattle.ipc_policy.specs.Charges.{charge_of, charged, queues_alive, limit}
-use Rattle.ipc_policy.specs.Rules.{forbids, no_session, in_call, not_in_call, name_form, name_long, not_admin, no_user, bad_descr, not_for_write, not_for_read, dir_search, dir_read, absent, present, mode_denied, dir_write, sticky, not_owner, chown_denied, attr_range, value_range, queue_count, byte_limit, descr_limit, prio_range, message_long, buffer_short, would_block, overflow, bad_key}
+use Rattle.ipc_policy.specs.Rules.{forbids, no_session, in_call, not_in_call, name_form, name_long, not_admin, no_user, bad_descr, not_for_write, not_for_read, dir_search, dir_read, absent, present, mode_denied, dir_write, sticky, not_owner, chown_denied, attr_range, value_range, queue_count, byte_limit, descr_limit, prio_range, message_long, buffer_short, notify_taken, would_block, overflow, bad_key}
 use Rattle.ipc_policy.specs.Verdict.{verdict}
 use Rattle.ipc_policy.specs.Laws.{SameValues}
 
 same_verdict : (c : Config) (h : History) (e' : Event) (rule : Rule) (e : Event) → verdict c (after_refused h e' rule) e ≡ verdict c h e
-unfolding user live cred is_bound creating creations bound object owner group mode facts directory_owner directory_group directory_mode directory opens held holds held_count is_nonblock named alive charge_of charged queues_alive limit queue semaphore value parked verdict forbids no_session in_call not_in_call name_form name_long not_admin no_user bad_descr not_for_write not_for_read dir_search dir_read absent present mode_denied dir_write sticky not_owner chown_denied attr_range value_range queue_count byte_limit descr_limit prio_range message_long buffer_short would_block overflow bad_key
+unfolding user live cred is_bound creating creations bound object owner group mode facts directory_owner directory_group directory_mode directory opens held holds held_count is_nonblock named alive charge_of charged queues_alive limit queue registered semaphore value parked verdict forbids no_session in_call not_in_call name_form name_long not_admin no_user bad_descr not_for_write not_for_read dir_search dir_read absent present mode_denied dir_write sticky not_owner chown_denied attr_range value_range queue_count byte_limit descr_limit prio_range message_long buffer_short notify_taken would_block overflow bad_key
 same_verdict c h e' rule (Hello found) = refl
 same_verdict c h e' rule (Do sid (Umask mode')) = refl
 same_verdict c h e' rule (Do sid (MqOpen asked)) = refl
@@ -30,6 +31,7 @@ same_verdict c h e' rule (Do sid (MqSend desc priority bytes)) = refl
 same_verdict c h e' rule (Do sid (MqReceive desc length')) = refl
 same_verdict c h e' rule (Do sid (MqGetattr desc)) = refl
 same_verdict c h e' rule (Do sid (MqSetattr desc nonblock)) = refl
+same_verdict c h e' rule (Do sid (MqNotify desc on)) = refl
 same_verdict c h e' rule (Do sid (MqUnlink name)) = refl
 same_verdict c h e' rule (Do sid (SemOpen asked)) = refl
 same_verdict c h e' rule (Do sid (SemClose desc)) = refl
@@ -47,10 +49,11 @@ same_verdict c h e' rule (Do sid (Chown owner' group' (Dir family))) = refl
 same_verdict c h e' rule (Do sid (Chown owner' group' (Name family name))) = refl
 same_verdict c h e' rule (Do sid (SetLimit uid bytes)) = refl
 same_verdict c h e' rule (Do sid Interrupt) = refl
+same_verdict c h e' rule (Do sid (Audit start count)) = refl
 same_verdict c h e' rule (Hangup sid) = refl
 
 pub same_values : (c : Config) (h : History) (e : Event) (rule : Rule) → SameValues c (after_refused h e rule) h
-unfolding hellos user live cred mask is_bound bound creations object owner group mode facts directory_owner directory_group directory_mode directory opens held holds held_count is_nonblock named bindings names alive charge_of charged queues_alive limit queue semaphore value parked
+unfolding hellos user live cred mask is_bound bound creations object owner group mode facts directory_owner directory_group directory_mode directory opens held holds held_count is_nonblock named bindings names alive charge_of charged queues_alive limit queue registered semaphore value parked
 same_values c h e rule = record {
   hellos = refl;
   user = λ s. refl;
@@ -80,6 +83,7 @@ same_values c h e rule = record {
   charged = λ u. refl;
   queues_alive = refl;
   queue = λ o. refl;
+  registered = λ o. refl;
   semaphore = λ o. refl;
   value = λ o. refl;
   parked = λ s. refl;

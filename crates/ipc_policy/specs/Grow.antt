@@ -18,6 +18,7 @@ use Rattle.ipc_terms.specs.declared.facts.Facts.{Facts}
 use Rattle.ipc_access.specs.declared.class.Cred.{Cred}
 use Rattle.ipc_policy.specs.declared.config.Config.{Config}
 use Rattle.ipc_policy.specs.declared.config.Held.{Held}
+use Rattle.ipc_policy.specs.declared.config.Registration.{Registration}
 use Rattle.ipc_policy.specs.History.{History, after_accepted, kept, any_below, how_many_below, sum_below}
 use Rattle.ipc_policy.specs.Sessions.{hellos, user, live, cred, mask}
 use Rattle.ipc_policy.specs.Names.{Opening, Naming, opening, nonblock_asked, unlinking, unlinks, asks_name, is_bound, creations, bound}
@@ -28,6 +29,7 @@ pub use Rattle.ipc_policy.specs.Queues.{act_by}
 use Rattle.ipc_policy.specs.Queues.{Queue, queue, queue_after, room, attributes, is_full, is_empty}
 pub use Rattle.ipc_policy.specs.Semaphores.{semaphore_act_by}
 use Rattle.ipc_policy.specs.Semaphores.{Semaphore, semaphore, semaphore_after, with_first, is_zero}
+use Rattle.ipc_policy.specs.Registrations.{registers, ends_registration, registered}
 use Rattle.ipc_policy.specs.Parking.{Parked, parks_by, is_posted, ends_call, parked}
 use Rattle.ipc_policy.specs.Charges.{is_queue_alive, charge, charge_of, charged, queues_alive, limit}
 use Rattle.ipc_policy.specs.Verdict.{answers, for_session, outbox}
@@ -182,6 +184,11 @@ abbrev pub parked_after : ℕ → Event → ℕ → (ℕ → ℕ → Option Held
 parked_after s e place holds full empty zero queue semaphore was =
     option_or (parks_by place holds full empty zero s e) (kept (λ p. is_posted (semaphore_act_by place holds p.object e) p.kind p.place (semaphore p.object) || ends_call s p (act_by place holds p.object e) (queue p.object)) was)
 
+-- the registration that a notify begins, or else the one that there was, unless the event ends it
+abbrev pub registered_after : ℕ → Event → ℕ → (ℕ → ℕ → Option Held) → Queue → Option Registration → Option Registration
+registered_after o e place holds queue was =
+    option_or (registers holds o e) (kept (λ x. ends_registration x e (act_by place holds o e) queue) was)
+
 -- each value after an accepted event, by the values before it
 pub record Grows (c : Config) (h k : History) (e : Event) : Type 0 where
   pub hello_count : hellos k ≡ hellos_after e (hellos h)
@@ -202,6 +209,7 @@ pub record Grows (c : Config) (h k : History) (e : Event) : Type 0 where
   pub count_of : (s : ℕ) → held_count k s ≡ held_count_after s e (bound h) (creations h) (holds h) (held_count h s)
   pub nonblock_of : (s d : ℕ) → is_nonblock k s d ≡ nonblock_after s d e (opens h) (is_nonblock h s d)
   pub queue_of : (o : ℕ) → queue c k o ≡ queue_after (room (attributes c h o)) (act_by (length h) (holds h) o e) (queue c h o)
+  pub registered_to : (o : ℕ) → registered c k o ≡ registered_after o e (length h) (holds h) (queue c h o) (registered c h o)
   pub semaphore_of : (o : ℕ) → semaphore k o ≡ with_first (first_value o e (is_bound h) (creations h)) (semaphore_after (semaphore_act_by (length h) (holds h) o e) (semaphore h o))
   pub parked_in : (s : ℕ) → parked c k s ≡ parked_after s e (length h) (holds h) (is_full c h) (is_empty c h) (is_zero c h) (queue c h) (semaphore h) (parked c h s)
   pub named_by : (o : ℕ) → named k o ≡ named_after o e (is_bound h) (creations h) (named h o)

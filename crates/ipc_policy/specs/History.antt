@@ -3,7 +3,7 @@
 -- that says something about it say; what did the newest one begin, unless a later one ended it;
 -- and how many accepted events are of a kind. Queues alone are asked event by event.
 -- Refused events say, begin and end nothing.
-use Rattle.std.specs.Prelude.{Bool, false, ℕ, zero, suc, ◌+◌, ◌&&◌, ◌||◌, List, [], ◌∷◌, ◌++◌, Option, Some, None, is_none, if◌then◌else◌}
+use Rattle.std.specs.Prelude.{Bool, false, ℕ, zero, suc, ◌+◌, ◌&&◌, ◌||◌, ◌==◌, List, [], ◌∷◌, ◌++◌, length, Option, Some, None, is_none, if◌then◌else◌}
 use Rattle.std.specs.Option.{option_or}
 pub use Rattle.ipc_terms.specs.History.{History, record_at}
 use Rattle.ipc_terms.specs.declared.rule.Rule.{Rule}
@@ -20,6 +20,11 @@ after_accepted h e = record { event = e; rule = None } ∷ h
 -- the history with one more event, which the rule refuses
 abbrev pub after_refused : History → Event → Rule → History
 after_refused h e rule = record { event = e; rule = Some rule } ∷ h
+
+-- what came before the record of a place
+abbrev pub before_at : ℕ → History → History
+before_at place [] = []
+before_at place (r ∷ before) = if length before == place then before else before_at place before
 
 -- what the newest accepted event that says something says; an event is read with what came before it
 abbrev pub newest : {A : Type 0} → (Event → History → Option A) → History → Option A

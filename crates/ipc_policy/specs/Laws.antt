@@ -18,6 +18,7 @@ use Rattle.ipc_policy.specs.Objects.{object, owner, group, mode, facts, director
 use Rattle.ipc_policy.specs.Descriptions.{opens, held, holds, held_count, is_nonblock}
 use Rattle.ipc_policy.specs.Life.{named, bindings, names, alive}
 use Rattle.ipc_policy.specs.Queues.{Queue, has_none, queue, maxmsg, senders, receivers}
+use Rattle.ipc_policy.specs.Registrations.{registered}
 use Rattle.ipc_policy.specs.Semaphores.{Semaphore, semaphore, value, waiters}
 use Rattle.ipc_policy.specs.Parking.{ParkedKind, Sending, Receiving, Waiting, Parked, parked}
 use Rattle.ipc_policy.specs.Charges.{charge_of, charged, queues_alive, sets_limit, limit}
@@ -66,6 +67,7 @@ pub record SameValues (c : Config) (h k : History) : Type 0 where
   pub charged : (u : Uid) → charged c h u ≡ charged c k u
   pub queues_alive : queues_alive c h ≡ queues_alive c k
   pub queue : (o : ℕ) → queue c h o ≡ queue c k o
+  pub registered : (o : ℕ) → registered c h o ≡ registered c k o
   pub semaphore : (o : ℕ) → semaphore h o ≡ semaphore k o
   pub value : (o : ℕ) → value h o ≡ value k o
   pub parked : (s : ℕ) → parked c h s ≡ parked c k s

@@ -5,6 +5,7 @@ pub mod Objects
 pub mod Descriptions
 pub mod Life
 pub mod Queues
+pub mod Registrations
 pub mod Semaphores
 pub mod Parking
 pub mod Charges
@@ -14,3 +15,6 @@ pub mod Readings
 pub mod Laws
 pub mod Grow
 pub mod Rights
+pub mod Deliveries
+pub mod Confined
+pub mod Fates

@@ -15,6 +15,7 @@ use Rattle.ipc_policy.specs.Sessions.{live}
 use Rattle.ipc_policy.specs.Objects.{object}
 use Rattle.ipc_policy.specs.Descriptions.{holds, is_nonblock, ends_held}
 use Rattle.ipc_policy.specs.Queues.{attributes, contents}
+use Rattle.ipc_policy.specs.Registrations.{registered}
 use Rattle.ipc_policy.specs.Semaphores.{value}
 use Rattle.ipc_policy.specs.Parking.{parked}
 use Rattle.ipc_policy.specs.Rules.{described}
@@ -27,10 +28,12 @@ HeldOutlives =
     (h : History) (e : Event) (s d : ℕ) (x : Held) →
     holds h s d ≡ Some x → ends_held d x e ≡ false → holds (after_accepted h e) s d ≡ Some x
 
--- object o is alike in both histories: its family, its attributes, how many messages it has, and its value
+-- object o is alike in both histories: its family, its attributes, whether it has a registration, how many messages it
+-- has, and its value
 pub record SameObject (c : Config) (h k : History) (o : ℕ) : Type 0 where
   pub family : option_map (λ x. family_of x.kind) (object c h o) ≡ option_map (λ x. family_of x.kind) (object c k o)
   pub attributes : attributes c h o ≡ attributes c k o
+  pub registered : is_some (registered c h o) ≡ is_some (registered c k o)
   pub messages : length (contents c h o) ≡ length (contents c k o)
   pub value : value h o ≡ value k o
 

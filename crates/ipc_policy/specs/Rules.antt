@@ -5,7 +5,7 @@ use Rattle.ipc_terms.specs.Flags.{has_create, has_exclusive}
 use Rattle.ipc_terms.specs.Objects.{family_of, of_queue, as_queue, attributes_asked, value_asked}
 use Rattle.ipc_terms.specs.Names.{same_family, has_name_form, is_long_name}
 use Rattle.ipc_terms.specs.declared.rule.Rule.{Rule}
-use Rattle.ipc_terms.specs.declared.rule.Rule.TheVariants.{NoSession, InCall, NotInCall, NameForm, NameLong, NotAdmin, NoUser, BadDescr, NotForWrite, NotForRead, DirSearch, DirRead, Absent, Present, ModeDenied, DirWrite, Sticky, NotOwner, ChownDenied, AttrRange, ValueRange, QueueCount, ByteLimit, DescrLimit, PrioRange, MessageLong, BufferShort, WouldBlock, Overflow, BadKey}
+use Rattle.ipc_terms.specs.declared.rule.Rule.TheVariants.{NoSession, InCall, NotInCall, NameForm, NameLong, NotAdmin, NoUser, BadDescr, NotForWrite, NotForRead, DirSearch, DirRead, Absent, Present, ModeDenied, DirWrite, Sticky, NotOwner, ChownDenied, AttrRange, ValueRange, QueueCount, ByteLimit, DescrLimit, PrioRange, MessageLong, BufferShort, NotifyTaken, WouldBlock, Overflow, BadKey}
 use Rattle.ipc_terms.specs.declared.ids.Uid.{Uid}
 use Rattle.ipc_terms.specs.declared.ids.Family.{Family}
 use Rattle.ipc_terms.specs.declared.ids.Family.TheVariants.{Mq, Sem}
@@ -13,7 +13,7 @@ use Rattle.ipc_terms.specs.declared.call.Access.{Access}
 use Rattle.ipc_terms.specs.declared.call.Access.TheVariants.{Read, Write, Both}
 use Rattle.ipc_terms.specs.declared.call.Attributes.{Attributes}
 use Rattle.ipc_terms.specs.declared.call.Call.{Call}
-use Rattle.ipc_terms.specs.declared.call.Call.TheVariants.{MqClose, MqSend, MqReceive, MqGetattr, MqSetattr, SemClose, SemPost, SemWait, SemTryWait, SemGetvalue, ListNames, Chmod, Chown, SetLimit, Interrupt}
+use Rattle.ipc_terms.specs.declared.call.Call.TheVariants.{MqClose, MqSend, MqReceive, MqGetattr, MqSetattr, MqNotify, SemClose, SemPost, SemWait, SemTryWait, SemGetvalue, ListNames, Chmod, Chown, SetLimit, Interrupt, Audit}
 use Rattle.ipc_terms.specs.declared.record.Event.{Event}
 use Rattle.ipc_terms.specs.declared.record.Event.TheVariants.{Hello, Do, Hangup}
 use Rattle.ipc_access.specs.declared.class.Cred.{Cred}
@@ -34,6 +34,7 @@ use Rattle.ipc_policy.specs.Names.{opening, unlinking, naming, is_bound, creatin
 use Rattle.ipc_policy.specs.Objects.{object, kind_of, facts, directory, facts_meant}
 use Rattle.ipc_policy.specs.Descriptions.{holds, held_count, is_nonblock}
 pub use Rattle.ipc_policy.specs.Queues.{is_full, is_empty}
+use Rattle.ipc_policy.specs.Registrations.{registered}
 pub use Rattle.ipc_policy.specs.Semaphores.{is_zero, is_greatest}
 use Rattle.ipc_policy.specs.Parking.{parked}
 pub use Rattle.ipc_policy.specs.Charges.{bytes_of, charged, queues_alive, limit}
@@ -108,6 +109,7 @@ described (MqSend desc priority bytes) = Some (record { family = Mq; desc = desc
 described (MqReceive desc length') = Some (record { family = Mq; desc = desc })
 described (MqGetattr desc) = Some (record { family = Mq; desc = desc })
 described (MqSetattr desc nonblock) = Some (record { family = Mq; desc = desc })
+described (MqNotify desc on) = Some (record { family = Mq; desc = desc })
 described (SemClose desc) = Some (record { family = Sem; desc = desc })
 described (SemPost desc) = Some (record { family = Sem; desc = desc })
 described (SemWait desc) = Some (record { family = Sem; desc = desc })
@@ -154,9 +156,10 @@ name_form c h e = there_is (λ what. not (has_name_form what.name)) (naming e)
 unfoldable pub name_long : Config → History → Event → Bool
 name_long c h e = there_is (λ what. is_long_name what.family what.name) (naming e)
 
--- 6: a SetLimit, by another than user 0
+-- 6: a SetLimit or an Audit, by another than user 0
 unfoldable pub not_admin : Config → History → Event → Bool
 not_admin c h (Do sid (SetLimit uid bytes)) = is_not_admin (cred c h sid.0)
+not_admin c h (Do sid (Audit start count)) = is_not_admin (cred c h sid.0)
 not_admin c h _ = false
 
 -- 7: a SetLimit of no user of the file
@@ -260,6 +263,11 @@ unfoldable pub buffer_short : Config → History → Event → Bool
 buffer_short c h (Do sid (MqReceive desc length')) = there_is (λ x. nat_lt length' x.msgsize) (attributes_held c h sid.0 desc.0)
 buffer_short c h _ = false
 
+-- 28: a notify on, and the queue has a registration
+unfoldable pub notify_taken : Config → History → Event → Bool
+notify_taken c h (Do sid (MqNotify desc on)) = on && there_is (λ x. is_some (registered c h x.object)) (holds h sid.0 desc.0)
+notify_taken c h _ = false
+
 -- 29: a send to a full queue, or a receive from an empty one, by a description with NONBLOCK; a trywait at 0
 unfoldable pub would_block : Config → History → Event → Bool
 would_block c h (Do sid (MqSend desc priority bytes)) = is_nonblock h sid.0 desc.0 && there_is (λ x. is_full c h x.object) (holds h sid.0 desc.0)
@@ -277,7 +285,7 @@ unfoldable pub bad_key : Config → History → Event → Bool
 bad_key c h (Hello found) = is_none (option_and_then (cred_of c.users) found)
 bad_key c h _ = false
 
--- whether the rule forbids the event after the history; a rule that is not named here forbids nothing yet
+-- whether the rule forbids the event after the history
 unfoldable pub forbids : Rule → Config → History → Event → Bool
 forbids NoSession = no_session
 forbids InCall = in_call
@@ -306,7 +314,7 @@ forbids DescrLimit = descr_limit
 forbids PrioRange = prio_range
 forbids MessageLong = message_long
 forbids BufferShort = buffer_short
+forbids NotifyTaken = notify_taken
 forbids WouldBlock = would_block
 forbids Overflow = overflow
 forbids BadKey = bad_key
-forbids _ = λ c h e. false

@@ -5,21 +5,24 @@ use Rattle.ipc_terms.specs.Lists.{first}
 use Rattle.ipc_terms.specs.Rules.{every_rule}
 use Rattle.ipc_terms.specs.declared.rule.Rule.{Rule}
 use Rattle.ipc_terms.specs.Pages.{page}
+use Rattle.ipc_terms.specs.Lines.{lines}
 use Rattle.ipc_terms.specs.declared.ids.Sid.{Sid}
 use Rattle.ipc_terms.specs.declared.facts.Facts.{Facts}
 use Rattle.ipc_terms.specs.declared.call.Answer.{Answer}
-use Rattle.ipc_terms.specs.declared.call.Answer.TheVariants.{Started, Done, Opened, Mask, Sent, Received, Attrs, Value, Names, Stat, Refused, Interrupted}
-use Rattle.ipc_terms.specs.declared.call.Call.TheVariants.{Umask, MqOpen, MqClose, MqSend, MqReceive, MqGetattr, MqSetattr, MqUnlink, SemOpen, SemClose, SemUnlink, SemPost, SemWait, SemTryWait, SemGetvalue, ListNames, StatName, Chmod, Chown, SetLimit, Interrupt}
+use Rattle.ipc_terms.specs.declared.call.Answer.TheVariants.{Started, Done, Opened, Mask, Sent, Received, Attrs, Value, Names, Stat, Records, Notice, Refused, Interrupted}
+use Rattle.ipc_terms.specs.declared.call.Call.TheVariants.{Umask, MqOpen, MqClose, MqSend, MqReceive, MqGetattr, MqSetattr, MqNotify, MqUnlink, SemOpen, SemClose, SemUnlink, SemPost, SemWait, SemTryWait, SemGetvalue, ListNames, StatName, Chmod, Chown, SetLimit, Interrupt, Audit}
 use Rattle.ipc_terms.specs.declared.record.Event.{Event}
 use Rattle.ipc_terms.specs.declared.record.Event.TheVariants.{Hello, Do, Hangup}
 use Rattle.ipc_policy.specs.declared.config.Config.{Config}
 use Rattle.ipc_policy.specs.History.{History}
 use Rattle.ipc_policy.specs.Sessions.{hellos, live, mask}
 use Rattle.ipc_policy.specs.declared.config.Held.{Held}
+use Rattle.ipc_policy.specs.declared.config.Registration.{Registration}
 use Rattle.ipc_terms.specs.declared.call.Attributes.{Attributes}
 pub use Rattle.ipc_policy.specs.Objects.{facts_meant}
 use Rattle.ipc_policy.specs.Descriptions.{opens, holds, is_nonblock}
-use Rattle.ipc_policy.specs.Queues.{Send, Wait, attributes, next, contents, senders, receivers, is_full}
+use Rattle.ipc_policy.specs.Queues.{Send, Wait, attributes, next, queue, contents, senders, receivers, is_full}
+use Rattle.ipc_policy.specs.Registrations.{is_idle, registered}
 use Rattle.ipc_policy.specs.Semaphores.{value, waiters, is_zero}
 use Rattle.ipc_policy.specs.Life.{names}
 use Rattle.ipc_policy.specs.Rules.{forbids}
@@ -48,10 +51,18 @@ abbrev pub let_in : Option Send → List (Sid × Answer)
 let_in None = []
 let_in (Some m) = (record { 0 = m.session }, Sent) ∷ []
 
--- a send that parks is not answered yet; else the sender is, and then the longest parked receive gets the message
+-- the session that is registered is told of the message, where there is one
+abbrev pub noticed : Option Registration → List (Sid × Answer)
+noticed None = []
+noticed (Some x) = (x.session, Notice x.desc) ∷ []
+
+-- a send that parks is not answered yet; else the sender is, and then the longest parked receive gets the message; where
+-- none is parked and the queue is empty, the session that is registered is told
 abbrev pub send_answers : Config → History → Sid → ℕ → List ℕ → ℕ → List (Sid × Answer)
 send_answers c h sid priority bytes o =
-    if is_full c h o then [] else (sid, Sent) ∷ given priority bytes (first (receivers c h o))
+    if is_full c h o
+    then []
+    else (sid, Sent) ∷ given priority bytes (first (receivers c h o)) ++ (if is_idle (queue c h o) then noticed (registered c h o) else [])
 
 -- a session takes a message, and then the sender that it lets in is told
 abbrev pub received : Sid → Option Send → Option Send → List (Sid × Answer)
@@ -100,6 +111,7 @@ accepted_answers c h (Do sid (MqSend desc priority bytes)) = answers_of (holds h
 accepted_answers c h (Do sid (MqReceive desc length')) = answers_of (holds h sid.0 desc.0) (receive_answers c h sid)
 accepted_answers c h (Do sid (MqGetattr desc)) = attributes_told c h sid desc.0
 accepted_answers c h (Do sid (MqSetattr desc nonblock)) = attributes_told c h sid desc.0
+accepted_answers c h (Do sid (MqNotify desc on)) = (sid, Done) ∷ []
 accepted_answers c h (Do sid (MqUnlink name)) = (sid, Done) ∷ []
 accepted_answers c h (Do sid (SemOpen asked)) = (sid, Opened (record { 0 = opens h })) ∷ []
 accepted_answers c h (Do sid (SemClose desc)) = (sid, Done) ∷ []
@@ -113,6 +125,7 @@ accepted_answers c h (Do sid (StatName target)) = told sid (facts_meant c h targ
 accepted_answers c h (Do sid (Chmod mode target)) = (sid, Done) ∷ []
 accepted_answers c h (Do sid (Chown owner group target)) = (sid, Done) ∷ []
 accepted_answers c h (Do sid (SetLimit uid bytes)) = (sid, Done) ∷ []
+accepted_answers c h (Do sid (Audit start count)) = (sid, Records (page start count (lines h))) ∷ []
 accepted_answers c h (Do sid Interrupt) = (sid, Interrupted) ∷ (sid, Done) ∷ []
 accepted_answers c h (Hangup sid) = []
 

@@ -142,7 +142,8 @@ pub fn description_of(call: &Call) -> Option<Described>
         | Call::MqSend { desc, .. }
         | Call::MqReceive { desc, .. }
         | Call::MqGetattr(desc)
-        | Call::MqSetattr { desc, .. } => (Family::Mq, *desc),
+        | Call::MqSetattr { desc, .. }
+        | Call::MqNotify { desc, .. } => (Family::Mq, *desc),
         Call::SemClose(desc)
         | Call::SemPost(desc)
         | Call::SemWait(desc)

@@ -1,7 +1,7 @@
 //! What the policy speaks of, beside events and records.
 
 use ipc_access::Users;
-use ipc_terms::{Access, Sid};
+use ipc_terms::{Access, Desc, Sid};
 
 /// The descriptions that a session may hold at a time.
 pub const DESCRIPTIONS_MAX: usize = 1024;
@@ -45,6 +45,13 @@ impl Limits {
 pub struct Config {
     pub users: Users,
     pub limits: Limits,
+}
+
+/// Which session gets the notice of a queue, and by which description it asked.
+#[derive(Clone, Copy)]
+pub struct Registration {
+    pub session: Sid,
+    pub desc: Desc,
 }
 
 /// What a description gives, and to which session.

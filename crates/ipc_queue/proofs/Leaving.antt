@@ -1,6 +1,7 @@
 -- What holds of a queue from which the next ticket left.
-use Rattle.std.proofs.Common.{◌≡◌, ◌+◌, eq-eqb, true, List, [], ◌∷◌, ◌++◌, length, length-append, drop, Some, None, refl, sym, ap, ◌∙◌, arith}
+use Rattle.std.proofs.Common.{◌≡◌, ◌+◌, eq-eqb, true, List, [], ◌∷◌, ◌++◌, length, length-append, drop, Option, Some, None, refl, sym, ap, ◌∙◌, arith}
 use Rattle.std.specs.List.{list_any}
+use Rattle.ipc_terms.specs.declared.ids.Desc.{Desc}
 use Rattle.ipc_queue.specs.declared.queue.Ticket.{Ticket}
 use Rattle.ipc_queue.specs.declared.queue.ParkedSend.{ParkedSend}
 use Rattle.ipc_terms.specs.Lists.{without_first}
@@ -41,9 +42,9 @@ taken q left others next is there e f g =
       senders_at_full = λ parked. absurd (omega arith);
     }
 
--- the longest parked send entered
-pub let_in : (q : Tickets) (left new : List Ticket) (others : List ParkedSend) (next : Ticket) (sender : ParkedSend) → IsQueue q → list_any (is_ticket next) q.tickets ≡ true → left ≡ without_first (is_ticket next) q.tickets → q.senders ≡ sender ∷ others → new ≡ left ++ sender.ticket ∷ [] → IsQueue (record q { tickets = new; senders = others })
-let_in q left new others next sender is there e f g =
+-- the longest parked send entered; whatever is registered has no part in it
+pub let_in : (q : Tickets) (who : Option Desc) (left new : List Ticket) (others : List ParkedSend) (next : Ticket) (sender : ParkedSend) → IsQueue q → list_any (is_ticket next) q.tickets ≡ true → left ≡ without_first (is_ticket next) q.tickets → q.senders ≡ sender ∷ others → new ≡ left ++ sender.ticket ∷ [] → IsQueue (record q { tickets = new; senders = others; registered = who })
+let_in q who left new others next sender is there e f g =
     let less = one_left q.tickets left next there e in
     let size = ap (λ (ts : List Ticket). length ts) g ∙ length-append left (sender.ticket ∷ []) in
     let parked = ap (λ (l : List ParkedSend). length l) f in

@@ -1,13 +1,13 @@
 //! The queue.
 
-ghost use Rattle.std.specs.Prelude.{◌≡◌, ◌<◌, ◌≤◌, ◌^◌, [], true, length, vec_len, vec_capacity, OnOk, OnErr, IfOk, IsOk};
+ghost use Rattle.std.specs.Prelude.{◌≡◌, ◌<◌, ◌≤◌, ◌^◌, [], None, true, is_none, length, vec_len, vec_capacity, OnOk, OnErr, IfOk, IsOk};
 ghost use Rattle.std.specs.List.{list_any, position};
 ghost use Rattle.std.specs.Option.{option_map};
 ghost use Rattle.ipc_terms.specs.Events.{is_session};
 ghost use Rattle.ipc_terms.specs.Lists.{first, without_first};
-ghost use Rattle.ipc_queue.specs.Tickets.{IsQueue, is_ticket, is_sender, next_ticket, next_place, is_full_of, send_outcome, sent, receive_outcome, received, is_parked, withdrawn};
+ghost use Rattle.ipc_queue.specs.Tickets.{IsQueue, is_ticket, is_sender, next_ticket, next_place, is_full_of, send_outcome, sent, receive_outcome, received, is_parked, withdrawn, with_registration, without_registration};
 
-use ipc_terms::{NoMemory, Sid, push_within, remove_first, remove_session};
+use ipc_terms::{Desc, NoMemory, Sid, push_within, remove_first, remove_session};
 use std::alloc::Global;
 use std::collections::VecDeque;
 use std::marker::Model;
@@ -33,6 +33,8 @@ pub struct ParkedSend {
 pub enum SendOutcome {
     /// The message entered the queue.
     Queued,
+    /// The message entered the empty queue, and this description was registered for its notice. It no longer is.
+    QueuedAndNotice(Desc),
     /// This session's receive, which was parked, took the message. It entered nothing.
     HandedTo(Sid),
     /// The queue is full: the send waits for room.
@@ -50,9 +52,10 @@ pub enum ReceiveOutcome {
     Parked,
 }
 
-/// A queue of at most `maxmsg` messages of at most `msgsize` bytes each, and the calls that are
-/// parked on it. The oldest message of the greatest priority comes out first (POSIX.1-2017,
-/// `mq_receive`), and of parked calls the longest parked is served first.
+/// A queue of at most `maxmsg` messages of at most `msgsize` bytes each, the calls that are parked on
+/// it, and the description that is registered for its notice. The oldest message of the greatest
+/// priority comes out first (POSIX.1-2017, `mq_receive`), and of parked calls the longest parked is
+/// served first.
 #[derive(Drop)]
 pub struct Queue {
     maxmsg: u32,
@@ -61,6 +64,8 @@ pub struct Queue {
     senders: VecDeque<ParkedSend>,
     /// A receive brings nothing, so its session is all of it.
     receivers: VecDeque<Sid>,
+    /// Whose notice it is, `ipc_descr` knows.
+    registered: Option<Desc>,
 }
 
 impl Model for Queue {
@@ -68,18 +73,18 @@ impl Model for Queue {
 
     ghost Value = { Tickets };
 
-    ghost view = { λ q. record { maxmsg = q.maxmsg; msgsize = q.msgsize; tickets = q.tickets.items; senders = q.senders.items; receivers = q.receivers.items } };
+    ghost view = { λ q. record { maxmsg = q.maxmsg; msgsize = q.msgsize; tickets = q.tickets.items; senders = q.senders.items; receivers = q.receivers.items; registered = q.registered } };
 
-    ghost invariant = { λ q. IsQueue (record { maxmsg = q.maxmsg; msgsize = q.msgsize; tickets = q.tickets.items; senders = q.senders.items; receivers = q.receivers.items }) };
+    ghost invariant = { λ q. IsQueue (record { maxmsg = q.maxmsg; msgsize = q.msgsize; tickets = q.tickets.items; senders = q.senders.items; receivers = q.receivers.items; registered = q.registered }) };
 }
 
 impl Queue {
-    /// A queue without messages and parked calls, for at most `maxmsg` messages of at most `msgsize`
-    /// bytes each, both at least 1 (POSIX.1-2017, `mq_open`). Takes no memory.
+    /// A queue without messages, parked calls and registration, for at most `maxmsg` messages of at
+    /// most `msgsize` bytes each, both at least 1 (POSIX.1-2017, `mq_open`). Takes no memory.
     pub fn new(alloc: Global, maxmsg: u32, msgsize: u32) -> Self
         requires some_messages { 0 < maxmsg }
         requires some_bytes { 0 < msgsize }
-        ensures { result ≡ record { maxmsg = maxmsg; msgsize = msgsize; tickets = []; senders = []; receivers = [] } }
+        ensures { result ≡ record { maxmsg = maxmsg; msgsize = msgsize; tickets = []; senders = []; receivers = []; registered = None } }
     {
         Queue {
             maxmsg,
@@ -87,14 +92,16 @@ impl Queue {
             tickets: Vec::new(alloc),
             senders: VecDeque::new(alloc),
             receivers: VecDeque::new(alloc),
+            registered: None,
         }
     }
 
     /// `who` sends the message of the place `ticket` (POSIX.1-2017, `mq_send`). The longest parked
     /// receive takes it; where none is parked, it enters behind all others, or, at a full queue, the
-    /// send parks behind all parked ones. How many bytes the message has, how great its priority is,
-    /// and whether another one has this place isn't asked here. What is handed on takes no memory;
-    /// an `Err` leaves the queue as it was.
+    /// send parks behind all parked ones. Where it enters the empty queue, the registration fires and is
+    /// gone (POSIX.1-2017, `mq_notify`). How many bytes the message has, how great its priority is, and
+    /// whether another one has this place isn't asked here. What is handed on takes no memory; an `Err`
+    /// leaves the queue as it was.
     #[tactic(auto, unfolding(crate::specs::Tickets::send_outcome, crate::specs::Tickets::sent))]
     pub fn send(&mut self, ticket: u64, priority: u32, who: Sid) -> Result<SendOutcome, NoMemory>
         ensures outcome { IfOk result (λ outcome. outcome ≡ send_outcome self.old) }
@@ -116,14 +123,23 @@ impl Queue {
             })?;
             return Ok(SendOutcome::Parked);
         }
+        let was_empty = self.tickets.is_empty();
         self.tickets.push(ticket)?;
-        Ok(SendOutcome::Queued)
+        let fired = if was_empty {
+            self.registered.take()
+        } else {
+            None
+        };
+        Ok(match fired {
+            Some(desc) => SendOutcome::QueuedAndNotice(desc),
+            None => SendOutcome::Queued,
+        })
     }
 
     /// `who` receives (POSIX.1-2017, `mq_receive`). The oldest message of the greatest priority
     /// leaves the queue, and then the message of the longest parked send, if there is one, enters
-    /// behind what is left; this takes no memory. At an empty queue the receive parks behind all
-    /// parked ones. An `Err` leaves the queue as it was.
+    /// behind what is left; this takes no memory, and fires no registration. At an empty queue the
+    /// receive parks behind all parked ones. An `Err` leaves the queue as it was.
     #[tactic(auto, unfolding(crate::specs::Tickets::receive_outcome, crate::specs::Tickets::received))]
     pub fn receive(&mut self, who: Sid) -> Result<ReceiveOutcome, NoMemory>
         ensures outcome { IfOk result (λ outcome. outcome ≡ receive_outcome self.old) }
@@ -157,6 +173,40 @@ impl Queue {
         let sends = remove_first(&mut self.senders, sender);
         let receives = remove_session(&mut self.receivers, sid);
         sends || receives
+    }
+
+    /// Registers the description for the notice of the next send that enters the empty queue, and says
+    /// whether it did: it doesn't where one is registered, be it this one (POSIX.1-2017, `mq_notify`,
+    /// EBUSY). Takes no memory.
+    #[tactic(auto, unfolding(crate::specs::Tickets::with_registration))]
+    pub fn register(&mut self, desc: Desc) -> bool
+        ensures free { result ≡ is_none self.old.registered }
+        ensures rest { self.new ≡ with_registration desc self.old }
+    {
+        if self.registered.is_some() {
+            return false;
+        }
+        self.registered = Some(desc);
+        true
+    }
+
+    /// Takes the registration of the description back (POSIX.1-2017, `mq_notify`, and `mq_close`, which
+    /// removes it too). Where none or another is registered, nothing changes. Takes no memory.
+    #[tactic(auto, unfolding(crate::specs::Tickets::without_registration))]
+    pub fn unregister(&mut self, desc: Desc)
+        ensures { self.new ≡ without_registration desc self.old }
+    {
+        if self.registered == Some(desc) {
+            self.registered = None;
+        }
+    }
+
+    /// The description that is registered for the queue's notice; `None` where none is.
+    pub fn registered(&self) -> Option<Desc>
+        ensures { result ≡ self.now.registered }
+    {
+        let Queue { registered, .. } = self;
+        *registered
     }
 
     /// The session whose receive has been parked longest; `None` where none is parked.

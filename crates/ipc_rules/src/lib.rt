@@ -4,4 +4,4 @@
 mod conditions;
 mod rules;
 
-pub use rules::{EVERY_RULE, decide, forbids};
+pub use rules::{decide, forbids};

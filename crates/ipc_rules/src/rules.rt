@@ -2,7 +2,7 @@
 
 ghost use Rattle.std.specs.Prelude.{◌≡◌};
 ghost use Rattle.ipc_policy.specs.Names.{creating};
-ghost use Rattle.ipc_policy.specs.Rules.{forbids, no_session, in_call, not_in_call, name_form, name_long, not_admin, no_user, bad_descr, not_for_write, not_for_read, dir_search, dir_read, absent, present, mode_denied, dir_write, sticky, not_owner, chown_denied, attr_range, value_range, queue_count, byte_limit, descr_limit, prio_range, message_long, buffer_short, would_block, overflow, bad_key};
+ghost use Rattle.ipc_policy.specs.Rules.{forbids, no_session, in_call, not_in_call, name_form, name_long, not_admin, no_user, bad_descr, not_for_write, not_for_read, dir_search, dir_read, absent, present, mode_denied, dir_write, sticky, not_owner, chown_denied, attr_range, value_range, queue_count, byte_limit, descr_limit, prio_range, message_long, buffer_short, notify_taken, would_block, overflow, bad_key};
 ghost use Rattle.ipc_policy.specs.Verdict.{verdict};
 
 use crate::conditions::{
@@ -16,42 +16,7 @@ use ipc_policy::{
     unlinking_of,
 };
 use ipc_state::State;
-use ipc_terms::{Call, Event, Rule};
-
-/// Every rule, in the order of their numbers.
-pub const EVERY_RULE: [Rule; 31] = [
-    Rule::NoSession,
-    Rule::InCall,
-    Rule::NotInCall,
-    Rule::NameForm,
-    Rule::NameLong,
-    Rule::NotAdmin,
-    Rule::NoUser,
-    Rule::BadDescr,
-    Rule::NotForWrite,
-    Rule::NotForRead,
-    Rule::DirSearch,
-    Rule::DirRead,
-    Rule::Absent,
-    Rule::Present,
-    Rule::ModeDenied,
-    Rule::DirWrite,
-    Rule::Sticky,
-    Rule::NotOwner,
-    Rule::ChownDenied,
-    Rule::AttrRange,
-    Rule::ValueRange,
-    Rule::QueueCount,
-    Rule::ByteLimit,
-    Rule::DescrLimit,
-    Rule::PrioRange,
-    Rule::MessageLong,
-    Rule::BufferShort,
-    Rule::NotifyTaken,
-    Rule::WouldBlock,
-    Rule::Overflow,
-    Rule::BadKey,
-];
+use ipc_terms::{Call, EVERY_RULE, Event, Rule};
 
 /// The rule of the lowest number that forbids the event, if one does.
 #[tactic(auto, unfolding(ipc_policy::specs::Verdict::verdict))]
@@ -100,7 +65,7 @@ pub fn forbids(state: &State, rule: Rule, event: &Event) -> bool
         Rule::WouldBlock => would_block(state, event),
         Rule::Overflow => overflow(state, event),
         Rule::BadKey => bad_key(state, event),
-        Rule::NotifyTaken => false,
+        Rule::NotifyTaken => notify_taken(state, event),
     }
 }
 
@@ -166,7 +131,7 @@ fn name_long(state: &State, event: &Event) -> bool
     }
 }
 
-/// A SetLimit, by another than user 0.
+/// A SetLimit or an Audit, by another than user 0.
 #[tactic(auto, unfolding(ipc_policy::specs::Rules::not_admin))]
 fn not_admin(state: &State, event: &Event) -> bool
     ensures { result ≡ not_admin state.now.config state.now.history event.now }
@@ -174,7 +139,7 @@ fn not_admin(state: &State, event: &Event) -> bool
     match event {
         Event::Do {
             sid,
-            call: Call::SetLimit { .. },
+            call: Call::SetLimit { .. } | Call::Audit { .. },
         } => is_not_admin(state.cred(*sid)),
         _ => false,
     }
@@ -489,6 +454,20 @@ fn buffer_short(state: &State, event: &Event) -> bool
             sid,
             call: Call::MqReceive { desc, length },
         } => { is_too_short(as_queue(state.object_held(*sid, *desc)), *length) }
+        _ => false,
+    }
+}
+
+/// A notify on, and the queue has a registration.
+#[tactic(auto, unfolding(ipc_policy::specs::Rules::notify_taken))]
+fn notify_taken(state: &State, event: &Event) -> bool
+    ensures { result ≡ notify_taken state.now.config state.now.history event.now }
+{
+    match event {
+        Event::Do {
+            sid,
+            call: Call::MqNotify { desc, on },
+        } => *on && state.is_registered(*sid, *desc),
         _ => false,
     }
 }

@@ -1,5 +1,5 @@
 -- What each accepted event does to the tables keeps them the history's.
-use Rattle.std.proofs.Common.{◌≡◌, ℕ, ◌%◌, ◌<◌, Bool, true, false, not, eqb, cond, List, [], ◌∷◌, length, Option, Some, None, is_some, refl, sym, ap, subst, ◌∙◌}
+use Rattle.std.proofs.Common.{◌≡◌, ℕ, find, filter, ◌%◌, ◌<◌, Bool, true, false, not, eqb, cond, List, [], ◌∷◌, length, Option, Some, None, is_some, refl, sym, ap, subst, ◌∙◌}
 use Rattle.std.specs.Option.{option_map}
 use Rattle.std.proofs.lemmas.Bool.{eqb-true, ne_eqb}
 use Rattle.ipc_terms.specs.declared.rule.Rule.{Rule}
@@ -10,7 +10,7 @@ use Rattle.ipc_terms.specs.declared.ids.Mode.{Mode}
 use Rattle.ipc_terms.specs.declared.ids.Family.{Family}
 use Rattle.ipc_terms.specs.declared.ids.Family.TheVariants.{Mq, Sem}
 use Rattle.ipc_terms.specs.declared.ids.Target.{Target}
-use Rattle.ipc_terms.specs.declared.call.Call.TheVariants.{Umask, MqSend, MqReceive, MqGetattr, MqSetattr, SemPost, SemWait, SemTryWait, SemGetvalue, ListNames, StatName, SetLimit, Interrupt}
+use Rattle.ipc_terms.specs.declared.call.Call.TheVariants.{Umask, MqSend, MqReceive, MqGetattr, MqSetattr, SemPost, SemWait, SemTryWait, SemGetvalue, ListNames, StatName, SetLimit, MqNotify, Audit, Interrupt}
 use Rattle.ipc_terms.specs.Objects.{of_queue, as_queue}
 use Rattle.ipc_terms.specs.declared.call.Attributes.{Attributes}
 use Rattle.ipc_terms.specs.declared.object.Kind.{Kind}
@@ -20,6 +20,12 @@ use Rattle.ipc_terms.specs.declared.record.Event.TheVariants.{Hello, Do, Hangup}
 use Rattle.ipc_names.specs.Directory.{Directory}
 use Rattle.ipc_policy.specs.declared.config.Config.{Config}
 use Rattle.ipc_policy.specs.declared.config.Held.{Held}
+use Rattle.ipc_policy.specs.declared.config.Registration.{Registration}
+use Rattle.ipc_policy.specs.Registrations.{registered}
+use Rattle.ipc_policy.proofs.Registering.{IsHeldFor, registered_held}
+use Rattle.ipc_policy.proofs.RegisteredSteps.{registered_stays, registered_send_other, registered_on, registered_on_other, registered_off, registered_hangup, other_s_description}
+use Rattle.ipc_policy.proofs.Creating.{holds_is_held}
+use Rattle.ipc_terms.proofs.Lists.{eqb_swapped}
 use Rattle.ipc_policy.specs.History.{History, after_accepted, kept, there_is, gathered_below}
 use Rattle.ipc_policy.specs.Sessions.{hellos, user, live, cred, mask}
 use Rattle.ipc_policy.specs.Names.{Opening, is_bound, creations, bound}
@@ -38,10 +44,10 @@ use Rattle.ipc_policy.specs.Verdict.{verdict, Legal}
 use Rattle.ipc_policy.proofs.Holding.{kept_all}
 use Rattle.ipc_policy.proofs.Grown.{grows}
 use Rattle.ipc_policy.proofs.Refused.{same_values}
-use Rattle.ipc_policy.proofs.ParkedSessions.{withdrawn_elsewhere, cancelled_elsewhere}
+use Rattle.ipc_policy.proofs.ParkedSessions.{withdrawn_elsewhere, cancelled_elsewhere, if_of_is, session_is}
 use Rattle.ipc_policy.proofs.WaitSteps.{semaphore_by_others, semaphore_by_send, semaphore_by_receive, semaphore_by_post, semaphore_by_wait, semaphore_by_try, semaphore_by_interrupt, semaphore_by_hangup, queue_by_post, queue_by_wait, queue_by_try, parked_by_try}
 use Rattle.ipc_policy.proofs.ParkedSteps.{moves, parked_by_others, queue_by_others, queue_by_send, queue_by_receive, queue_by_interrupt, queue_by_hangup}
-use Rattle.ipc_queue.specs.Tickets.{Tickets, sent, received}
+use Rattle.ipc_queue.specs.Tickets.{Tickets, sent, received, with_registration, without_registration}
 use Rattle.ipc_sem.specs.Counters.{Counter, posted, waited, tried}
 use Rattle.ipc_tables.specs.Objects.{with_body, with_counter, without_call}
 use Rattle.ipc_tables.specs.declared.rows.Body.TheVariants.{Queue as QueueBody, Semaphore as SemaphoreBody}
@@ -49,19 +55,21 @@ use Rattle.ipc_tables.specs.declared.rows.ObjectRow.{ObjectRow}
 use Rattle.ipc_tables.specs.declared.rows.Session.{Session}
 use Rattle.ipc_terms.specs.Lists.{changed}
 use Rattle.ipc_descr.specs.declared.charges.Charge.{Charge}
-use Rattle.ipc_descr.specs.Descriptions.{Descriptions, is_of}
+use Rattle.ipc_descr.specs.Descriptions.{Descriptions, is_of, is_desc}
 use Rattle.ipc_tables.specs.Kept.{Kept, parked_on_at, is_kept}
 use Rattle.ipc_tables.specs.Charging.{settled}
-use Rattle.ipc_tables.specs.Steps.{hung_up, living, ended, after_hello, after_umask, after_send, after_receive, after_post, after_wait, after_try, after_withdrawal, after_setattr, after_limit, after_hangup, first_tables}
+use Rattle.ipc_tables.specs.Steps.{hung_up, living, ended, after_hello, after_umask, after_send, after_receive, after_post, after_wait, after_try, after_withdrawal, after_setattr, after_limit, after_register, after_unregister, after_hangup, first_tables}
 use Rattle.ipc_state.specs.Ranges.{first_bad}
-use Rattle.ipc_state.specs.Agrees.{Agrees, IsCore, SessionsAgree, DirectoryAgrees, ObjectsAgree, DescriptionsAgree, ChargesAgree, row_with, tickets_of, counter_of, Inside, inside, body_of}
+use Rattle.ipc_state.specs.Agrees.{Agrees, IsCore, SessionsAgree, DirectoryAgrees, ObjectsAgree, DescriptionsAgree, ChargesAgree, row_held, row_with, tickets_of, counter_of, Inside, inside, body_of}
+use Rattle.ipc_tables.proofs.CoveredCharges.{taken_held}
+use Rattle.ipc_state.proofs.Lookups.{row_is}
 use Rattle.ipc_state.proofs.ChargeTables.{HaveFacts, taken_is, charged_same, limit_left, charges_kept, charges_settled, charges_limited, charges_first}
 use Rattle.ipc_state.proofs.SessionTables.{Columns, columns_of, columns_moved, sessions_parked, sessions_kept, sessions_begun, sessions_masked, sessions_ended}
 use Rattle.ipc_state.proofs.ParkedColumn.{parked_object, column_by_send, column_by_receive, column_by_post, column_by_wait, column_by_interrupt, column_by_hangup}
 use Rattle.ipc_state.proofs.Posting.{sessions_posted, sessions_waited, counter_posted, counter_waited, counter_tried, counter_cancelled}
-use Rattle.ipc_state.proofs.Serving.{IsHereQueue, IsHereSemaphore, is_open, none_receives, none_sends, sessions_sent, sessions_received, queue_sent, queue_received, queue_withdrawn}
+use Rattle.ipc_state.proofs.Serving.{IsHereQueue, IsHereSemaphore, is_open, none_receives, none_sends, sessions_sent, sessions_received, queue_sent, queue_received, queue_withdrawn, registered_receive}
 use Rattle.ipc_policy.proofs.Facts.{GivesNothing, facts_made, directory_left}
-use Rattle.ipc_state.proofs.ObjectTables.{directory_kept, rows_kept, objects_kept, alive_kept, alive_less, objects_left, rows_changed, descriptions_kept, descriptions_dropped, descriptions_set}
+use Rattle.ipc_state.proofs.ObjectTables.{directory_kept, rows_kept, objects_kept, alive_kept, alive_less, objects_left, rows_changed, descriptions_kept, descriptions_dropped, descriptions_set, released, left_in}
 
 -- an event that says nothing of names, objects and descriptions
 pub record Untouched (c : Config) (h k : History) : Type 0 where
@@ -111,11 +119,15 @@ pub objects_same : (c : Config) (h k : History) (t : Kept) → Untouched c h k �
 objects_same c h k t u q a = objects_kept c h k t.objects t.created (alive_same c h k u) u.object' u.facts' q u.creations' a.objects
 
 -- what stands in an object stays, where its queue and its semaphore do
-pub inside_same : (c : Config) (h k : History) (o : ℕ) → queue c k o ≡ queue c h o → semaphore k o ≡ semaphore h o → inside c k o ≡ inside c h o
-inside_same c h k o q u = rw (q, u) refl
+pub inside_same : (c : Config) (h k : History) (o : ℕ) → queue c k o ≡ queue c h o → registered c k o ≡ registered c h o → semaphore k o ≡ semaphore h o → inside c k o ≡ inside c h o
+inside_same c h k o q g u = rw (q, g, u) refl
 
-pub others_inside : (c : Config) (h : History) (e : Event) (o : ℕ) → moves e ≡ false → first_value o e (is_bound h) (creations h) ≡ None → inside c (after_accepted h e) o ≡ inside c h o
-others_inside c h e o still none = inside_same c h (after_accepted h e) o (queue_by_others c h e o still) (semaphore_by_others h e o still ∙ ap (λ v. with_first v (semaphore h o)) none)
+pub others_inside : (c : Config) (h : History) (e : Event) (o : ℕ) → moves e ≡ false → registered c (after_accepted h e) o ≡ registered c h o → first_value o e (is_bound h) (creations h) ≡ None → inside c (after_accepted h e) o ≡ inside c h o
+others_inside c h e o still calm none = inside_same c h (after_accepted h e) o (queue_by_others c h e o still) calm (semaphore_by_others h e o still ∙ ap (λ v. with_first v (semaphore h o)) none)
+
+-- and but for its registration, where it says something of that
+pub within : (c : Config) (h : History) (e : Event) (o : ℕ) → moves e ≡ false → first_value o e (is_bound h) (creations h) ≡ None → inside c (after_accepted h e) o ≡ record (inside c h o) { registered = registered c (after_accepted h e) o }
+within c h e o still none = rw (queue_by_others c h e o still, semaphore_by_others h e o still ∙ ap (λ v. with_first v (semaphore h o)) none) refl
 
 -- a refused event
 agrees_as : (c : Config) (h k : History) (t : Kept) → SameValues c k h → Agrees c h t → Agrees c k t
@@ -124,7 +136,7 @@ agrees_as c h k t q a =
     left_alone c h k t t.sessions t.objects u q.is_nonblock
     (charges_kept c h k t.charges q.limit q.charged a.charges)
     (record { users = λ s. a.sessions.users s ∙ sym (q.user s); masks = λ s row is. a.sessions.masks s row is ∙ sym (q.mask s); lives = λ s. a.sessions.lives s ∙ sym (q.live s); parks = λ s. a.sessions.parks s ∙ sym (ap (option_map (λ (p : Parked). p.object)) (q.parked s)); count = a.sessions.count ∙ sym q.hellos })
-    (objects_same c h k t u (λ o. inside_same c h k o (q.queue o) (q.semaphore o)) a) a
+    (objects_same c h k t u (λ o. inside_same c h k o (q.queue o) (q.registered o) (q.semaphore o)) a) a
 
 -- an accepted hello
 pub agrees_begun : (c : Config) (h : History) (t : Kept) (uid : Uid) → IsCore c h t → Agrees c (after_accepted h (Hello (Some uid))) (after_hello t uid)
@@ -132,7 +144,7 @@ agrees_begun c h t uid k =
     let e = Hello (Some uid) in
     let g = grows c h e in
     let u = untouched c h e (record { owner = λ m. refl; group = λ m. refl; mode = λ m. refl }) (λ o. refl) (λ d. refl) refl (λ f. refl) refl (λ o. refl) (λ o. refl) in
-    left_alone c h _ t _ t.objects u g.nonblock_of (charges_left c h e t.charges u (λ v. refl) k.agrees.charges) (sessions_begun c h t.sessions uid k.legal g k.agrees.sessions) (objects_same c h _ t u (λ o. others_inside c h e o refl refl) k.agrees) k.agrees
+    left_alone c h _ t _ t.objects u g.nonblock_of (charges_left c h e t.charges u (λ v. refl) k.agrees.charges) (sessions_begun c h t.sessions uid k.legal g k.agrees.sessions) (objects_same c h _ t u (λ o. others_inside c h e o refl (registered_stays c h e o refl (λ x k. refl)) refl) k.agrees) k.agrees
 
 -- an accepted umask
 pub agrees_masked : (c : Config) (h : History) (t : Kept) (sid : Sid) (m : Mode) → Agrees c h t → Agrees c (after_accepted h (Do sid (Umask m))) (after_umask t sid.0 (record { 0 = m.0 % 512 }))
@@ -140,41 +152,45 @@ agrees_masked c h t sid m a =
     let e = Do sid (Umask m) in
     let g = grows c h e in
     let u = untouched c h e (record { owner = λ m. refl; group = λ m. refl; mode = λ m. refl }) (λ o. refl) (λ d. refl) refl (λ f. refl) refl (λ o. refl) (λ o. refl) in
-    left_alone c h _ t _ t.objects u g.nonblock_of (charges_left c h e t.charges u (λ v. refl) a.charges) (sessions_masked c h t.sessions sid m g a.sessions) (objects_same c h _ t u (λ o. others_inside c h e o refl refl) a) a
+    left_alone c h _ t _ t.objects u g.nonblock_of (charges_left c h e t.charges u (λ v. refl) a.charges) (sessions_masked c h t.sessions sid m g a.sessions) (objects_same c h _ t u (λ o. others_inside c h e o refl (registered_stays c h e o refl (λ x k. refl)) refl) a) a
 
 -- a question changes nothing
-asked : (c : Config) (h : History) (t : Kept) (e : Event) → Untouched c h (after_accepted h e) → ((v : Uid) → sets_limit v e h ≡ None) → moves e ≡ false → ((o : ℕ) → first_value o e (is_bound h) (creations h) ≡ None) → hellos_after e (hellos h) ≡ hellos h → ((s : ℕ) → user_after s e (hellos h) (user h s) ≡ user h s) → ((s : ℕ) → live_after s e (hellos h) (live h s) ≡ live h s) → ((s : ℕ) → mask_after s e (mask h s) ≡ mask h s) → ((s d : ℕ) → nonblock_after s d e (opens h) (is_nonblock h s d) ≡ is_nonblock h s d) → Agrees c h t → Agrees c (after_accepted h e) t
-asked c h t e u limits still none n w l m b a =
+asked : (c : Config) (h : History) (t : Kept) (e : Event) → Untouched c h (after_accepted h e) → ((v : Uid) → sets_limit v e h ≡ None) → ((o : ℕ) → registered c (after_accepted h e) o ≡ registered c h o) → moves e ≡ false → ((o : ℕ) → first_value o e (is_bound h) (creations h) ≡ None) → hellos_after e (hellos h) ≡ hellos h → ((s : ℕ) → user_after s e (hellos h) (user h s) ≡ user h s) → ((s : ℕ) → live_after s e (hellos h) (live h s) ≡ live h s) → ((s : ℕ) → mask_after s e (mask h s) ≡ mask h s) → ((s d : ℕ) → nonblock_after s d e (opens h) (is_nonblock h s d) ≡ is_nonblock h s d) → Agrees c h t → Agrees c (after_accepted h e) t
+asked c h t e u limits stays still none n w l m b a =
     let g = grows c h e in
-    left_alone c h _ t t.sessions t.objects u (λ s d. g.nonblock_of s d ∙ b s d) (charges_left c h e t.charges u limits a.charges) (sessions_kept c h _ e t.sessions g n w l m (λ s. parked_by_others c h e s still) a.sessions) (objects_same c h _ t u (λ o. others_inside c h e o still (none o)) a) a
+    left_alone c h _ t t.sessions t.objects u (λ s d. g.nonblock_of s d ∙ b s d) (charges_left c h e t.charges u limits a.charges) (sessions_kept c h _ e t.sessions g n w l m (λ s. parked_by_others c h e s still) a.sessions) (objects_same c h _ t u (λ o. others_inside c h e o still (stays o) (none o)) a) a
 
 pub agrees_listed : (c : Config) (h : History) (t : Kept) (sid : Sid) (family : Family) (start count : ℕ) → Agrees c h t → Agrees c (after_accepted h (Do sid (ListNames family start count))) t
 agrees_listed c h t sid family start count =
-    asked c h t (Do sid (ListNames family start count)) (untouched c h (Do sid (ListNames family start count)) (record { owner = λ m. refl; group = λ m. refl; mode = λ m. refl }) (λ o. refl) (λ d. refl) refl (λ f. refl) refl (λ o. refl) (λ o. refl)) (λ v. refl) refl (λ o. refl) refl (λ s. refl) (λ s. refl) (λ s. refl) (λ s d. refl)
+    asked c h t (Do sid (ListNames family start count)) (untouched c h (Do sid (ListNames family start count)) (record { owner = λ m. refl; group = λ m. refl; mode = λ m. refl }) (λ o. refl) (λ d. refl) refl (λ f. refl) refl (λ o. refl) (λ o. refl)) (λ v. refl) (λ o. registered_stays c h _ o refl (λ x k. refl)) refl (λ o. refl) refl (λ s. refl) (λ s. refl) (λ s. refl) (λ s d. refl)
 
 pub agrees_told : (c : Config) (h : History) (t : Kept) (sid : Sid) (target : Target) → Agrees c h t → Agrees c (after_accepted h (Do sid (StatName target))) t
 agrees_told c h t sid target =
-    asked c h t (Do sid (StatName target)) (untouched c h (Do sid (StatName target)) (record { owner = λ m. refl; group = λ m. refl; mode = λ m. refl }) (λ o. refl) (λ d. refl) refl (λ f. refl) refl (λ o. refl) (λ o. refl)) (λ v. refl) refl (λ o. refl) refl (λ s. refl) (λ s. refl) (λ s. refl) (λ s d. refl)
+    asked c h t (Do sid (StatName target)) (untouched c h (Do sid (StatName target)) (record { owner = λ m. refl; group = λ m. refl; mode = λ m. refl }) (λ o. refl) (λ d. refl) refl (λ f. refl) refl (λ o. refl) (λ o. refl)) (λ v. refl) (λ o. registered_stays c h _ o refl (λ x k. refl)) refl (λ o. refl) refl (λ s. refl) (λ s. refl) (λ s. refl) (λ s d. refl)
 
 pub agrees_asked : (c : Config) (h : History) (t : Kept) (sid : Sid) (desc : Desc) → Agrees c h t → Agrees c (after_accepted h (Do sid (MqGetattr desc))) t
 agrees_asked c h t sid desc =
-    asked c h t (Do sid (MqGetattr desc)) (untouched c h (Do sid (MqGetattr desc)) (record { owner = λ m. refl; group = λ m. refl; mode = λ m. refl }) (λ o. refl) (λ d. refl) refl (λ f. refl) refl (λ o. refl) (λ o. refl)) (λ v. refl) refl (λ o. refl) refl (λ s. refl) (λ s. refl) (λ s. refl) (λ s d. refl)
+    asked c h t (Do sid (MqGetattr desc)) (untouched c h (Do sid (MqGetattr desc)) (record { owner = λ m. refl; group = λ m. refl; mode = λ m. refl }) (λ o. refl) (λ d. refl) refl (λ f. refl) refl (λ o. refl) (λ o. refl)) (λ v. refl) (λ o. registered_stays c h _ o refl (λ x k. refl)) refl (λ o. refl) refl (λ s. refl) (λ s. refl) (λ s. refl) (λ s d. refl)
 
 pub agrees_valued : (c : Config) (h : History) (t : Kept) (sid : Sid) (desc : Desc) → Agrees c h t → Agrees c (after_accepted h (Do sid (SemGetvalue desc))) t
 agrees_valued c h t sid desc =
-    asked c h t (Do sid (SemGetvalue desc)) (untouched c h (Do sid (SemGetvalue desc)) (record { owner = λ m. refl; group = λ m. refl; mode = λ m. refl }) (λ o. refl) (λ d. refl) refl (λ f. refl) refl (λ o. refl) (λ o. refl)) (λ v. refl) refl (λ o. refl) refl (λ s. refl) (λ s. refl) (λ s. refl) (λ s d. refl)
+    asked c h t (Do sid (SemGetvalue desc)) (untouched c h (Do sid (SemGetvalue desc)) (record { owner = λ m. refl; group = λ m. refl; mode = λ m. refl }) (λ o. refl) (λ d. refl) refl (λ f. refl) refl (λ o. refl) (λ o. refl)) (λ v. refl) (λ o. registered_stays c h _ o refl (λ x k. refl)) refl (λ o. refl) refl (λ s. refl) (λ s. refl) (λ s. refl) (λ s d. refl)
+
+pub agrees_audited : (c : Config) (h : History) (t : Kept) (sid : Sid) (start count : ℕ) → Agrees c h t → Agrees c (after_accepted h (Do sid (Audit start count))) t
+agrees_audited c h t sid start count =
+    asked c h t (Do sid (Audit start count)) (untouched c h (Do sid (Audit start count)) (record { owner = λ m. refl; group = λ m. refl; mode = λ m. refl }) (λ o. refl) (λ d. refl) refl (λ f. refl) refl (λ o. refl) (λ o. refl)) (λ v. refl) (λ o. registered_stays c h _ o refl (λ x k. refl)) refl (λ o. refl) refl (λ s. refl) (λ s. refl) (λ s. refl) (λ s d. refl)
 
 -- the body of an object changes as its queue does, or as its semaphore does
-queue_changed : (x : Object) (change : Tickets → Tickets) (m n : Inside) → ((z : Attributes) → of_queue x.kind ≡ Some z → tickets_of n.queue z ≡ change (tickets_of m.queue z)) → n.semaphore ≡ m.semaphore → body_of x.kind n ≡ with_body change (body_of x.kind m)
+queue_changed : (x : Object) (change : Tickets → Tickets) (m n : Inside) → ((z : Attributes) → of_queue x.kind ≡ Some z → tickets_of n.registered n.queue z ≡ change (tickets_of m.registered m.queue z)) → n.semaphore ≡ m.semaphore → body_of x.kind n ≡ with_body change (body_of x.kind m)
 queue_changed x change m n e same = at x.kind e where
-  at : (kind : Kind) → ((z : Attributes) → of_queue kind ≡ Some z → tickets_of n.queue z ≡ change (tickets_of m.queue z)) → body_of kind n ≡ with_body change (body_of kind m)
+  at : (kind : Kind) → ((z : Attributes) → of_queue kind ≡ Some z → tickets_of n.registered n.queue z ≡ change (tickets_of m.registered m.queue z)) → body_of kind n ≡ with_body change (body_of kind m)
   at (QueueKind given) known = ap QueueBody (known given refl)
   at (SemaphoreKind value) known = ap (λ u. SemaphoreBody (counter_of u)) same
 
-semaphore_changed : (x : Object) (change : Counter → Counter) (m n : Inside) → counter_of n.semaphore ≡ change (counter_of m.semaphore) → n.queue ≡ m.queue → body_of x.kind n ≡ with_counter change (body_of x.kind m)
-semaphore_changed x change m n e same = at x.kind where
+semaphore_changed : (x : Object) (change : Counter → Counter) (m n : Inside) → counter_of n.semaphore ≡ change (counter_of m.semaphore) → n.queue ≡ m.queue → n.registered ≡ m.registered → body_of x.kind n ≡ with_counter change (body_of x.kind m)
+semaphore_changed x change m n e same reg = at x.kind where
   at : (kind : Kind) → body_of kind n ≡ with_counter change (body_of kind m)
-  at (QueueKind given) = ap (λ q. QueueBody (tickets_of q given)) same
+  at (QueueKind given) = rw (same, reg) refl
   at (SemaphoreKind value) = ap SemaphoreBody e
 
 -- an accepted send
@@ -192,7 +208,7 @@ agrees_sent c h t sid desc priority bytes o k here =
     (sessions_sent c h t here.x.object here.given sid k.legal k.agrees here.lives here.made here.within))
     (record {
       rows = rows_changed c h (after_accepted h e) (inside c (after_accepted h e)) t.objects t.created here.x.object (with_body (sent (record { place = length h; priority = priority }) sid)) (alive_same c h _ u) u.object' u.facts'
-          (λ i ne. inside_same c h (after_accepted h e) i (queue_by_send c h sid desc priority bytes here.x i here.held ∙ rw (ne_eqb here.x.object i (λ q. ne (sym q))) refl) (semaphore_by_send h sid desc priority bytes i))
+          (λ i ne. inside_same c h (after_accepted h e) i (queue_by_send c h sid desc priority bytes here.x i here.held ∙ rw (ne_eqb here.x.object i (λ q. ne (sym q))) refl) (registered_send_other c h sid desc priority bytes here.x i here.held (ne_eqb here.x.object i (λ q. ne (sym q)))) (semaphore_by_send h sid desc priority bytes i))
           (λ x is. queue_changed x (sent (record { place = length h; priority = priority }) sid) (inside c h here.x.object) (inside c (after_accepted h e) here.x.object)
           (λ z given. queue_sent c h sid desc priority bytes here.x z (is_open c h t here.x.object z k (ap as_queue is ∙ given)) here.held)
           (semaphore_by_send h sid desc priority bytes here.x.object))
@@ -216,7 +232,7 @@ agrees_received c h t sid desc room o k here =
     (sessions_received c h t here.x.object here.given sid k.legal k.agrees here.lives here.made open' here.within))
     (record {
       rows = rows_changed c h (after_accepted h e) (inside c (after_accepted h e)) t.objects t.created here.x.object (with_body (received sid)) (alive_same c h _ u) u.object' u.facts'
-          (λ i ne. inside_same c h (after_accepted h e) i (queue_by_receive c h sid desc room here.x i here.held ∙ rw (ne_eqb here.x.object i (λ q. ne (sym q))) refl) (semaphore_by_receive h sid desc room i))
+          (λ i ne. inside_same c h (after_accepted h e) i (queue_by_receive c h sid desc room here.x i here.held ∙ rw (ne_eqb here.x.object i (λ q. ne (sym q))) refl) (registered_receive c h sid desc room i) (semaphore_by_receive h sid desc room i))
           (λ x is. queue_changed x (received sid) (inside c h here.x.object) (inside c (after_accepted h e) here.x.object)
           (λ z given. queue_received c h sid desc room here.x z (is_open c h t here.x.object z k (ap as_queue is ∙ given)) here.held)
           (semaphore_by_receive h sid desc room here.x.object))
@@ -239,8 +255,8 @@ agrees_posted c h t sid desc o k here =
     (sessions_posted c h t here.x.object here.given sid k.legal k.agrees here.lives here.made))
     (record {
       rows = rows_changed c h (after_accepted h e) (inside c (after_accepted h e)) t.objects t.created here.x.object (with_counter posted) (alive_same c h _ u) u.object' u.facts'
-          (λ i ne. inside_same c h (after_accepted h e) i (queue_by_post c h sid desc i) (semaphore_by_post h sid desc here.x i here.held ∙ rw (ne_eqb here.x.object i (λ q. ne (sym q))) refl))
-          (λ x is. semaphore_changed x posted (inside c h here.x.object) (inside c (after_accepted h e) here.x.object) (counter_posted h sid desc here.x here.held) (queue_by_post c h sid desc here.x.object))
+          (λ i ne. inside_same c h (after_accepted h e) i (queue_by_post c h sid desc i) (registered_stays c h e i refl (λ x k. refl)) (semaphore_by_post h sid desc here.x i here.held ∙ rw (ne_eqb here.x.object i (λ q. ne (sym q))) refl))
+          (λ x is. semaphore_changed x posted (inside c h here.x.object) (inside c (after_accepted h e) here.x.object) (counter_posted h sid desc here.x here.held) (queue_by_post c h sid desc here.x.object) (registered_stays c h e here.x.object refl (λ x k. refl)))
           u.creations' k.agrees.objects;
       count = k.agrees.objects.count ∙ sym u.creations';
     })
@@ -260,8 +276,8 @@ agrees_waited c h t sid desc o k here =
     (sessions_waited c h t here.x.object here.given sid k.legal k.agrees here.lives here.made here.within))
     (record {
       rows = rows_changed c h (after_accepted h e) (inside c (after_accepted h e)) t.objects t.created here.x.object (with_counter (waited sid)) (alive_same c h _ u) u.object' u.facts'
-          (λ i ne. inside_same c h (after_accepted h e) i (queue_by_wait c h sid desc i) (semaphore_by_wait h sid desc here.x i here.held ∙ rw (ne_eqb here.x.object i (λ q. ne (sym q))) refl))
-          (λ x is. semaphore_changed x (waited sid) (inside c h here.x.object) (inside c (after_accepted h e) here.x.object) (counter_waited h sid desc here.x here.held) (queue_by_wait c h sid desc here.x.object))
+          (λ i ne. inside_same c h (after_accepted h e) i (queue_by_wait c h sid desc i) (registered_stays c h e i refl (λ x k. refl)) (semaphore_by_wait h sid desc here.x i here.held ∙ rw (ne_eqb here.x.object i (λ q. ne (sym q))) refl))
+          (λ x is. semaphore_changed x (waited sid) (inside c h here.x.object) (inside c (after_accepted h e) here.x.object) (counter_waited h sid desc here.x here.held) (queue_by_wait c h sid desc here.x.object) (registered_stays c h e here.x.object refl (λ x k. refl)))
           u.creations' k.agrees.objects;
       count = k.agrees.objects.count ∙ sym u.creations';
     })
@@ -279,8 +295,74 @@ agrees_tried c h t sid desc o k here =
     (sessions_kept c h _ e t.sessions g refl (λ s. refl) (λ s. refl) (λ s. refl) (λ s. parked_by_try c h sid desc s) k.agrees.sessions)
     (record {
       rows = rows_changed c h (after_accepted h e) (inside c (after_accepted h e)) t.objects t.created here.x.object (with_counter tried) (alive_same c h _ u) u.object' u.facts'
-          (λ i ne. inside_same c h (after_accepted h e) i (queue_by_try c h sid desc i) (semaphore_by_try h sid desc here.x i here.held ∙ rw (ne_eqb here.x.object i (λ q. ne (sym q))) refl))
-          (λ x is. semaphore_changed x tried (inside c h here.x.object) (inside c (after_accepted h e) here.x.object) (counter_tried h sid desc here.x here.held) (queue_by_try c h sid desc here.x.object))
+          (λ i ne. inside_same c h (after_accepted h e) i (queue_by_try c h sid desc i) (registered_stays c h e i refl (λ x k. refl)) (semaphore_by_try h sid desc here.x i here.held ∙ rw (ne_eqb here.x.object i (λ q. ne (sym q))) refl))
+          (λ x is. semaphore_changed x tried (inside c h here.x.object) (inside c (after_accepted h e) here.x.object) (counter_tried h sid desc here.x here.held) (queue_by_try c h sid desc here.x.object) (registered_stays c h e here.x.object refl (λ x k. refl)))
+          u.creations' k.agrees.objects;
+      count = k.agrees.objects.count ∙ sym u.creations';
+    })
+    k.agrees)
+
+-- an accepted notify on
+registers_body : (x : Object) (sid : Sid) (desc : Desc) (m n : Inside) → n.queue ≡ m.queue → n.semaphore ≡ m.semaphore → m.registered ≡ None → n.registered ≡ Some (record { session = sid; desc = desc }) → body_of x.kind n ≡ with_body (with_registration desc) (body_of x.kind m)
+unfolding with_registration
+registers_body x sid desc m n q u was now = at x.kind where
+  at : (kind : Kind) → body_of kind n ≡ with_body (with_registration desc) (body_of kind m)
+  at (QueueKind given) = rw (q, was, now) refl
+  at (SemaphoreKind value) = ap (λ u. SemaphoreBody (counter_of u)) u
+
+pub agrees_registered : (c : Config) (h : History) (t : Kept) (sid : Sid) (desc : Desc) (o : ℕ) → IsCore c h t → IsHereQueue c h t sid.0 desc.0 o → registered c h o ≡ None → Agrees c (after_accepted h (Do sid (MqNotify desc true))) (after_register t o desc)
+agrees_registered c h t sid desc o k here none =
+    let e = Do sid (MqNotify desc true) in
+    let g = grows c h e in
+    let u = untouched c h e (record { owner = λ m. refl; group = λ m. refl; mode = λ m. refl }) (λ i. refl) (λ d. refl) refl (λ f. refl) refl (λ i. refl) (λ i. refl) in
+    let free = subst (λ (i : ℕ). registered c h i ≡ None) (sym here.same) none in
+    let still = λ (i : ℕ). semaphore_by_others h e i refl in
+    subst (λ (i : ℕ). Agrees c (after_accepted h e) (after_register t i desc)) here.same
+    (left_alone c h _ t t.sessions _ u g.nonblock_of
+    (charges_left c h e t.charges u (λ v. refl) k.agrees.charges)
+    (sessions_kept c h _ e t.sessions g refl (λ s. refl) (λ s. refl) (λ s. refl) (λ s. parked_by_others c h e s refl) k.agrees.sessions)
+    (record {
+      rows = rows_changed c h (after_accepted h e) (inside c (after_accepted h e)) t.objects t.created here.x.object (with_body (with_registration desc)) (alive_same c h _ u) u.object' u.facts'
+          (λ i ne. inside_same c h (after_accepted h e) i (queue_by_others c h e i refl) (registered_on_other c h sid desc here.x i here.held (ne_eqb here.x.object i (λ q. ne (sym q)))) (still i))
+          (λ x is. registers_body x sid desc (inside c h here.x.object) (inside c (after_accepted h e) here.x.object) (queue_by_others c h e here.x.object refl) (still here.x.object) free (registered_on c h sid desc here.x here.held))
+          u.creations' k.agrees.objects;
+      count = k.agrees.objects.count ∙ sym u.creations';
+    })
+    k.agrees)
+
+-- an accepted notify off
+unregisters_body : (x : Object) (desc : Desc) (m n : Inside) → n.queue ≡ m.queue → n.semaphore ≡ m.semaphore → n.registered ≡ kept (λ y. eqb desc.0 y.desc.0) m.registered → body_of x.kind n ≡ with_body (without_registration desc) (body_of x.kind m)
+unfolding without_registration
+unregisters_body x desc m n q u now = at x.kind where
+  left : (given : Attributes) (g : Option Registration) → QueueBody (tickets_of (kept (λ y. eqb desc.0 y.desc.0) g) m.queue given) ≡ QueueBody (without_registration desc (tickets_of g m.queue given))
+  left given None = refl
+  left given (Some y) = rw (eqb_swapped desc.0 y.desc.0) (by_test (eqb y.desc.0 desc.0)) where
+    by_test : (b : Bool) → QueueBody (tickets_of (cond b None (Some y)) m.queue given) ≡ QueueBody (cond b (tickets_of None m.queue given) (tickets_of (Some y) m.queue given))
+    by_test true = refl
+    by_test false = refl
+
+  at : (kind : Kind) → body_of kind n ≡ with_body (without_registration desc) (body_of kind m)
+  at (QueueKind given) = rw (q, now) (left given m.registered)
+  at (SemaphoreKind value) = ap (λ u. SemaphoreBody (counter_of u)) u
+
+kept_none : (p : Registration → Bool) (w : Option Registration) → ((x : Registration) → w ≡ Some x → p x ≡ false) → kept p w ≡ w
+kept_none p None none = refl
+kept_none p (Some x) none = ap (λ b. cond b None (Some x)) (none x refl)
+
+pub agrees_unregistered : (c : Config) (h : History) (t : Kept) (sid : Sid) (desc : Desc) (o : ℕ) → IsCore c h t → IsHereQueue c h t sid.0 desc.0 o → Agrees c (after_accepted h (Do sid (MqNotify desc false))) (after_unregister t o desc)
+agrees_unregistered c h t sid desc o k here =
+    let e = Do sid (MqNotify desc false) in
+    let g = grows c h e in
+    let u = untouched c h e (record { owner = λ m. refl; group = λ m. refl; mode = λ m. refl }) (λ i. refl) (λ d. refl) refl (λ f. refl) refl (λ i. refl) (λ i. refl) in
+    let still = λ (i : ℕ). semaphore_by_others h e i refl in
+    subst (λ (i : ℕ). Agrees c (after_accepted h e) (after_unregister t i desc)) here.same
+    (left_alone c h _ t t.sessions _ u g.nonblock_of
+    (charges_left c h e t.charges u (λ v. refl) k.agrees.charges)
+    (sessions_kept c h _ e t.sessions g refl (λ s. refl) (λ s. refl) (λ s. refl) (λ s. parked_by_others c h e s refl) k.agrees.sessions)
+    (record {
+      rows = rows_changed c h (after_accepted h e) (inside c (after_accepted h e)) t.objects t.created here.x.object (with_body (without_registration desc)) (alive_same c h _ u) u.object' u.facts'
+          (λ i ne. inside_same c h (after_accepted h e) i (queue_by_others c h e i refl) (registered_off c h sid desc here.x i here.held ∙ kept_none (λ y. eqb desc.0 y.desc.0) (registered c h i) (λ y is. other_s_description c h i sid desc here.x y here.held (ne_eqb here.x.object i (λ q. ne (sym q))) is)) (still i))
+          (λ x is. unregisters_body x desc (inside c h here.x.object) (inside c (after_accepted h e) here.x.object) (queue_by_others c h e here.x.object refl) (still here.x.object) (registered_off c h sid desc here.x here.x.object here.held))
           u.creations' k.agrees.objects;
       count = k.agrees.objects.count ∙ sym u.creations';
     })
@@ -300,7 +382,7 @@ unparked c h sid e s = at (eqb sid.0 s) refl where
 
 -- what stands in an object without the call of the session
 abbrev pub without_calls : Config → History → Sid → ℕ → Inside
-without_calls c h sid o = record { queue = queue_after (maxmsg c h o) (Withdraws sid.0) (queue c h o); semaphore = semaphore_after (Cancels sid.0) (semaphore h o) }
+without_calls c h sid o = record { queue = queue_after (maxmsg c h o) (Withdraws sid.0) (queue c h o); registered = registered c h o; semaphore = semaphore_after (Cancels sid.0) (semaphore h o) }
 
 left_elsewhere : (c : Config) (h : History) (sid : Sid) (o : ℕ) → Legal c h → there_is (λ x. eqb x.object o) (parked c h sid.0) ≡ false → without_calls c h sid o ≡ inside c h o
 left_elsewhere c h sid o legal away = rw (withdrawn_elsewhere c h legal (maxmsg c h o) sid.0 o away, cancelled_elsewhere c h legal sid.0 o away) refl
@@ -328,11 +410,11 @@ withdrawn_at c h t sid q k made lt (Some p) e =
       others = refl;
     })
 
--- an interrupt and a hang-up leave no call of their session
+-- an interrupt and a hang-up leave no call of their session; a hang-up ends its registrations
 interrupt_inside : (c : Config) (h : History) (sid : Sid) (o : ℕ) → inside c (after_accepted h (Do sid Interrupt)) o ≡ without_calls c h sid o
-interrupt_inside c h sid o = rw (queue_by_interrupt c h sid o, semaphore_by_interrupt h sid o) refl
+interrupt_inside c h sid o = rw (queue_by_interrupt c h sid o, registered_stays c h (Do sid Interrupt) o refl (λ x k. refl), semaphore_by_interrupt h sid o) refl
 
-hangup_inside : (c : Config) (h : History) (sid : Sid) (o : ℕ) → inside c (after_accepted h (Hangup sid)) o ≡ without_calls c h sid o
+hangup_inside : (c : Config) (h : History) (sid : Sid) (o : ℕ) → inside c (after_accepted h (Hangup sid)) o ≡ record (without_calls c h sid o) { registered = registered c (after_accepted h (Hangup sid)) o }
 hangup_inside c h sid o = rw (queue_by_hangup c h sid o, semaphore_by_hangup h sid o) refl
 
 -- an accepted interrupt
@@ -362,7 +444,7 @@ agrees_set c h t sid desc nonblock x a is =
       sessions = sessions_kept c h _ e t.sessions g refl (λ s. refl) (λ s. refl) (λ s. refl) (λ s. parked_by_others c h e s refl) a.sessions;
       queues = directory_kept h (after_accepted h e) Mq t.queues (g.bindings_of Mq) (directory_left h e (record { owner = λ m. refl; group = λ m. refl; mode = λ m. refl }) Mq) a.queues;
       semaphores = directory_kept h (after_accepted h e) Sem t.semaphores (g.bindings_of Sem) (directory_left h e (record { owner = λ m. refl; group = λ m. refl; mode = λ m. refl }) Sem) a.semaphores;
-      objects = objects_same c h _ t u (λ o. others_inside c h e o refl refl) a;
+      objects = objects_same c h _ t u (λ o. others_inside c h e o refl (registered_stays c h e o refl (λ x k. refl)) refl) a;
       descriptions = descriptions_set h _ t.descriptions sid.0 desc.0 nonblock x u.held' g.nonblock_of u.opens' is a.descriptions;
       charges = charges_left c h e t.charges u (λ v. refl) a.charges;
     }
@@ -377,15 +459,44 @@ agrees_limited c h t sid uid bytes a =
       sessions = sessions_kept c h _ e t.sessions g refl (λ s. refl) (λ s. refl) (λ s. refl) (λ s. parked_by_others c h e s refl) a.sessions;
       queues = directory_kept h (after_accepted h e) Mq t.queues (u.bindings' Mq) (u.directory' Mq) a.queues;
       semaphores = directory_kept h (after_accepted h e) Sem t.semaphores (u.bindings' Sem) (u.directory' Sem) a.semaphores;
-      objects = objects_same c h _ t u (λ o. others_inside c h e o refl refl) a;
+      objects = objects_same c h _ t u (λ o. others_inside c h e o refl (registered_stays c h e o refl (λ x k. refl)) refl) a;
       descriptions = descriptions_kept h (after_accepted h e) t.descriptions u.held' g.nonblock_of u.opens' a.descriptions;
       charges = charges_limited c h sid uid bytes t.charges (λ v. charged_same c h (after_accepted h e) v (alive_same c h (after_accepted h e) u) u.object' u.creations') a.charges;
     }
 
+-- a registration is left exactly if its description is held
+released_at : (c : Config) (h k : History) (d : Descriptions) (w : ℕ → Held → Bool) (v : ℕ → ℕ → Bool) (o : ℕ) (x : Registration) → DescriptionsAgree k d → ((i : ℕ) → held k i ≡ kept (w i) (held h i)) → ((i : ℕ) (y : Held) → w i y ≡ v y.session.0 i) → IsHeldFor h o x → cond (is_some (find (is_desc x.desc.0) d.rows)) (Some x) None ≡ cond (v x.session.0 x.desc.0) None (Some x)
+released_at c h k d w v o x a h' by_session known = ap (λ b. cond b (Some x) None) there ∙ at (v x.session.0 x.desc.0) where
+  mine : known.x'.session.0 ≡ x.session.0
+  mine = session_is x.session.0 known.x' (if_of_is x.session.0 x.desc.0 h known.x' known.held)
+
+  now : held k x.desc.0 ≡ cond (v x.session.0 x.desc.0) None (Some known.x')
+  now = h' x.desc.0 ∙ ap (kept (w x.desc.0)) (holds_is_held h x.session.0 x.desc.0 known.x' known.held) ∙ ap (λ b. cond b None (Some known.x')) (by_session x.desc.0 known.x' ∙ ap (λ s. v s x.desc.0) mine)
+
+  counts : (u : Option Held) → is_some (option_map (row_held (is_nonblock k) x.desc.0) u) ≡ is_some u
+  counts None = refl
+  counts (Some y) = refl
+
+  there : is_some (find (is_desc x.desc.0) d.rows) ≡ is_some (cond (v x.session.0 x.desc.0) None (Some known.x'))
+  there = ap is_some (row_is k d x.desc.0 a) ∙ counts (held k x.desc.0) ∙ ap is_some now
+
+  at : (b : Bool) → cond (is_some (cond b None (Some known.x'))) (Some x) None ≡ cond b None (Some x)
+  at true = refl
+  at false = refl
+
+released_is : (c : Config) (h k : History) (d : Descriptions) (w : ℕ → Held → Bool) (v : ℕ → ℕ → Bool) (o : ℕ) → DescriptionsAgree k d → ((i : ℕ) → held k i ≡ kept (w i) (held h i)) → ((i : ℕ) (y : Held) → w i y ≡ v y.session.0 i) → registered c k o ≡ kept (λ x. v x.session.0 x.desc.0) (registered c h o) → registered c k o ≡ released d.rows (registered c h o)
+released_is c h k d w v o a h' by_session ends = ends ∙ at (registered c h o) refl where
+  at : (g : Option Registration) → registered c h o ≡ g → kept (λ x. v x.session.0 x.desc.0) g ≡ released d.rows g
+  at None e = refl
+  at (Some x) e = sym (released_at c h k d w v o x a h' by_session (registered_held c h o x e))
+
+left_is_so : (c : Config) (h k : History) (d : Descriptions) (w : ℕ → Held → Bool) (v : ℕ → ℕ → Bool) (q : Inside) (o : ℕ) → q.registered ≡ registered c h o → DescriptionsAgree k d → ((i : ℕ) → held k i ≡ kept (w i) (held h i)) → ((i : ℕ) (y : Held) → w i y ≡ v y.session.0 i) → registered c k o ≡ kept (λ x. v x.session.0 x.desc.0) (registered c h o) → record q { registered = registered c k o } ≡ left_in d.rows q
+left_is_so c h k d w v q o was a h' by_session ends = ap (λ (g : Option Registration). record q { registered = g }) (released_is c h k d w v o a h' by_session ends ∙ ap (released d.rows) (sym was))
+
 -- an event that creates nothing, after which objects may be gone
-pub gone : (c : Config) (h k : History) (e : Event) (t : Kept) (ss : List Session) (xs : List ObjectRow) (queues' semaphores' : Directory) (d : Descriptions) (q : ℕ → Inside) (p : Opening → Bool) (w : ℕ → Held → Bool) → Grows c h k e → ((o : ℕ) → named k o ≡ kept p (named h o)) → ((i : ℕ) → held k i ≡ kept (w i) (held h i)) → opens k ≡ opens h → creations k ≡ creations h → ((o : ℕ) → object c k o ≡ object c h o) → ((o : ℕ) → facts c k o ≡ facts c h o) → ((o : ℕ) → inside c k o ≡ q o) → xs ≡ gathered_below (row_with c h q) (creations h) → Legal c h → ((u : Uid) → limit c k u ≡ limit c h u) → SessionsAgree c k ss → DirectoryAgrees k Mq queues' → DirectoryAgrees k Sem semaphores' → DescriptionsAgree k d → Agrees c h t → Agrees c k (record t { sessions = ss; queues = queues'; semaphores = semaphores'; objects = living queues' semaphores' d.rows xs; descriptions = d; charges = settled (is_kept queues' semaphores' d.rows) xs t.charges })
-gone c h k e t ss xs queues' semaphores' d q p w g n h' i m o f same rows' legal limits sessions' mq sem descriptions' a =
-    let left = objects_left c h k q queues' semaphores' d xs t.created mq sem descriptions' (λ j. alive_less h k j p w (n j) h' i) o f same m rows' a.objects.count in
+pub gone : (c : Config) (h k : History) (e : Event) (t : Kept) (ss : List Session) (xs : List ObjectRow) (queues' semaphores' : Directory) (d : Descriptions) (q : ℕ → Inside) (p : Opening → Bool) (w : ℕ → Held → Bool) → Grows c h k e → ((o : ℕ) → named k o ≡ kept p (named h o)) → ((i : ℕ) → held k i ≡ kept (w i) (held h i)) → opens k ≡ opens h → creations k ≡ creations h → ((o : ℕ) → object c k o ≡ object c h o) → ((o : ℕ) → facts c k o ≡ facts c h o) → ((o : ℕ) → inside c k o ≡ record (q o) { registered = registered c k o }) → ((o : ℕ) → (q o).registered ≡ registered c h o) → (v : ℕ → ℕ → Bool) → ((o : ℕ) → registered c k o ≡ kept (λ x. v x.session.0 x.desc.0) (registered c h o)) → ((i : ℕ) (y : Held) → w i y ≡ v y.session.0 i) → xs ≡ gathered_below (row_with c h q) (creations h) → Legal c h → ((u : Uid) → limit c k u ≡ limit c h u) → SessionsAgree c k ss → DirectoryAgrees k Mq queues' → DirectoryAgrees k Sem semaphores' → DescriptionsAgree k d → Agrees c h t → Agrees c k (record t { sessions = ss; queues = queues'; semaphores = semaphores'; objects = living queues' semaphores' d.rows xs; descriptions = d; charges = settled (is_kept queues' semaphores' d.rows) xs t.charges })
+gone c h k e t ss xs queues' semaphores' d q p w g n h' i m o f same was v ends by_session rows' legal limits sessions' mq sem descriptions' a =
+    let left = objects_left c h k q queues' semaphores' d xs t.created mq sem descriptions' (λ j. alive_less h k j p w (n j) h' i) o f (λ j. same j ∙ left_is_so c h k d w v (q j) j (was j) descriptions' h' by_session (ends j)) m rows' a.objects.count in
     let made : HaveFacts c h = object_with_facts c h legal in
     let made' : HaveFacts c k = λ j. ap is_some (o j) ∙ made j ∙ ap is_some (sym (f j)) in
     record {
@@ -394,16 +505,16 @@ gone c h k e t ss xs queues' semaphores' d q p w g n h' i m o f same rows' legal
       semaphores = sem;
       objects = left;
       descriptions = descriptions';
-      charges = charges_settled c h k (is_kept queues' semaphores' d.rows) xs t.charges limits (λ u. taken_is c h q xs u made rows') (λ u. taken_is c k (inside c k) _ u made' left.rows) a.charges;
+      charges = charges_settled c h k (is_kept queues' semaphores' d.rows) xs t.charges limits (λ u. taken_is c h q xs u made rows') (λ u. sym (taken_held d.rows u.0 (filter (is_kept queues' semaphores' d.rows) xs)) ∙ taken_is c k (inside c k) _ u made' left.rows) a.charges;
     }
 
 -- an accepted hang-up
-hung : (c : Config) (h : History) (t u : Kept) (sid : Sid) → IsCore c h t → IsWithdrawn c h t u sid (inside c (after_accepted h (Hangup sid))) → Agrees c (after_accepted h (Hangup sid)) (ended (record t { sessions = u.sessions; objects = u.objects }) sid.0)
+hung : (c : Config) (h : History) (t u : Kept) (sid : Sid) → IsCore c h t → IsWithdrawn c h t u sid (without_calls c h sid) → Agrees c (after_accepted h (Hangup sid)) (ended (record t { sessions = u.sessions; objects = u.objects }) sid.0)
 hung c h t u sid core w =
     let a = core.agrees in
     let e = Hangup sid in
     let g = grows c h e in
-    gone c h (after_accepted h e) e t (changed hung_up u.sessions sid.0) u.objects t.queues t.semaphores _ (inside c (after_accepted h e)) (λ x. false) (λ i x. eqb sid.0 x.session.0) g g.named_by g.held_by g.open_count g.creation_count g.object_of (λ o. facts_made c h e (record { owner = λ m. refl; group = λ m. refl; mode = λ m. refl }) o) (λ o. refl) w.rows core.legal (λ v. limit_left c h e v refl)
+    gone c h (after_accepted h e) e t (changed hung_up u.sessions sid.0) u.objects t.queues t.semaphores _ (without_calls c h sid) (λ x. false) (λ i x. eqb sid.0 x.session.0) g g.named_by g.held_by g.open_count g.creation_count g.object_of (λ o. facts_made c h e (record { owner = λ m. refl; group = λ m. refl; mode = λ m. refl }) o) (hangup_inside c h sid) (λ o. refl) (λ s i. eqb sid.0 s) (registered_hangup c h sid) (λ i y. refl) w.rows core.legal (λ v. limit_left c h e v refl)
     (sessions_ended c h u.sessions sid (λ s. cond (eqb sid.0 s) None (parked_object c h s)) g (column_by_hangup c h sid) w.sessions)
     (directory_kept h (after_accepted h e) Mq t.queues (g.bindings_of Mq) (directory_left h e (record { owner = λ m. refl; group = λ m. refl; mode = λ m. refl }) Mq) a.queues)
     (directory_kept h (after_accepted h e) Sem t.semaphores (g.bindings_of Sem) (directory_left h e (record { owner = λ m. refl; group = λ m. refl; mode = λ m. refl }) Sem) a.semaphores)
@@ -412,7 +523,7 @@ hung c h t u sid core w =
 
 pub agrees_ended : (c : Config) (h : History) (t : Kept) (sid : Sid) → IsCore c h t → sid.0 < length t.sessions → Agrees c (after_accepted h (Hangup sid)) (after_hangup t sid)
 agrees_ended c h t sid k lt =
-    let w = withdrawn_at c h t sid (inside c (after_accepted h (Hangup sid))) k (hangup_inside c h sid) lt (parked c h sid.0) refl in
+    let w = withdrawn_at c h t sid (without_calls c h sid) k (λ o. refl) lt (parked c h sid.0) refl in
     subst (λ v. Agrees c (after_accepted h (Hangup sid)) (ended v sid.0)) (sym w.others) (hung c h t (after_withdrawal t sid) sid k w)
 
 -- whether there is a verdict, as a test says

@@ -44,18 +44,22 @@ use Rattle.ipc_state.proofs.Lookups.{row_other, row_own, found_is, directory_agr
 use Rattle.ipc_state.proofs.ObjectTables.{directory_kept, objects_kept, row_kept, alive_kept, descriptions_kept}
 use Rattle.ipc_state.proofs.ChargeTables.{charged_same, limit_left, charges_kept}
 use Rattle.ipc_state.proofs.Opens.{Ends, made_left}
-use Rattle.ipc_state.proofs.Opened.{sessions_apart, ends_inside}
+use Rattle.ipc_policy.specs.Registrations.{registered}
+use Rattle.ipc_policy.proofs.RegisteredSteps.{registered_stays}
+use Rattle.ipc_state.proofs.Accepting.{others_inside}
+use Rattle.ipc_state.proofs.Opened.{sessions_apart}
 
 -- a chmod or a chown says nothing of names, objects and descriptions
 record Changes (e : Event) : Type 0 where
   ends : Ends e
+  calm' : (c : Config) (h : History) (o : ℕ) → registered c (after_accepted h e) o ≡ registered c h o
   named' : (o n : ℕ) (b : Family → List ℕ → Bool) (w : Option Opening) → named_after o e b n w ≡ kept (λ x. false) w
   held' : (d i n : ℕ) (b : Family → List ℕ → Option ℕ) (w : Option Held) → held_after d e i b n w ≡ kept (λ x. false) w
   bindings' : (f : Family) (n : ℕ) (b : Family → List ℕ → Bool) (w : List Binding) → bindings_after f e b n w ≡ w
 
 changes_of : (sid : Sid) (call : Call) (target : Target) → changing call ≡ Some target → Changes (Do sid call)
-changes_of sid (Chmod mode target) meant k = record { ends = record { none = refl; apart = record { still = refl; hellos' = λ n. refl; user' = λ s n w. refl; live' = λ s n b. refl; mask' = λ s m. refl; limit' = λ u before. refl }; named' = λ o n b w. refl; opens' = λ n. refl; nonblock' = λ s d n was. refl; creations' = λ n b. refl }; named' = λ o n b w. refl; held' = λ d i n b w. refl; bindings' = λ f n b w. refl }
-changes_of sid (Chown owner group target) meant k = record { ends = record { none = refl; apart = record { still = refl; hellos' = λ n. refl; user' = λ s n w. refl; live' = λ s n b. refl; mask' = λ s m. refl; limit' = λ u before. refl }; named' = λ o n b w. refl; opens' = λ n. refl; nonblock' = λ s d n was. refl; creations' = λ n b. refl }; named' = λ o n b w. refl; held' = λ d i n b w. refl; bindings' = λ f n b w. refl }
+changes_of sid (Chmod mode target) meant k = record { calm' = λ c h o. registered_stays c h _ o refl (λ x k. refl); ends = record { none = refl; apart = record { still = refl; hellos' = λ n. refl; user' = λ s n w. refl; live' = λ s n b. refl; mask' = λ s m. refl; limit' = λ u before. refl }; named' = λ o n b w. refl; opens' = λ n. refl; nonblock' = λ s d n was. refl; creations' = λ n b. refl }; named' = λ o n b w. refl; held' = λ d i n b w. refl; bindings' = λ f n b w. refl }
+changes_of sid (Chown owner group target) meant k = record { calm' = λ c h o. registered_stays c h _ o refl (λ x k. refl); ends = record { none = refl; apart = record { still = refl; hellos' = λ n. refl; user' = λ s n w. refl; live' = λ s n b. refl; mask' = λ s m. refl; limit' = λ u before. refl }; named' = λ o n b w. refl; opens' = λ n. refl; nonblock' = λ s d n was. refl; creations' = λ n b. refl }; named' = λ o n b w. refl; held' = λ d i n b w. refl; bindings' = λ f n b w. refl }
 changes_of sid call meant k = absurd cc
 
 -- what it leaves of the tables
@@ -84,7 +88,7 @@ left_by c h t e p a =
       charges = charges_kept c h (after_accepted h e) t.charges (λ u. limit_left c h e u (p.ends.apart.limit' u h)) (λ u. charged_same c h (after_accepted h e) u alive' object' creations') a.charges;
       alive' = alive';
       object' = object';
-      inside' = λ o. ends_inside c h e o p.ends;
+      inside' = λ o. others_inside c h e o p.ends.apart.still (p.calm' c h o) (made_left e p.ends.none o _ _ _ _);
       creations' = creations';
     }
 

@@ -24,6 +24,8 @@ use Rattle.ipc_policy.specs.Queues.{attributes}
 use Rattle.ipc_policy.specs.Semaphores.{Semaphore, semaphore, value}
 use Rattle.ipc_sem.specs.Counters.{Counter}
 use Rattle.ipc_state.specs.Past.{brought, queue_by, semaphore_by, value_by}
+use Rattle.ipc_policy.specs.declared.config.Registration.{Registration}
+use Rattle.ipc_policy.specs.Registrations.{registered}
 use Rattle.ipc_state.specs.Agrees.{ticket_of, tickets_of, sender_of, receiver_of, queue_meant, counter_of, semaphore_meant}
 use Rattle.ipc_state.proofs.QueueSteps.{next_same}
 use Rattle.ipc_state.proofs.Mapped.{longest_mapped}
@@ -37,18 +39,18 @@ abbrev pub semaphore_held : Config → History → ℕ → ℕ → Option Counte
 semaphore_held c h s d = option_and_then (semaphore_meant c h) (option_map (λ (x : Held). x.object) (holds h s d))
 
 -- what is read of what is kept is what is read of the policy's
-reads : {K Q Y A : Type 0} (w : Option Held) (given : ℕ → Option Y) (here : ℕ → Q) (kept' : Q → Y → K) (f : K → Option A) (g : Q → Option A) → ((q : Q) (y : Y) → f (kept' q y) ≡ g q) → option_and_then f (option_and_then (λ o. option_map (kept' (here o)) (given o)) (option_map (λ (x : Held). x.object) w)) ≡ option_and_then g (option_and_then (λ (x : Held). option_map (λ y. here x.object) (given x.object)) w)
+reads : {K Q Y A : Type 0} (w : Option Held) (given : ℕ → Option Y) (here : ℕ → Q) (kept' : ℕ → Y → K) (f : K → Option A) (g : Q → Option A) → ((o : ℕ) (y : Y) → f (kept' o y) ≡ g (here o)) → option_and_then f (option_and_then (λ o. option_map (kept' o) (given o)) (option_map (λ (x : Held). x.object) w)) ≡ option_and_then g (option_and_then (λ (x : Held). option_map (λ y. here x.object) (given x.object)) w)
 reads None given here kept' f g same = refl
 reads {K = K} {Q = Q} {Y = Y} {A = A} (Some x) given here kept' f g same = at (given x.object) where
-  at : (v : Option Y) → option_and_then f (option_map (kept' (here x.object)) v) ≡ option_and_then g (option_map (λ y. here x.object) v)
+  at : (v : Option Y) → option_and_then f (option_map (kept' x.object) v) ≡ option_and_then g (option_map (λ y. here x.object) v)
   at None = refl
-  at (Some y) = same (here x.object) y
+  at (Some y) = same x.object y
 
-pub held_reads : {A : Type 0} (c : Config) (h : History) (s d : ℕ) (f : Tickets → Option A) (g : Queue → Option A) → ((q : Queue) (y : Attributes) → f (tickets_of q y) ≡ g q) → option_and_then f (queue_held c h s d) ≡ option_and_then g (queue_by c h s d)
-held_reads c h s d f g same = reads (holds h s d) (attributes c h) (queue c h) tickets_of f g same
+pub held_reads : {A : Type 0} (c : Config) (h : History) (s d : ℕ) (f : Tickets → Option A) (g : Queue → Option A) → ((r : Option Registration) (q : Queue) (y : Attributes) → f (tickets_of r q y) ≡ g q) → option_and_then f (queue_held c h s d) ≡ option_and_then g (queue_by c h s d)
+held_reads c h s d f g same = reads (holds h s d) (attributes c h) (queue c h) (λ o. tickets_of (registered c h o) (queue c h o)) f g (λ o y. same (registered c h o) (queue c h o) y)
 
 semaphore_reads : {A : Type 0} (c : Config) (h : History) (s d : ℕ) (f : Counter → Option A) (g : Semaphore → Option A) → ((q : Semaphore) → f (counter_of q) ≡ g q) → option_and_then f (semaphore_held c h s d) ≡ option_and_then g (semaphore_by c h s d)
-semaphore_reads c h s d f g same = reads (holds h s d) (λ o. as_semaphore (object c h o)) (semaphore h) (λ q first_value. counter_of q) f g (λ q y. same q)
+semaphore_reads c h s d f g same = reads (holds h s d) (λ o. as_semaphore (object c h o)) (semaphore h) (λ o first_value. counter_of (semaphore h o)) f g (λ o y. same (semaphore h o))
 
 some_mapped : {A B : Type 0} (f : A → B) (w : Option A) → option_and_then (λ x. Some (f x)) w ≡ option_map f w
 some_mapped f None = refl
@@ -58,12 +60,12 @@ some_mapped f (Some x) = refl
 pub held_length : (c : Config) (h : History) (s d : ℕ) → option_map (λ (q : Tickets). length q.tickets) (queue_held c h s d) ≡ option_map (λ q. length q.contents) (queue_by c h s d)
 held_length c h s d =
     sym (some_mapped (λ (q : Tickets). length q.tickets) (queue_held c h s d))
-    ∙ held_reads c h s d (λ q. Some (length q.tickets)) (λ q. Some (length q.contents)) (λ q y. ap Some (length-map q.contents ticket_of))
+    ∙ held_reads c h s d (λ q. Some (length q.tickets)) (λ q. Some (length q.contents)) (λ r q y. ap Some (length-map q.contents ticket_of))
     ∙ some_mapped (λ (q : Queue). length q.contents) (queue_by c h s d)
 
 -- the longest parked calls
 pub held_receiver : (c : Config) (h : History) (s d : ℕ) → option_and_then (λ (q : Tickets). first q.receivers) (queue_held c h s d) ≡ option_and_then (λ q. option_map receiver_of (first q.receivers)) (queue_by c h s d)
-held_receiver c h s d = held_reads c h s d (λ q. first q.receivers) (λ q. option_map receiver_of (first q.receivers)) (λ q y. longest_mapped receiver_of q.receivers)
+held_receiver c h s d = held_reads c h s d (λ q. first q.receivers) (λ q. option_map receiver_of (first q.receivers)) (λ r q y. longest_mapped receiver_of q.receivers)
 
 pub held_waiter : (c : Config) (h : History) (s d : ℕ) → option_and_then (λ (q : Counter). first q.waiters) (semaphore_held c h s d) ≡ option_and_then (λ q. option_map receiver_of (first q.waiters)) (semaphore_by c h s d)
 held_waiter c h s d = semaphore_reads c h s d (λ q. first q.waiters) (λ q. option_map receiver_of (first q.waiters)) (λ q. longest_mapped receiver_of q.waiters)
@@ -88,7 +90,7 @@ first_parked [] = refl
 first_parked (m ∷ ms) = refl
 
 pub held_sender : (c : Config) (h : History) (s d : ℕ) → option_and_then (λ (q : Tickets). option_map (λ (m : ParkedSend). m.session) (first q.senders)) (queue_held c h s d) ≡ option_and_then (λ q. option_map session_of (first q.senders)) (queue_by c h s d)
-held_sender c h s d = held_reads c h s d (λ q. option_map (λ (m : ParkedSend). m.session) (first q.senders)) (λ q. option_map session_of (first q.senders)) (λ q y. first_parked q.senders)
+held_sender c h s d = held_reads c h s d (λ q. option_map (λ (m : ParkedSend). m.session) (first q.senders)) (λ q. option_map session_of (first q.senders)) (λ r q y. first_parked q.senders)
 
 -- the place of the next message
 pub place_mapped : (n : Option Send) → option_map (λ (t : Ticket). t.place) (option_map ticket_of n) ≡ option_map (λ (m : Send). m.place) n
@@ -99,7 +101,7 @@ next_placed : (ms : List Send) → next_place (map ticket_of ms) ≡ option_map 
 next_placed ms = ap (option_map (λ (t : Ticket). t.place)) (next_same ms) ∙ place_mapped (next ms)
 
 pub held_place : (c : Config) (h : History) (s d : ℕ) → option_and_then (λ (q : Tickets). next_place q.tickets) (queue_held c h s d) ≡ option_and_then (λ q. option_map (λ (m : Send). m.place) (next q.contents)) (queue_by c h s d)
-held_place c h s d = held_reads c h s d (λ q. next_place q.tickets) (λ q. option_map (λ (m : Send). m.place) (next q.contents)) (λ q y. next_placed q.contents)
+held_place c h s d = held_reads c h s d (λ q. next_place q.tickets) (λ q. option_map (λ (m : Send). m.place) (next q.contents)) (λ r q y. next_placed q.contents)
 
 -- what stands at that place is the message
 message_next : (c : Config) (h : History) (o place : ℕ) (w : Option Send) → next (contents c h o) ≡ w → option_map (λ (m : Send). m.place) w ≡ Some place → message_at place h ≡ option_map brought w

@@ -10,6 +10,7 @@ pub mod ParkedColumn
 pub mod SessionTables
 pub mod ObjectTables
 pub mod ChargeTables
+pub mod RegistrationTables
 pub mod Serving
 pub mod Posting
 pub mod Opens

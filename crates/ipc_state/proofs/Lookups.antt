@@ -40,6 +40,7 @@ use Rattle.ipc_terms.specs.declared.object.Kind.{Kind}
 use Rattle.ipc_terms.specs.declared.object.Kind.TheVariants.{Queue as QueueKind, Semaphore as SemaphoreKind}
 use Rattle.ipc_policy.specs.Queues.{queue}
 use Rattle.ipc_policy.specs.Semaphores.{semaphore}
+use Rattle.ipc_policy.specs.Registrations.{registered}
 use Rattle.ipc_state.specs.Agrees.{Agrees, SessionsAgree, DirectoryAgrees, ObjectsAgree, DescriptionsAgree, tickets_of, queue_meant, counter_of, semaphore_meant, Inside, inside, body_of, row_made, row_with, row_held, held_in}
 use Rattle.ipc_terms.proofs.Lists.{counted_is, found_any, eqb_swapped}
 use Rattle.ipc_state.proofs.Gathered.{gathered_count}
@@ -228,9 +229,9 @@ object_column o true (Some x) None q e k = absurd cc
 object_column o true (Some x) (Some y) q e k = refl
 object_column o false w v q e k = absurd cc
 
-queue_of_kind : (x : Object) (q : Inside) → queue_in (body_of x.kind q) ≡ option_map (tickets_of q.queue) (of_queue x.kind)
+queue_of_kind : (x : Object) (q : Inside) → queue_in (body_of x.kind q) ≡ option_map (tickets_of q.registered q.queue) (of_queue x.kind)
 queue_of_kind x q = at x.kind where
-  at : (kind : Kind) → queue_in (body_of kind q) ≡ option_map (tickets_of q.queue) (of_queue kind)
+  at : (kind : Kind) → queue_in (body_of kind q) ≡ option_map (tickets_of q.registered q.queue) (of_queue kind)
   at (QueueKind attributes) = refl
   at (SemaphoreKind value) = refl
 
@@ -255,7 +256,7 @@ object_alive c h t o legal a k =
 pub queue_alive : (c : Config) (h : History) (t : Kept) (o : ℕ) → Legal c h → Agrees c h t → alive h o ≡ true → queue_at t.objects o ≡ queue_meant c h o
 queue_alive c h t o legal a k =
     ap (option_and_then (λ (row : ObjectRow). queue_in row.body)) (row_at_is c h t.objects t.created o a.objects)
-    ∙ body_column queue_in (λ w. option_map (tickets_of (queue c h o)) (as_queue w)) (inside c h o) refl (λ x. queue_of_kind x (inside c h o)) o (alive h o) (object c h o) (facts c h o) k (object_with_facts c h legal o)
+    ∙ body_column queue_in (λ w. option_map (tickets_of (registered c h o) (queue c h o)) (as_queue w)) (inside c h o) refl (λ x. queue_of_kind x (inside c h o)) o (alive h o) (object c h o) (facts c h o) k (object_with_facts c h legal o)
 
 pub semaphore_alive : (c : Config) (h : History) (t : Kept) (o : ℕ) → Legal c h → Agrees c h t → alive h o ≡ true → semaphore_at t.objects o ≡ semaphore_meant c h o
 semaphore_alive c h t o legal a k =

@@ -1,7 +1,8 @@
 -- What an accepted event does to the tables of names, objects and descriptions.
-use Rattle.std.proofs.Common.{◌≡◌, ℕ, ◌+◌, ◌<◌, Bool, true, false, not, ◌&&◌, ◌||◌, eqb, cond, List, [], ◌∷◌, ◌++◌, filter, Option, Some, None, is_some, refl, sym, ap, ◌∙◌}
+use Rattle.std.proofs.Common.{◌≡◌, ℕ, zero, suc, map, find, ◌+◌, ◌<◌, Bool, true, false, not, ◌&&◌, ◌||◌, eqb, cond, List, [], ◌∷◌, ◌++◌, filter, Option, Some, None, is_some, refl, sym, ap, ◌∙◌}
 use Rattle.std.specs.Prelude.{option_and_then, if◌then◌else◌}
 use Rattle.std.specs.Option.{option_map}
+use Rattle.std.proofs.lemmas.List.{map-append}
 use Rattle.std.proofs.lemmas.Bool.{eqb-true, eq-eqb, ne_eqb}
 use Rattle.ipc_terms.specs.declared.facts.Facts.{Facts}
 use Rattle.ipc_terms.specs.declared.ids.Family.{Family}
@@ -21,11 +22,19 @@ use Rattle.ipc_tables.specs.declared.rows.ObjectRow.{ObjectRow}
 use Rattle.ipc_descr.specs.declared.row.Row.{Row}
 use Rattle.ipc_terms.specs.Lists.{changed_first}
 use Rattle.ipc_descr.specs.Descriptions.{Descriptions, is_desc, with_nonblock}
-use Rattle.ipc_tables.specs.Objects.{is_number, bytes_taken, new_body, new_row}
+use Rattle.ipc_queue.specs.Tickets.{without_registration}
+use Rattle.ipc_terms.specs.declared.call.Attributes.{Attributes}
+use Rattle.ipc_terms.specs.declared.object.Kind.{Kind}
+use Rattle.ipc_terms.specs.declared.object.Kind.TheVariants.{Queue as QueueKind, Semaphore as SemaphoreKind}
+use Rattle.ipc_policy.specs.declared.config.Registration.{Registration}
+use Rattle.ipc_policy.specs.Queues.{Queue}
+use Rattle.ipc_policy.specs.Semaphores.{Semaphore}
+use Rattle.ipc_tables.specs.Objects.{is_number, bytes_taken, new_body, new_row, with_queue, with_held}
+use Rattle.ipc_tables.specs.declared.rows.Body.TheVariants.{Queue as QueueBody}
 use Rattle.ipc_tables.specs.declared.rows.Body.{Body}
-use Rattle.ipc_tables.specs.Kept.{is_alive}
+use Rattle.ipc_tables.specs.Kept.{is_alive, is_kept}
 use Rattle.ipc_tables.specs.Steps.{living}
-use Rattle.ipc_state.specs.Agrees.{DirectoryAgrees, ObjectsAgree, DescriptionsAgree, Inside, inside, body_of, row_made, row_with, row_held}
+use Rattle.ipc_state.specs.Agrees.{DirectoryAgrees, ObjectsAgree, DescriptionsAgree, Inside, inside, tickets_of, body_of, row_made, row_with, row_held}
 use Rattle.ipc_state.proofs.Lookups.{alive_is, row_of_other, row_of_own, row_other, row_own}
 use Rattle.ipc_state.proofs.Gathered.{gathered_changed}
 
@@ -67,6 +76,15 @@ alive_less h k o p q n d m e = more_at (is_some (named k o)) (any_below (λ i. g
     (λ f. any_below_more (λ i. gives_object o (held k i)) (λ i. gives_object o (held h i)) (opens h) (λ i j. gives_kept o (q i) (held h i) (sym (ap (gives_object o) (d i)) ∙ j)) (sym (ap (any_below (λ i. gives_object o (held k i))) m) ∙ f))
     e
 
+-- a list that is gathered, each changed
+map_listed : {X : Type 0} (f : X → X) (w : Option X) → map f (listed w) ≡ listed (option_map f w)
+map_listed f None = refl
+map_listed f (Some x) = refl
+
+gathered_map : {X : Type 0} (f : X → X) (g : ℕ → Option X) (n : ℕ) → map f (gathered_below g n) ≡ gathered_below (λ i. option_map f (g i)) n
+gathered_map f g zero = refl
+gathered_map f g (suc n) = map-append f (gathered_below g n) (listed (g n)) ∙ ap (λ l. l ++ map f (listed (g n))) (gathered_map f g n) ∙ ap (λ l. gathered_below (λ i. option_map f (g i)) n ++ l) (map_listed f (g n))
+
 -- the objects that are still alive
 none_if : (d : Bool) → ◌≡◌ {A = Option ObjectRow} None (cond d None None)
 none_if true = refl
@@ -79,14 +97,43 @@ row_left o keep true d (Some x) (Some y) q all less = ap (λ b. cond b (row_made
 row_left o keep false true w v q all less = absurd (let k = less refl in cc)
 row_left o keep false false w v q all less = refl
 
-pub objects_left : (c : Config) (h k : History) (q' : ℕ → Inside) (queues semaphores : Directory) (t : Descriptions) (xs : List ObjectRow) (created : ℕ) → DirectoryAgrees k Mq queues → DirectoryAgrees k Sem semaphores → DescriptionsAgree k t → ((o : ℕ) → alive k o ≡ true → alive h o ≡ true) → ((o : ℕ) → object c k o ≡ object c h o) → ((o : ℕ) → facts c k o ≡ facts c h o) → ((o : ℕ) → inside c k o ≡ q' o) → creations k ≡ creations h → xs ≡ gathered_below (row_with c h q') (creations h) → created ≡ creations h → ObjectsAgree c k (living queues semaphores t.rows xs) created
+-- the registration that is left, by the descriptions that are held
+abbrev pub released : List Row → Option Registration → Option Registration
+released rows None = None
+released rows (Some x) = cond (is_some (find (is_desc x.desc.0) rows)) (Some x) None
+
+-- what is left of what stands in an object
+abbrev pub left_in : List Row → Inside → Inside
+left_in rows q = record q { registered = released rows q.registered }
+
+queue_left : (rows : List Row) (o : ℕ) (x : Object) (y : Facts) (given : Attributes) (n : ℕ) (q : Queue) (u : Semaphore) (g : Option Registration) → with_held rows (record { number = o; object = x; facts = y; bytes = n; body = QueueBody (tickets_of g q given) }) ≡ record { number = o; object = x; facts = y; bytes = n; body = QueueBody (tickets_of (released rows g) q given) }
+unfolding without_registration
+queue_left rows o x y given n q u None = refl
+queue_left rows o x y given n q u (Some r) = at (is_some (find (is_desc r.desc.0) rows)) where
+  at : (b : Bool) → cond b (record { number = o; object = x; facts = y; bytes = n; body = QueueBody (tickets_of (Some r) q given) }) (with_queue (without_registration r.desc) (record { number = o; object = x; facts = y; bytes = n; body = QueueBody (tickets_of (Some r) q given) })) ≡ record { number = o; object = x; facts = y; bytes = n; body = QueueBody (tickets_of (cond b (Some r) None) q given) }
+  at true = refl
+  at false = rw (eq-eqb r.desc.0 r.desc.0 refl) refl
+
+body_left : (rows : List Row) (o : ℕ) (x : Object) (y : Facts) (n : ℕ) (q : Inside) (kind : Kind) → with_held rows (record { number = o; object = x; facts = y; bytes = n; body = body_of kind q }) ≡ record { number = o; object = x; facts = y; bytes = n; body = body_of kind (left_in rows q) }
+body_left rows o x y n q (QueueKind given) = queue_left rows o x y given n q.queue q.semaphore q.registered
+body_left rows o x y n q (SemaphoreKind value) = refl
+
+row_released : (rows : List Row) (o : ℕ) (b : Bool) (w : Option Object) (v : Option Facts) (q : Inside) → option_map (with_held rows) (cond b (row_made o w v q) None) ≡ cond b (row_made o w v (left_in rows q)) None
+row_released rows o true None v q = refl
+row_released rows o true (Some x) None q = refl
+row_released rows o true (Some x) (Some y) q = ap Some (body_left rows o x y (bytes_taken x.kind) q x.kind)
+row_released rows o false w v q = refl
+
+pub objects_left : (c : Config) (h k : History) (q' : ℕ → Inside) (queues semaphores : Directory) (t : Descriptions) (xs : List ObjectRow) (created : ℕ) → DirectoryAgrees k Mq queues → DirectoryAgrees k Sem semaphores → DescriptionsAgree k t → ((o : ℕ) → alive k o ≡ true → alive h o ≡ true) → ((o : ℕ) → object c k o ≡ object c h o) → ((o : ℕ) → facts c k o ≡ facts c h o) → ((o : ℕ) → inside c k o ≡ left_in t.rows (q' o)) → creations k ≡ creations h → xs ≡ gathered_below (row_with c h q') (creations h) → created ≡ creations h → ObjectsAgree c k (living queues semaphores t.rows xs) created
 objects_left c h k q' queues semaphores t xs created q s d less o f m n rows count = record {
   rows =
-      ap (filter (λ (row : ObjectRow). is_alive queues semaphores t.rows row.number)) rows
-      ∙ gathered_filter (λ (row : ObjectRow). is_alive queues semaphores t.rows row.number) (row_with c h q') (creations h)
+      ap (λ l. map (with_held t.rows) (filter (is_kept queues semaphores t.rows) l)) rows
+      ∙ ap (map (with_held t.rows)) (gathered_filter (is_kept queues semaphores t.rows) (row_with c h q') (creations h))
+      ∙ gathered_map (with_held t.rows) (λ i. passing (is_kept queues semaphores t.rows) (row_with c h q' i)) (creations h)
       ∙ gathered_same _ (row_with c k (inside c k)) (creations h) (λ i lt.
-      row_left i (λ (row : ObjectRow). is_alive queues semaphores t.rows row.number) (alive h i) (alive k i) (object c h i) (facts c h i) (q' i) (λ row e. ap (is_alive queues semaphores t.rows) e ∙ alive_is k queues semaphores t i q s d) (less i)
-      ∙ row_kept i (alive k i) (alive k i) (object c h i) (object c k i) (facts c h i) (facts c k i) (q' i) (inside c k i) refl (sym (o i)) (sym (f i)) (sym (m i)))
+      ap (option_map (with_held t.rows)) (row_left i (is_kept queues semaphores t.rows) (alive h i) (alive k i) (object c h i) (facts c h i) (q' i) (λ row e. ap (is_alive queues semaphores t.rows) e ∙ alive_is k queues semaphores t i q s d) (less i))
+      ∙ row_released t.rows i (alive k i) (object c h i) (facts c h i) (q' i)
+      ∙ row_kept i (alive k i) (alive k i) (object c h i) (object c k i) (facts c h i) (facts c k i) (left_in t.rows (q' i)) (inside c k i) refl (sym (o i)) (sym (f i)) (sym (m i)))
       ∙ ap (gathered_below (row_with c k (inside c k))) (sym n);
   count = count ∙ sym n;
 }

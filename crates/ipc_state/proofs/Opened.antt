@@ -40,7 +40,9 @@ use Rattle.ipc_state.proofs.SessionTables.{sessions_kept}
 use Rattle.ipc_policy.proofs.Facts.{GivesNothing, facts_made, directory_left}
 use Rattle.ipc_state.proofs.ObjectTables.{directory_kept, objects_kept, objects_created, descriptions_kept, descriptions_dropped}
 use Rattle.ipc_state.proofs.Opens.{Apart, Opens, Ends, Unlinks, Closes, made_open, made_left, body_made, descriptions_opened, alive_opened}
-use Rattle.ipc_state.proofs.Accepting.{others_inside, gone}
+use Rattle.ipc_policy.specs.Registrations.{registered}
+use Rattle.ipc_policy.proofs.RegisteredSteps.{not_created_unregistered}
+use Rattle.ipc_state.proofs.Accepting.{others_inside, within, gone}
 
 -- the sessions are as they were
 pub sessions_apart : (c : Config) (h : History) (e : Event) (t : Kept) → Apart e → Agrees c h t → SessionsAgree c (after_accepted h e) t.sessions
@@ -94,7 +96,7 @@ agrees_found c h t e asked o p a is =
       queues = directory_same h e Mq t.queues p.gives (g.bindings_of Mq ∙ p.bindings' Mq _ _ _ ∙ made_none _ _ _ _ old) a.queues;
       semaphores = directory_same h e Sem t.semaphores p.gives (g.bindings_of Sem ∙ p.bindings' Sem _ _ _ ∙ made_none _ _ _ _ old) a.semaphores;
       objects = objects_kept c h _ t.objects t.created (λ i. found_alive c h e asked o i p is) (λ i. g.object_of i ∙ made_open e asked p.is i _ _ _ _ ∙ made_none _ _ _ _ old) (λ i. facts_made c h e p.gives i ∙ made_open e asked p.is i _ _ _ _ ∙ made_none _ _ _ _ old)
-          (λ i. others_inside c h e i p.apart.still (made_open e asked p.is i _ _ _ _ ∙ made_none _ _ _ _ old))
+          (λ i. others_inside c h e i p.apart.still (p.calm' c h i) (made_open e asked p.is i _ _ _ _ ∙ made_none _ _ _ _ old))
           (g.creation_count ∙ p.creations' _ _ ∙ rw old refl) a.objects;
       descriptions = descriptions_opened c h _ t.descriptions e asked o g p a.descriptions (found_by h asked o is);
       charges = charges_kept c h _ t.charges (λ u. limit_left c h e u (p.apart.limit' u h)) (λ u. charged_same c h _ u (λ i. found_alive c h e asked o i p is) (λ i. g.object_of i ∙ made_open e asked p.is i _ _ _ _ ∙ made_none _ _ _ _ old) (g.creation_count ∙ p.creations' _ _ ∙ rw old refl)) a.charges;
@@ -159,11 +161,11 @@ agrees_created c h t e asked who p a new none is =
           (λ o lt. created_other c h e asked o p new none lt)
           (λ o lt. g.object_of o ∙ made_open e asked p.is o n (is_bound h) _ _ ∙ new_is _ _ _ _ new ∙ other_at n o _ _ lt)
           (λ o lt. facts_made c h e p.gives o ∙ made_open e asked p.is o n (is_bound h) _ _ ∙ new_is _ _ _ _ new ∙ other_at n o _ _ lt)
-          (λ o lt. others_inside c h e o p.apart.still (first o ∙ other_at n o _ _ lt))
+          (λ o lt. others_inside c h e o p.apart.still (p.calm' c h o) (first o ∙ other_at n o _ _ lt))
           (created_alive c h e asked p new none)
           (g.object_of n ∙ made_open e asked p.is n n (is_bound h) _ _ ∙ new_is _ _ _ _ new ∙ created_at n _ _ ∙ made_who (made_by c asked) _ who _ is)
           (facts_made c h e p.gives n ∙ made_open e asked p.is n n (is_bound h) _ _ ∙ new_is _ _ _ _ new ∙ created_at n _ _ ∙ made_who (first_facts asked (mask h asked.session.0)) _ who _ is)
-          (body_made c asked.kind _ _ (queue_by_others c h e n p.apart.still ∙ not_created_empty c h n (omega arith))
+          (body_made c asked.kind _ _ _ (queue_by_others c h e n p.apart.still ∙ not_created_empty c h n (omega arith)) (p.calm' c h n ∙ not_created_unregistered c h n (omega arith))
           (semaphore_by_others h e n p.apart.still ∙ ap (λ v. with_first v (semaphore h n)) (first n ∙ created_at n _ _) ∙ ap (with_first (option_or (value_asked asked.kind) None)) (not_created_still h n (omega arith))))
           a.objects;
       descriptions = descriptions_opened c h k t.descriptions e asked t.created g p a.descriptions (created_opened h asked t.created new none a.objects.count);
@@ -175,9 +177,9 @@ agrees_created c h t e asked who p a new none is =
           a.charges;
     }))
 
--- an event that opens nothing leaves what stands in the objects
-pub ends_inside : (c : Config) (h : History) (e : Event) (o : ℕ) → Ends e → inside c (after_accepted h e) o ≡ inside c h o
-ends_inside c h e o p = others_inside c h e o p.apart.still (made_left e p.none o _ _ _ _)
+-- an event that opens nothing leaves what stands in the objects, but for registrations
+pub ends_inside : (c : Config) (h : History) (e : Event) (o : ℕ) → Ends e → inside c (after_accepted h e) o ≡ record (inside c h o) { registered = registered c (after_accepted h e) o }
+ends_inside c h e o p = within c h e o p.apart.still (made_left e p.none o _ _ _ _)
 
 -- an accepted close
 pub agrees_closed : (c : Config) (h : History) (t : Kept) (e : Event) (sid : Sid) (desc : Desc) → Closes e sid desc → IsCore c h t → Agrees c (after_accepted h e) (after_close t sid.0 desc.0)
@@ -192,6 +194,10 @@ agrees_closed c h t e sid desc p core =
     (λ o. g.object_of o ∙ made_left e p.ends.none o _ _ _ _)
     (λ o. facts_made c h e p.gives o ∙ made_left e p.ends.none o _ _ _ _)
     (λ o. ends_inside c h e o p.ends)
+    (λ o. refl)
+    (λ s i. eqb sid.0 s && eqb desc.0 i)
+    (p.registered' c h)
+    (λ i y. refl)
     a.objects.rows
     core.legal
     (λ u. limit_left c h e u (p.ends.apart.limit' u h))
@@ -232,6 +238,10 @@ agrees_unlinked c h t e what p core =
     (λ o. g.object_of o ∙ made_left e p.ends.none o _ _ _ _)
     (λ o. facts_made c h e p.gives o ∙ made_left e p.ends.none o _ _ _ _)
     (λ o. ends_inside c h e o p.ends)
+    (λ o. refl)
+    (λ s i. false)
+    (p.registered' c h)
+    (λ i y. refl)
     a.objects.rows
     core.legal
     (λ u. limit_left c h e u (p.ends.apart.limit' u h))

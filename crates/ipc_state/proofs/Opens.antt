@@ -1,5 +1,5 @@
 -- What an open of either family, an unlink and a close do to names, objects and descriptions.
-use Rattle.std.proofs.Common.{◌≡◌, ℕ, ◌+◌, ◌<◌, Bool, false, not, ◌&&◌, ◌||◌, eqb, cond, List, [], ◌∷◌, ◌++◌, filter, Option, Some, None, is_some, refl, sym, ap, subst, ◌∙◌, arith, add-one}
+use Rattle.std.proofs.Common.{◌≡◌, ℕ, ◌+◌, ◌<◌, Bool, true, false, not, ◌&&◌, ◌||◌, eqb, cond, List, [], ◌∷◌, ◌++◌, filter, Option, Some, None, is_some, refl, sym, ap, subst, ◌∙◌, arith, add-one}
 use Rattle.std.specs.Option.{option_or, option_map}
 use Rattle.std.proofs.lemmas.Bool.{eq-eqb, ne_eqb}
 use Rattle.ipc_terms.specs.Names.{same_family, same_name}
@@ -17,7 +17,10 @@ use Rattle.ipc_terms.specs.declared.record.Event.{Event}
 use Rattle.ipc_terms.specs.declared.record.Event.TheVariants.{Hello, Do, Hangup}
 use Rattle.ipc_policy.specs.declared.config.Config.{Config}
 use Rattle.ipc_policy.specs.declared.config.Held.{Held}
-use Rattle.ipc_policy.specs.History.{History, kept, listed, gathered_below, any_below}
+use Rattle.ipc_policy.specs.declared.config.Registration.{Registration}
+use Rattle.ipc_policy.specs.Registrations.{registered}
+use Rattle.ipc_policy.proofs.RegisteredSteps.{registered_stays, registered_kept}
+use Rattle.ipc_policy.specs.History.{History, after_accepted, kept, listed, gathered_below, any_below}
 use Rattle.ipc_policy.specs.Names.{Opening, Naming, opening, unlinking, unlinks, queue_opening, semaphore_opening, nonblock_asked, is_bound, creations, bound}
 use Rattle.ipc_policy.specs.Objects.{kind_of}
 use Rattle.ipc_policy.specs.Descriptions.{opens, opened, opened_by, held_as, held, is_nonblock}
@@ -47,6 +50,7 @@ pub record Apart (e : Event) : Type 0 where
 pub record Opens (e : Event) (asked : Opening) : Type 0 where
   pub is : opening e ≡ Some asked
   pub apart : Apart e
+  pub calm' : (c : Config) (h : History) (o : ℕ) → registered c (after_accepted h e) o ≡ registered c h o
   pub gives : GivesNothing e
   pub family' : (c : Config) → family_of (kind_of c asked.kind) ≡ asked.family
   pub named' : (o n : ℕ) (b : Family → List ℕ → Bool) (w : Option Opening) → named_after o e b n w ≡ cond (is_new asked b && eqb n o) (Some asked) w
@@ -59,10 +63,10 @@ pub record Opens (e : Event) (asked : Opening) : Type 0 where
 pub opens_of : (e : Event) (asked : Opening) → opening e ≡ Some asked → Opens e asked
 opens_of (Do sid (MqOpen given)) asked k =
     let same : queue_opening sid given ≡ asked = cc in
-    subst (Opens (Do sid (MqOpen given))) same (record { is = refl; gives = record { owner = λ m. refl; group = λ m. refl; mode = λ m. refl }; apart = record { still = refl; hellos' = λ n. refl; user' = λ s n w. refl; live' = λ s n b. refl; mask' = λ s m. refl; limit' = λ u before. refl }; family' = λ c. refl; named' = λ o n b w. refl; held' = λ d i n b w. refl; opens' = λ n. refl; nonblock' = λ s d n was. refl; bindings' = λ f n b w. refl; creations' = λ n b. refl })
+    subst (Opens (Do sid (MqOpen given))) same (record { is = refl; calm' = λ c h o. registered_stays c h _ o refl (λ x k. refl); gives = record { owner = λ m. refl; group = λ m. refl; mode = λ m. refl }; apart = record { still = refl; hellos' = λ n. refl; user' = λ s n w. refl; live' = λ s n b. refl; mask' = λ s m. refl; limit' = λ u before. refl }; family' = λ c. refl; named' = λ o n b w. refl; held' = λ d i n b w. refl; opens' = λ n. refl; nonblock' = λ s d n was. refl; bindings' = λ f n b w. refl; creations' = λ n b. refl })
 opens_of (Do sid (SemOpen given)) asked k =
     let same : semaphore_opening sid given ≡ asked = cc in
-    subst (Opens (Do sid (SemOpen given))) same (record { is = refl; gives = record { owner = λ m. refl; group = λ m. refl; mode = λ m. refl }; apart = record { still = refl; hellos' = λ n. refl; user' = λ s n w. refl; live' = λ s n b. refl; mask' = λ s m. refl; limit' = λ u before. refl }; family' = λ c. refl; named' = λ o n b w. refl; held' = λ d i n b w. refl; opens' = λ n. refl; nonblock' = λ s d n was. refl; bindings' = λ f n b w. refl; creations' = λ n b. refl })
+    subst (Opens (Do sid (SemOpen given))) same (record { is = refl; calm' = λ c h o. registered_stays c h _ o refl (λ x k. refl); gives = record { owner = λ m. refl; group = λ m. refl; mode = λ m. refl }; apart = record { still = refl; hellos' = λ n. refl; user' = λ s n w. refl; live' = λ s n b. refl; mask' = λ s m. refl; limit' = λ u before. refl }; family' = λ c. refl; named' = λ o n b w. refl; held' = λ d i n b w. refl; opens' = λ n. refl; nonblock' = λ s d n was. refl; bindings' = λ f n b w. refl; creations' = λ n b. refl })
 opens_of (Do sid call) asked k = absurd cc
 opens_of (Hello found) asked k = absurd cc
 opens_of (Hangup sid) asked k = absurd cc
@@ -82,14 +86,15 @@ pub record Unlinks (e : Event) (what : Naming) : Type 0 where
   pub gives : GivesNothing e
   pub held' : (d i n : ℕ) (b : Family → List ℕ → Option ℕ) (w : Option Held) → held_after d e i b n w ≡ kept (λ x. false) w
   pub bindings' : (f : Family) (n : ℕ) (b : Family → List ℕ → Bool) (w : List Binding) → bindings_after f e b n w ≡ filter (λ x. not (same_family what.family f && same_name x.name what.name)) w
+  pub registered' : (c : Config) (h : History) (o : ℕ) → registered c (after_accepted h e) o ≡ kept (λ x. false) (registered c h o)
 
 pub unlinks_of : (e : Event) (what : Naming) → unlinking e ≡ Some what → Unlinks e what
 unlinks_of (Do sid (MqUnlink name)) what k =
     let same : record { session = sid; family = Mq; name = name } ≡ what = cc in
-    subst (Unlinks (Do sid (MqUnlink name))) same (record { gives = record { owner = λ m. refl; group = λ m. refl; mode = λ m. refl }; ends = record { none = refl; apart = record { still = refl; hellos' = λ n. refl; user' = λ s n w. refl; live' = λ s n b. refl; mask' = λ s m. refl; limit' = λ u before. refl }; named' = λ o n b w. refl; opens' = λ n. refl; nonblock' = λ s d n was. refl; creations' = λ n b. refl }; held' = λ d i n b w. refl; bindings' = λ f n b w. refl })
+    subst (Unlinks (Do sid (MqUnlink name))) same (record { registered' = λ c h o. registered_kept c h _ o (λ x. false) refl (λ x k. refl); gives = record { owner = λ m. refl; group = λ m. refl; mode = λ m. refl }; ends = record { none = refl; apart = record { still = refl; hellos' = λ n. refl; user' = λ s n w. refl; live' = λ s n b. refl; mask' = λ s m. refl; limit' = λ u before. refl }; named' = λ o n b w. refl; opens' = λ n. refl; nonblock' = λ s d n was. refl; creations' = λ n b. refl }; held' = λ d i n b w. refl; bindings' = λ f n b w. refl })
 unlinks_of (Do sid (SemUnlink name)) what k =
     let same : record { session = sid; family = Sem; name = name } ≡ what = cc in
-    subst (Unlinks (Do sid (SemUnlink name))) same (record { gives = record { owner = λ m. refl; group = λ m. refl; mode = λ m. refl }; ends = record { none = refl; apart = record { still = refl; hellos' = λ n. refl; user' = λ s n w. refl; live' = λ s n b. refl; mask' = λ s m. refl; limit' = λ u before. refl }; named' = λ o n b w. refl; opens' = λ n. refl; nonblock' = λ s d n was. refl; creations' = λ n b. refl }; held' = λ d i n b w. refl; bindings' = λ f n b w. refl })
+    subst (Unlinks (Do sid (SemUnlink name))) same (record { registered' = λ c h o. registered_kept c h _ o (λ x. false) refl (λ x k. refl); gives = record { owner = λ m. refl; group = λ m. refl; mode = λ m. refl }; ends = record { none = refl; apart = record { still = refl; hellos' = λ n. refl; user' = λ s n w. refl; live' = λ s n b. refl; mask' = λ s m. refl; limit' = λ u before. refl }; named' = λ o n b w. refl; opens' = λ n. refl; nonblock' = λ s d n was. refl; creations' = λ n b. refl }; held' = λ d i n b w. refl; bindings' = λ f n b w. refl })
 unlinks_of (Do sid call) what k = absurd cc
 unlinks_of (Hello found) what k = absurd cc
 unlinks_of (Hangup sid) what k = absurd cc
@@ -101,12 +106,17 @@ pub record Closes (e : Event) (sid : Sid) (desc : Desc) : Type 0 where
   pub held' : (d i n : ℕ) (b : Family → List ℕ → Option ℕ) (w : Option Held) → held_after d e i b n w ≡ kept (λ x. eqb sid.0 x.session.0 && eqb desc.0 d) w
   pub bindings' : (f : Family) (n : ℕ) (b : Family → List ℕ → Bool) (w : List Binding) → bindings_after f e b n w ≡ w
   pub unlinks' : (f : Family) (name : List ℕ) → unlinks f name e ≡ false
+  pub registered' : (c : Config) (h : History) (o : ℕ) → registered c (after_accepted h e) o ≡ kept (λ x. eqb sid.0 x.session.0 && eqb desc.0 x.desc.0) (registered c h o)
+
+or_off : (b : Bool) → (b || false) ≡ b
+or_off true = refl
+or_off false = refl
 
 pub queue_closes : (sid : Sid) (desc : Desc) → Closes (Do sid (MqClose desc)) sid desc
-queue_closes sid desc = record { gives = record { owner = λ m. refl; group = λ m. refl; mode = λ m. refl }; ends = record { none = refl; apart = record { still = refl; hellos' = λ n. refl; user' = λ s n w. refl; live' = λ s n b. refl; mask' = λ s m. refl; limit' = λ u before. refl }; named' = λ o n b w. refl; opens' = λ n. refl; nonblock' = λ s d n was. refl; creations' = λ n b. refl }; held' = λ d i n b w. refl; bindings' = λ f n b w. refl; unlinks' = λ f name. refl }
+queue_closes sid desc = record { registered' = λ c h o. registered_kept c h _ o (λ x. eqb sid.0 x.session.0 && eqb desc.0 x.desc.0) refl (λ x k. or_off (eqb sid.0 x.session.0 && eqb desc.0 x.desc.0)); gives = record { owner = λ m. refl; group = λ m. refl; mode = λ m. refl }; ends = record { none = refl; apart = record { still = refl; hellos' = λ n. refl; user' = λ s n w. refl; live' = λ s n b. refl; mask' = λ s m. refl; limit' = λ u before. refl }; named' = λ o n b w. refl; opens' = λ n. refl; nonblock' = λ s d n was. refl; creations' = λ n b. refl }; held' = λ d i n b w. refl; bindings' = λ f n b w. refl; unlinks' = λ f name. refl }
 
 pub semaphore_closes : (sid : Sid) (desc : Desc) → Closes (Do sid (SemClose desc)) sid desc
-semaphore_closes sid desc = record { gives = record { owner = λ m. refl; group = λ m. refl; mode = λ m. refl }; ends = record { none = refl; apart = record { still = refl; hellos' = λ n. refl; user' = λ s n w. refl; live' = λ s n b. refl; mask' = λ s m. refl; limit' = λ u before. refl }; named' = λ o n b w. refl; opens' = λ n. refl; nonblock' = λ s d n was. refl; creations' = λ n b. refl }; held' = λ d i n b w. refl; bindings' = λ f n b w. refl; unlinks' = λ f name. refl }
+semaphore_closes sid desc = record { registered' = λ c h o. registered_kept c h _ o (λ x. eqb sid.0 x.session.0 && eqb desc.0 x.desc.0) refl (λ x k. or_off (eqb sid.0 x.session.0 && eqb desc.0 x.desc.0)); gives = record { owner = λ m. refl; group = λ m. refl; mode = λ m. refl }; ends = record { none = refl; apart = record { still = refl; hellos' = λ n. refl; user' = λ s n w. refl; live' = λ s n b. refl; mask' = λ s m. refl; limit' = λ u before. refl }; named' = λ o n b w. refl; opens' = λ n. refl; nonblock' = λ s d n was. refl; creations' = λ n b. refl }; held' = λ d i n b w. refl; bindings' = λ f n b w. refl; unlinks' = λ f name. refl }
 
 -- what an open makes, and what an event that opens nothing leaves
 pub made_open : {A : Type 0} (e : Event) (asked : Opening) → opening e ≡ Some asked → (o n : ℕ) (b : Family → List ℕ → Bool) (make : Opening → Option A) (w : Option A) → made_after o e b n make w ≡ cond (is_new asked b && eqb n o) (option_or (make asked) w) w
@@ -128,9 +138,9 @@ made_left (Hello found) k o n b make w = refl
 made_left (Hangup sid) k o n b make w = refl
 
 -- what stands in a new object
-pub body_made : (c : Config) (asked : Asked) (q : Queue) (u : Semaphore) → q ≡ empty_queue → u ≡ with_first (option_or (value_asked asked) None) no_semaphore → body_of (kind_of c asked) (record { queue = q; semaphore = u }) ≡ new_body (kind_of c asked)
-body_made c (AskedQueue given) q u e f = rw e refl
-body_made c (AskedSemaphore first) q u e f = rw f refl
+pub body_made : (c : Config) (asked : Asked) (q : Queue) (g : Option Registration) (u : Semaphore) → q ≡ empty_queue → g ≡ None → u ≡ with_first (option_or (value_asked asked) None) no_semaphore → body_of (kind_of c asked) (record { queue = q; registered = g; semaphore = u }) ≡ new_body (kind_of c asked)
+body_made c (AskedQueue given) q g u e n f = rw (e, n) refl
+body_made c (AskedSemaphore first) q g u e n f = rw f refl
 
 -- one more description
 held_new : (c : Config) (h k : History) (e : Event) (asked : Opening) (o : ℕ) → Grows c h k e → Opens e asked → opened h asked ≡ Some o → held k (opens h) ≡ Some (held_as asked o)

@@ -27,6 +27,7 @@ use Rattle.ipc_sem.specs.Counters.{Counter}
 use Rattle.ipc_terms.specs.Objects.{as_semaphore}
 use Rattle.ipc_tables.specs.Objects.{row_at, queue_at, semaphore_at}
 use Rattle.ipc_tables.specs.Kept.{Kept}
+use Rattle.ipc_policy.specs.Registrations.{registered}
 use Rattle.ipc_state.specs.Agrees.{Agrees, row_held, held_in, ticket_of, tickets_of, queue_meant, counter_of, semaphore_meant}
 use Rattle.ipc_state.proofs.Lookups.{row_is, held_is, held_alive, object_alive, queue_alive, semaphore_alive}
 
@@ -96,7 +97,7 @@ held_test_is c h test s d legal = at (holds h s d) where
 -- whether it is full, and whether it is empty
 pub full_is : (c : Config) (h : History) (o : ℕ) → there_is is_full_of (queue_meant c h o) ≡ is_full c h o
 full_is c h o = at (attributes c h o) where
-  at : (w : Option Attributes) → there_is is_full_of (option_map (tickets_of (queue c h o)) w) ≡ there_is (λ (x : Attributes). nat_le x.maxmsg (length (contents c h o))) w
+  at : (w : Option Attributes) → there_is is_full_of (option_map (tickets_of (registered c h o) (queue c h o)) w) ≡ there_is (λ (x : Attributes). nat_le x.maxmsg (length (contents c h o))) w
   at None = refl
   at (Some x) = ap (nat_le x.maxmsg) (length-map (contents c h o) ticket_of)
 
@@ -106,7 +107,7 @@ none_counted (x ∷ xs) = ne_eqb (length (x ∷ xs)) 0 (λ (e : length (x ∷ xs
 
 pub empty_is : (c : Config) (h : History) (o : ℕ) → there_is (λ q. eqb (length q.tickets) 0) (queue_meant c h o) ≡ is_empty c h o
 empty_is c h o = at (attributes c h o) where
-  at : (w : Option Attributes) → there_is (λ q. eqb (length q.tickets) 0) (option_map (tickets_of (queue c h o)) w) ≡ there_is (λ (x : Attributes). has_none (contents c h o)) w
+  at : (w : Option Attributes) → there_is (λ q. eqb (length q.tickets) 0) (option_map (tickets_of (registered c h o) (queue c h o)) w) ≡ there_is (λ (x : Attributes). has_none (contents c h o)) w
   at None = refl
   at (Some x) = ap (λ n. eqb n 0) (length-map (contents c h o) ticket_of) ∙ none_counted (contents c h o)
 

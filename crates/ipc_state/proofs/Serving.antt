@@ -12,7 +12,7 @@ use Rattle.ipc_terms.specs.declared.call.Call.TheVariants.{MqSend, MqReceive}
 use Rattle.ipc_terms.specs.declared.record.Event.TheVariants.{Do}
 use Rattle.ipc_queue.specs.declared.queue.Ticket.{Ticket}
 use Rattle.ipc_queue.specs.declared.queue.ParkedSend.{ParkedSend}
-use Rattle.ipc_queue.specs.Tickets.{Tickets, outcome_by_receiver, send_outcome, sent, outcome_by_next, receive_outcome, received, withdrawn}
+use Rattle.ipc_queue.specs.Tickets.{Tickets, fired, outcome_by_receiver, send_outcome, sent, outcome_by_next, receive_outcome, received, withdrawn}
 use Rattle.ipc_policy.specs.declared.config.Config.{Config}
 use Rattle.ipc_policy.specs.declared.config.Held.{Held}
 use Rattle.ipc_terms.specs.declared.call.Attributes.{Attributes}
@@ -23,8 +23,11 @@ use Rattle.ipc_policy.specs.Objects.{object}
 use Rattle.ipc_policy.specs.History.{History, after_accepted, there_is}
 use Rattle.ipc_policy.specs.Sessions.{hellos, user, live, mask}
 use Rattle.ipc_policy.specs.Descriptions.{holds}
-use Rattle.ipc_policy.specs.Life.{alive}
-use Rattle.ipc_policy.specs.Queues.{Send, Wait, Sends, Receives, Withdraws, Queue, next, has_none, has_all, room, attributes, maxmsg, queue, queue_after, contents, senders, receivers, is_full, is_empty}
+use Rattle.ipc_policy.specs.Life.{alive, gives_object}
+use Rattle.ipc_policy.specs.declared.config.Registration.{Registration}
+use Rattle.ipc_policy.specs.Registrations.{fires, registered}
+use Rattle.ipc_policy.proofs.RegisteredSteps.{registered_stays, registered_send}
+use Rattle.ipc_policy.specs.Queues.{Send, Wait, Sends, Receives, Withdraws, Rests, Queue, next, has_none, has_all, room, attributes, maxmsg, queue, queue_after, contents, senders, receivers, is_full, is_empty}
 use Rattle.ipc_policy.specs.Parking.{Parked, parked}
 use Rattle.ipc_policy.specs.Verdict.{Legal}
 use Rattle.ipc_policy.proofs.EachItem.{each_first, each_map}
@@ -47,7 +50,7 @@ use Rattle.ipc_state.proofs.Lookups.{queue_alive}
 use Rattle.ipc_state.proofs.QueueLookups.{holds_alive}
 use Rattle.ipc_policy.proofs.Unforbidden.{IsFree}
 use Rattle.ipc_state.proofs.Accepted.{within_live, not_bad_queue, not_bad_semaphore, limits_some}
-use Rattle.ipc_state.proofs.QueueSteps.{IsOnce, full_same, next_same, sent_is, received_is, withdrawn_is}
+use Rattle.ipc_state.proofs.QueueSteps.{IsOnce, left_registered, full_same, next_same, sent_is, received_is, withdrawn_is}
 use Rattle.ipc_state.proofs.ParkedColumn.{parked_object, column_after}
 use Rattle.ipc_state.proofs.SessionTables.{Columns, columns_of, columns_moved}
 use Rattle.ipc_state.proofs.HeldQueues.{place_mapped}
@@ -103,8 +106,8 @@ pub sender_stands : (c : Config) (h : History) (xs : List Session) (o : ℕ) (m 
 sender_stands c h xs o m legal a e = each_first (λ (v : Send). v.session < length xs) (senders c h o) (each_map _ (λ (v : Send). v.session < length xs) (senders c h o) (λ v is. parked_stands c h xs v.session _ a is) ((calls_listed c h legal).each_send o)) m e
 
 -- the queue of an object that is alive, as it is kept
-pub queue_there : (c : Config) (h : History) (t : Kept) (o : ℕ) (y : Attributes) → Legal c h → Agrees c h t → alive h o ≡ true → attributes c h o ≡ Some y → queue_at t.objects o ≡ Some (tickets_of (queue c h o) y)
-queue_there c h t o y legal a lives e = queue_alive c h t o legal a lives ∙ ap (option_map (tickets_of (queue c h o))) e
+pub queue_there : (c : Config) (h : History) (t : Kept) (o : ℕ) (y : Attributes) → Legal c h → Agrees c h t → alive h o ≡ true → attributes c h o ≡ Some y → queue_at t.objects o ≡ Some (tickets_of (registered c h o) (queue c h o) y)
+queue_there c h t o y legal a lives e = queue_alive c h t o legal a lives ∙ ap (option_map (tickets_of (registered c h o) (queue c h o))) e
 
 -- who is first in a list that is kept
 first_mapped : (rs : List Wait) (who : Sid) → first (map receiver_of rs) ≡ Some who → (w : Wait) × ((first rs ≡ Some w) × (w.session ≡ who.0))
@@ -116,21 +119,23 @@ first_sender [] who e = absurd cc
 first_sender (m ∷ ms) who e = let same : sender_of m ≡ who = cc in (m, (refl, ap (λ (s : ParkedSend). s.session.0) same))
 
 -- what a send does to the table of sessions
-send_told : (c : Config) (h : History) (o : ℕ) (y : Attributes) → attributes c h o ≡ Some y → send_outcome (tickets_of (queue c h o) y) ≡ outcome_by_receiver (is_full c h o) (option_map receiver_of (first (receivers c h o)))
+send_told : (c : Config) (h : History) (o : ℕ) (y : Attributes) → attributes c h o ≡ Some y → send_outcome (tickets_of (registered c h o) (queue c h o) y) ≡ outcome_by_receiver (is_full c h o) (fired (tickets_of (registered c h o) (queue c h o) y)) (option_map receiver_of (first (receivers c h o)))
 unfolding send_outcome
 send_told c h o y e =
-    ap (λ b. outcome_by_receiver b (first (map receiver_of (receivers c h o)))) (full_same y (queue c h o) ∙ sym (ap (there_is (λ x. has_all x.maxmsg (contents c h o))) e))
-    ∙ ap (outcome_by_receiver (is_full c h o)) (longest_mapped receiver_of (receivers c h o))
+    let q = tickets_of (registered c h o) (queue c h o) y in
+    ap (λ b. outcome_by_receiver b (fired q) (first (map receiver_of (receivers c h o)))) (full_same (registered c h o) y (queue c h o) ∙ sym (ap (there_is (λ x. has_all x.maxmsg (contents c h o))) e))
+    ∙ ap (outcome_by_receiver (is_full c h o) (fired q)) (longest_mapped receiver_of (receivers c h o))
 
-sent_column : (c : Config) (h : History) (xs : List Session) (o : ℕ) (sid : Sid) → SessionsAgree c h xs → sid.0 < length xs → (r : Option Wait) → ((w : Wait) → r ≡ Some w → w.session < length xs) → (f : Bool) → Columns (parked_by_send o sid (Some (outcome_by_receiver f (option_map receiver_of r))) xs) (hellos h) (user h) (mask h) (live h) (column_after (option_map (λ (w : Wait). w.session) r) f sid.0 o (parked_object c h))
-sent_column c h xs o sid a lt (Some w) there f = columns_moved xs (hellos h) (user h) (mask h) (live h) (parked_object c h) None w.session (there w refl) (columns_of c h xs a)
-sent_column c h xs o sid a lt None there true = columns_moved xs (hellos h) (user h) (mask h) (live h) (parked_object c h) (Some o) sid.0 lt (columns_of c h xs a)
-sent_column c h xs o sid a lt None there false = columns_of c h xs a
+sent_column : (c : Config) (h : History) (xs : List Session) (o : ℕ) (sid : Sid) → SessionsAgree c h xs → sid.0 < length xs → (r : Option Wait) → ((w : Wait) → r ≡ Some w → w.session < length xs) → (f : Bool) (g : Option Desc) → Columns (parked_by_send o sid (Some (outcome_by_receiver f g (option_map receiver_of r))) xs) (hellos h) (user h) (mask h) (live h) (column_after (option_map (λ (w : Wait). w.session) r) f sid.0 o (parked_object c h))
+sent_column c h xs o sid a lt (Some w) there f g = columns_moved xs (hellos h) (user h) (mask h) (live h) (parked_object c h) None w.session (there w refl) (columns_of c h xs a)
+sent_column c h xs o sid a lt None there true g = columns_moved xs (hellos h) (user h) (mask h) (live h) (parked_object c h) (Some o) sid.0 lt (columns_of c h xs a)
+sent_column c h xs o sid a lt None there false None = columns_of c h xs a
+sent_column c h xs o sid a lt None there false (Some desc) = columns_of c h xs a
 
 pub sessions_sent : (c : Config) (h : History) (t : Kept) (o : ℕ) (y : Attributes) (sid : Sid) → Legal c h → Agrees c h t → alive h o ≡ true → attributes c h o ≡ Some y → sid.0 < length t.sessions → Columns (parked_by_send o sid (option_map send_outcome (queue_at t.objects o)) t.sessions) (hellos h) (user h) (mask h) (live h) (column_after (option_map (λ (w : Wait). w.session) (first (receivers c h o))) (is_full c h o) sid.0 o (parked_object c h))
 sessions_sent c h t o y sid legal a lives e lt =
-    let told : option_map send_outcome (queue_at t.objects o) ≡ Some (outcome_by_receiver (is_full c h o) (option_map receiver_of (first (receivers c h o)))) = ap (option_map send_outcome) (queue_there c h t o y legal a lives e) ∙ ap Some (send_told c h o y e) in
-    rw told (sent_column c h t.sessions o sid a.sessions lt (first (receivers c h o)) (λ w is. receiver_stands c h t.sessions o w legal a.sessions is) (is_full c h o))
+    let told : option_map send_outcome (queue_at t.objects o) ≡ Some (outcome_by_receiver (is_full c h o) (fired (tickets_of (registered c h o) (queue c h o) y)) (option_map receiver_of (first (receivers c h o)))) = ap (option_map send_outcome) (queue_there c h t o y legal a lives e) ∙ ap Some (send_told c h o y e) in
+    rw told (sent_column c h t.sessions o sid a.sessions lt (first (receivers c h o)) (λ w is. receiver_stands c h t.sessions o w legal a.sessions is) (is_full c h o) (fired (tickets_of (registered c h o) (queue c h o) y)))
 
 -- at a full queue no receive is parked
 pub none_receives : (c : Config) (h : History) (o : ℕ) (y : Attributes) → IsOpen c h o y → attributes c h o ≡ Some y → is_full c h o ≡ true → option_map (λ (w : Wait). w.session) (first (receivers c h o)) ≡ None
@@ -143,9 +148,9 @@ none_receives c h o y q e full = at (receivers c h o) refl where
   at (w ∷ ws) k = absurd (let none : length (contents c h o) ≡ 0 = ap length (q.bounds.receivers_wait (ap has_none k)) in let least = q.some in let more = filled in omega arith)
 
 -- what a receive does to the table of sessions
-receive_told : (q : Queue) (y : Attributes) → receive_outcome (tickets_of q y) ≡ outcome_by_next (option_map (λ (m : Send). m.place) (next q.contents)) (option_map sender_of (first q.senders))
+receive_told : (g : Option Registration) (q : Queue) (y : Attributes) → receive_outcome (tickets_of g q y) ≡ outcome_by_next (option_map (λ (m : Send). m.place) (next q.contents)) (option_map sender_of (first q.senders))
 unfolding receive_outcome
-receive_told q y =
+receive_told g q y =
     ap (λ n. outcome_by_next (option_map (λ (t : Ticket). t.place) n) (first (map sender_of q.senders))) (next_same q.contents)
     ∙ ap (λ n. outcome_by_next n (first (map sender_of q.senders))) (place_mapped (next q.contents))
     ∙ ap (outcome_by_next (option_map (λ (m : Send). m.place) (next q.contents))) (longest_mapped sender_of q.senders)
@@ -185,26 +190,35 @@ none_sends c h o y q e empty = at (senders c h o) refl where
 
 pub sessions_received : (c : Config) (h : History) (t : Kept) (o : ℕ) (y : Attributes) (sid : Sid) → Legal c h → Agrees c h t → alive h o ≡ true → attributes c h o ≡ Some y → IsOpen c h o y → sid.0 < length t.sessions → Columns (parked_by_receive o sid (option_map receive_outcome (queue_at t.objects o)) t.sessions) (hellos h) (user h) (mask h) (live h) (column_after (option_map (λ (m : Send). m.session) (first (senders c h o))) (is_empty c h o) sid.0 o (parked_object c h))
 sessions_received c h t o y sid legal a lives e q lt =
-    let told : option_map receive_outcome (queue_at t.objects o) ≡ Some (outcome_by_next (option_map (λ (m : Send). m.place) (next (contents c h o))) (option_map sender_of (first (senders c h o)))) = ap (option_map receive_outcome) (queue_there c h t o y legal a lives e) ∙ ap Some (receive_told (queue c h o) y) in
+    let told : option_map receive_outcome (queue_at t.objects o) ≡ Some (outcome_by_next (option_map (λ (m : Send). m.place) (next (contents c h o))) (option_map sender_of (first (senders c h o)))) = ap (option_map receive_outcome) (queue_there c h t o y legal a lives e) ∙ ap Some (receive_told (registered c h o) (queue c h o) y) in
     rw told (received_column c h t.sessions o sid a.sessions lt (first (senders c h o)) (λ m is. sender_stands c h t.sessions o m legal a.sessions is) (is_empty c h o) (none_sends c h o y q e) (next (contents c h o)) (λ b. next_none (contents c h o) (sym (empty_at c h o y e) ∙ b)) (λ b. next_is (contents c h o) (sym (empty_at c h o y e) ∙ b)))
 
--- what they do to the queue
-pub queue_sent : (c : Config) (h : History) (sid : Sid) (desc : Desc) (priority : ℕ) (bytes : List ℕ) (x : Held) (y : Attributes) → IsOpen c h x.object y → holds h sid.0 desc.0 ≡ Some x → tickets_of (queue c (after_accepted h (Do sid (MqSend desc priority bytes))) x.object) y ≡ sent (record { place = length h; priority = priority }) sid (tickets_of (queue c h x.object) y)
+-- what they do to the queue; a receive leaves its registration
+receive_calm : (b : Bool) (w : Wait) (q : Queue) → fires (cond b (Receives w) Rests) q ≡ false
+receive_calm true w q = refl
+receive_calm false w q = refl
+
+pub registered_receive : (c : Config) (h : History) (sid : Sid) (desc : Desc) (length' o : ℕ) → registered c (after_accepted h (Do sid (MqReceive desc length'))) o ≡ registered c h o
+registered_receive c h sid desc length' o = registered_stays c h (Do sid (MqReceive desc length')) o refl (λ x k. receive_calm (gives_object o (holds h sid.0 desc.0)) (record { place = length h; session = sid.0; desc = desc.0 }) (queue c h o))
+
+pub queue_sent : (c : Config) (h : History) (sid : Sid) (desc : Desc) (priority : ℕ) (bytes : List ℕ) (x : Held) (y : Attributes) → IsOpen c h x.object y → holds h sid.0 desc.0 ≡ Some x → tickets_of (registered c (after_accepted h (Do sid (MqSend desc priority bytes))) x.object) (queue c (after_accepted h (Do sid (MqSend desc priority bytes))) x.object) y ≡ sent (record { place = length h; priority = priority }) sid (tickets_of (registered c h x.object) (queue c h x.object) y)
 queue_sent c h sid desc priority bytes x y q held =
     let m : Send = record { place = length h; session = sid.0; desc = desc.0; priority = priority; bytes = bytes } in
-    ap (λ r. tickets_of r y) (queue_by_send c h sid desc priority bytes x x.object held ∙ ap (λ b. cond b (queue_after (maxmsg c h x.object) (Sends m) (queue c h x.object)) (queue c h x.object)) (eq-eqb x.object x.object refl))
-    ∙ ap (λ n. tickets_of (queue_after n (Sends m) (queue c h x.object)) y) q.most
-    ∙ sent_is y m (queue c h x.object) q.some q.bounds
+    ap (λ g. tickets_of g (queue c (after_accepted h (Do sid (MqSend desc priority bytes))) x.object) y) (registered_send c h sid desc priority bytes x held)
+    ∙ ap (λ r. tickets_of (left_registered (registered c h x.object) (queue c h x.object)) r y) (queue_by_send c h sid desc priority bytes x x.object held ∙ ap (λ b. cond b (queue_after (maxmsg c h x.object) (Sends m) (queue c h x.object)) (queue c h x.object)) (eq-eqb x.object x.object refl))
+    ∙ ap (λ n. tickets_of (left_registered (registered c h x.object) (queue c h x.object)) (queue_after n (Sends m) (queue c h x.object)) y) q.most
+    ∙ sent_is (registered c h x.object) y m (queue c h x.object) q.some q.bounds
 
-pub queue_received : (c : Config) (h : History) (sid : Sid) (desc : Desc) (length' : ℕ) (x : Held) (y : Attributes) → IsOpen c h x.object y → holds h sid.0 desc.0 ≡ Some x → tickets_of (queue c (after_accepted h (Do sid (MqReceive desc length'))) x.object) y ≡ received sid (tickets_of (queue c h x.object) y)
+pub queue_received : (c : Config) (h : History) (sid : Sid) (desc : Desc) (length' : ℕ) (x : Held) (y : Attributes) → IsOpen c h x.object y → holds h sid.0 desc.0 ≡ Some x → tickets_of (registered c (after_accepted h (Do sid (MqReceive desc length'))) x.object) (queue c (after_accepted h (Do sid (MqReceive desc length'))) x.object) y ≡ received sid (tickets_of (registered c h x.object) (queue c h x.object) y)
 queue_received c h sid desc length' x y q held =
     let w : Wait = record { place = length h; session = sid.0; desc = desc.0 } in
-    ap (λ r. tickets_of r y) (queue_by_receive c h sid desc length' x x.object held ∙ ap (λ b. cond b (queue_after (maxmsg c h x.object) (Receives w) (queue c h x.object)) (queue c h x.object)) (eq-eqb x.object x.object refl))
-    ∙ ap (λ n. tickets_of (queue_after n (Receives w) (queue c h x.object)) y) q.most
-    ∙ received_is y w (queue c h x.object) q.some q.bounds (once c h x.object)
+    ap (λ g. tickets_of g (queue c (after_accepted h (Do sid (MqReceive desc length'))) x.object) y) (registered_receive c h sid desc length' x.object)
+    ∙ ap (λ r. tickets_of (registered c h x.object) r y) (queue_by_receive c h sid desc length' x x.object held ∙ ap (λ b. cond b (queue_after (maxmsg c h x.object) (Receives w) (queue c h x.object)) (queue c h x.object)) (eq-eqb x.object x.object refl))
+    ∙ ap (λ n. tickets_of (registered c h x.object) (queue_after n (Receives w) (queue c h x.object)) y) q.most
+    ∙ received_is (registered c h x.object) y w (queue c h x.object) q.some q.bounds (once c h x.object)
 
-pub queue_withdrawn : (c : Config) (h : History) (sid : Sid) (o n : ℕ) (y : Attributes) → Legal c h → tickets_of (queue_after n (Withdraws sid.0) (queue c h o)) y ≡ withdrawn sid (tickets_of (queue c h o) y)
-queue_withdrawn c h sid o n y legal = withdrawn_is y sid (queue c h o) (senders_differ c h legal o) (receivers_differ c h legal o)
+pub queue_withdrawn : (c : Config) (h : History) (sid : Sid) (o n : ℕ) (y : Attributes) → Legal c h → tickets_of (registered c h o) (queue_after n (Withdraws sid.0) (queue c h o)) y ≡ withdrawn sid (tickets_of (registered c h o) (queue c h o) y)
+queue_withdrawn c h sid o n y legal = withdrawn_is (registered c h o) y sid (queue c h o) (senders_differ c h legal o) (receivers_differ c h legal o)
 
 -- what is there where a call by a description of object o, which is of the family, is accepted
 pub record IsHere (A : Type 0) (kind : Option Object → Option A) (c : Config) (h : History) (t : Kept) (s d o : ℕ) : Type 0 where
@@ -252,13 +266,13 @@ queue_stands c h t s d o legal a here = subst (λ (i : ℕ). is_some (queue_at t
 -- so who is served stands in the table of sessions
 receivers_stand : (c : Config) (h : History) (t : Kept) (o : ℕ) (y : Attributes) → Legal c h → Agrees c h t → alive h o ≡ true → attributes c h o ≡ Some y → ReceiverStands t o
 receivers_stand c h t o y legal a lives e = λ q who is first'.
-    let same : tickets_of (queue c h o) y ≡ q = (let both = sym (queue_there c h t o y legal a lives e) ∙ is in cc) in
+    let same : tickets_of (registered c h o) (queue c h o) y ≡ q = (let both = sym (queue_there c h t o y legal a lives e) ∙ is in cc) in
     let found = first_mapped (receivers c h o) who (ap (λ (r : Tickets). first r.receivers) same ∙ first') in
     subst (λ (s : ℕ). s < length t.sessions) found.1.1 (receiver_stands c h t.sessions o found.0 legal a.sessions found.1.0)
 
 senders_stand : (c : Config) (h : History) (t : Kept) (o : ℕ) (y : Attributes) → Legal c h → Agrees c h t → alive h o ≡ true → attributes c h o ≡ Some y → SenderStands t o
 senders_stand c h t o y legal a lives e = λ q who is first'.
-    let same : tickets_of (queue c h o) y ≡ q = (let both = sym (queue_there c h t o y legal a lives e) ∙ is in cc) in
+    let same : tickets_of (registered c h o) (queue c h o) y ≡ q = (let both = sym (queue_there c h t o y legal a lives e) ∙ is in cc) in
     let found = first_sender (senders c h o) who (ap (λ (r : Tickets). first r.senders) same ∙ first') in
     subst (λ (s : ℕ). s < length t.sessions) found.1.1 (sender_stands c h t.sessions o found.0 legal a.sessions found.1.0)
 

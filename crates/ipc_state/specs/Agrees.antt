@@ -28,6 +28,8 @@ use Rattle.ipc_tables.specs.Objects.{bytes_taken}
 use Rattle.ipc_tables.specs.Kept.{Kept, live_at, parked_on_at}
 use Rattle.ipc_policy.specs.declared.config.Config.{Config}
 use Rattle.ipc_policy.specs.declared.config.Held.{Held}
+use Rattle.ipc_policy.specs.declared.config.Registration.{Registration}
+use Rattle.ipc_policy.specs.Registrations.{registered}
 use Rattle.ipc_policy.specs.History.{History, gathered_below}
 use Rattle.ipc_policy.specs.Sessions.{hellos, user, live, mask}
 use Rattle.ipc_policy.specs.Names.{creations}
@@ -66,13 +68,13 @@ sender_of m = record { ticket = ticket_of m; session = record { 0 = m.session } 
 abbrev pub receiver_of : Wait → Sid
 receiver_of w = record { 0 = w.session }
 
--- a queue of the policy with these attributes, as it is kept
-abbrev pub tickets_of : Queue → Attributes → Tickets
-tickets_of q x = record { maxmsg = x.maxmsg; msgsize = x.msgsize; tickets = map ticket_of q.contents; senders = map sender_of q.senders; receivers = map receiver_of q.receivers }
+-- a queue of the policy with this registration and these attributes, as it is kept
+abbrev pub tickets_of : Option Registration → Queue → Attributes → Tickets
+tickets_of g q x = record { maxmsg = x.maxmsg; msgsize = x.msgsize; tickets = map ticket_of q.contents; senders = map sender_of q.senders; receivers = map receiver_of q.receivers; registered = option_map (λ y. y.desc) g }
 
 -- the queue that object o is, as it is kept
 abbrev pub queue_meant : Config → History → ℕ → Option Tickets
-queue_meant c h o = option_map (tickets_of (queue c h o)) (attributes c h o)
+queue_meant c h o = option_map (tickets_of (registered c h o) (queue c h o)) (attributes c h o)
 
 -- a semaphore of the policy, as it is kept
 abbrev pub counter_of : Semaphore → Counter
@@ -82,18 +84,19 @@ counter_of q = record { value = q.value; waiters = map receiver_of q.waiters }
 abbrev pub semaphore_meant : Config → History → ℕ → Option Counter
 semaphore_meant c h o = option_map (λ first_value. counter_of (semaphore h o)) (as_semaphore (object c h o))
 
--- what stands in an object, by what it is as a queue and as a semaphore
+-- what stands in an object, by what it is as a queue, with its registration, and as a semaphore
 pub record Inside : Type 0 where
   pub queue : Queue
+  pub registered : Option Registration
   pub semaphore : Semaphore
 
 -- what stands in object o
 abbrev pub inside : Config → History → ℕ → Inside
-inside c h o = record { queue = queue c h o; semaphore = semaphore h o }
+inside c h o = record { queue = queue c h o; registered = registered c h o; semaphore = semaphore h o }
 
 -- what stands in an object of the kind, as it is kept
 abbrev pub body_of : Kind → Inside → Body
-body_of (QueueKind attributes) x = QueueBody (tickets_of x.queue attributes)
+body_of (QueueKind attributes) x = QueueBody (tickets_of x.registered x.queue attributes)
 body_of (SemaphoreKind value) x = SemaphoreBody (counter_of x.semaphore)
 
 -- the row of object o

@@ -2,7 +2,7 @@
 
 ghost use Rattle.std.specs.Prelude.{◌≡◌, false, ◌+◌, ◌^◌, ◌<◌, ◌∷◌, length, None, IsSome, OnOk, OnErr};
 ghost use Rattle.ipc_terms.specs.declared.record.Event.TheVariants.{Hello, Do, Hangup};
-ghost use Rattle.ipc_terms.specs.declared.call.Call.TheVariants.{Umask, MqSend, MqReceive, MqSetattr, SemPost, SemWait, SemTryWait, SetLimit, Interrupt};
+ghost use Rattle.ipc_terms.specs.declared.call.Call.TheVariants.{Umask, MqSend, MqReceive, MqSetattr, SemPost, SemWait, SemTryWait, SetLimit, MqNotify, Interrupt};
 ghost use Rattle.ipc_policy.specs.History.{after_accepted};
 ghost use Rattle.ipc_policy.specs.Names.{opening, nonblock_asked};
 ghost use Rattle.ipc_policy.specs.Objects.{made_by, first_facts};
@@ -94,6 +94,7 @@ fn accept_in_place(tables: &mut Tables, config: &Config, past: &Trail, sid: Sid,
         Call::MqSetattr { desc, nonblock } => {
             accept_setattr(tables, config, past, sid, *desc, *nonblock);
         }
+        Call::MqNotify { desc, on } => accept_notify(tables, config, past, sid, *desc, *on),
         Call::SemPost(desc) => accept_post(tables, config, past, sid, *desc),
         Call::SemTryWait(desc) => accept_try_wait(tables, config, past, sid, *desc),
         Call::MqClose(desc) => tables.close(sid, *desc),
@@ -108,6 +109,7 @@ fn accept_in_place(tables: &mut Tables, config: &Config, past: &Trail, sid: Sid,
         Call::SemGetvalue(_) => {}
         Call::ListNames { .. } => {}
         Call::StatName(_) => {}
+        Call::Audit { .. } => {}
         Call::MqOpen(_)
         | Call::SemOpen(_)
         | Call::MqSend { .. }
@@ -199,6 +201,21 @@ fn accept_setattr(
     ensures { Agrees config.now (after_accepted past.now.history (Do sid (MqSetattr desc nonblock))) tables.new }
 {
     tables.set_nonblock(sid, desc, nonblock);
+}
+
+fn accept_notify(tables: &mut Tables, config: &Config, past: &Trail, sid: Sid, desc: Desc, on: bool)
+    requires core { IsCore config.now past.now.history tables.old }
+    requires accepted { verdict config.now past.now.history (Do sid (MqNotify desc on)) ≡ None }
+    ensures { Agrees config.now (after_accepted past.now.history (Do sid (MqNotify desc on))) tables.new }
+{
+    let Some(object) = object_number(tables, sid, desc) else {
+        unreachable!();
+    };
+    if on {
+        tables.register(object, desc);
+    } else {
+        tables.unregister(object, desc);
+    }
 }
 
 fn accept_limit(tables: &mut Tables, config: &Config, past: &Trail, sid: Sid, uid: Uid, bytes: u64)

@@ -11,6 +11,7 @@ ghost use Rattle.ipc_policy.specs.Descriptions.{opens, holds, held_count, is_non
 ghost use Rattle.ipc_policy.specs.Life.{names};
 ghost use Rattle.ipc_policy.specs.Queues.{next};
 ghost use Rattle.ipc_policy.specs.Parking.{parked};
+ghost use Rattle.ipc_policy.specs.Registrations.{registered};
 ghost use Rattle.ipc_policy.specs.Charges.{queues_alive, limit, charged};
 ghost use Rattle.ipc_policy.specs.Rules.{there_is, object_held, is_full, is_empty, is_zero, is_greatest};
 ghost use Rattle.ipc_policy.specs.Verdict.{verdict, Legal};
@@ -22,7 +23,7 @@ use crate::accept::change;
 use crate::looking;
 use crate::message::Message;
 use ipc_access::Cred;
-use ipc_policy::{Config, Held};
+use ipc_policy::{Config, Held, Registration};
 use ipc_queue::Queue;
 use ipc_sem::Sem;
 use ipc_tables::Tables;
@@ -271,6 +272,24 @@ impl State {
     {
         let queue = self.queue_held(sid, desc)?;
         queue.sender()
+    }
+
+    /// Which session, by which description, is registered for the notice of the queue that the session
+    /// has by the description.
+    pub fn registration_held(&self, sid: Sid, desc: Desc) -> Option<Registration>
+        ensures { result ≡ option_and_then (λ x. registered self.now.config self.now.history x.object) (holds self.now.history sid.0 desc.0) }
+    {
+        let descriptions = self.tables.descriptions();
+        let desc = self.queue_held(sid, desc)?.registered()?;
+        let session = descriptions.holder(desc)?;
+        Some(Registration { session, desc })
+    }
+
+    /// Whether one is registered for the notice of the queue that the session has by the description.
+    pub fn is_registered(&self, sid: Sid, desc: Desc) -> bool
+        ensures { result ≡ there_is (λ x. is_some (registered self.now.config self.now.history x.object)) (holds self.now.history sid.0 desc.0) }
+    {
+        self.registration_held(sid, desc).is_some()
     }
 
     /// Whether the session has a semaphore by the description, and its value is 0.

@@ -1,17 +1,18 @@
 -- What the calls on queues and semaphores do to the tables, by what becomes of a send, a receive, a post and a wait.
-use Rattle.std.proofs.Common.{◌≡◌, ℕ, ◌<◌, Bool, true, false, List, length, get_or, is_some, Option, Some, None, refl, sym, ap, ◌∙◌}
+use Rattle.std.proofs.Common.{◌≡◌, ℕ, ◌<◌, Bool, true, false, List, length, get_or, is_some, cond, Option, Some, None, refl, sym, ap, ◌∙◌}
 use Rattle.std.specs.Prelude.{option_and_then}
 use Rattle.std.specs.List.{position}
 use Rattle.std.specs.Option.{option_map}
 use Rattle.ipc_terms.specs.Lists.{first, changed, changed_first}
 use Rattle.ipc_terms.specs.declared.ids.Sid.{Sid}
+use Rattle.ipc_terms.specs.declared.ids.Desc.{Desc}
 use Rattle.ipc_queue.specs.declared.queue.Ticket.{Ticket}
 use Rattle.ipc_queue.specs.declared.queue.ParkedSend.{ParkedSend}
 use Rattle.ipc_queue.specs.declared.queue.SendOutcome.{SendOutcome}
 use Rattle.ipc_queue.specs.declared.queue.SendOutcome.TheVariants.{HandedTo}
 use Rattle.ipc_queue.specs.declared.queue.ReceiveOutcome.{ReceiveOutcome}
 use Rattle.ipc_queue.specs.declared.queue.ReceiveOutcome.TheVariants.{TookAndAdmitted}
-use Rattle.ipc_queue.specs.Tickets.{Tickets, is_full_of, next_place, send_outcome, outcome_by_receiver, receive_outcome, outcome_by_next, sent, received}
+use Rattle.ipc_queue.specs.Tickets.{Tickets, is_full_of, fired, next_place, send_outcome, outcome_by_receiver, receive_outcome, outcome_by_next, sent, received}
 use Rattle.ipc_sem.specs.declared.semaphore.WaitOutcome.{WaitOutcome}
 use Rattle.ipc_sem.specs.Counters.{Counter, overflows, posted, wait_outcome, waited}
 use Rattle.ipc_tables.specs.declared.rows.Session.{Session}
@@ -25,14 +26,15 @@ use Rattle.ipc_terms.proofs.Changing.{none_found, place_found}
 use Rattle.ipc_terms.proofs.Lists.{stands_there}
 
 -- who is handed a message, and who is let in
-handed_at : (f : Bool) (r : Option Sid) (who : Sid) → outcome_by_receiver f r ≡ HandedTo who → r ≡ Some who
-handed_at f (Some x) who e = let same : x ≡ who = cc in ap Some same
-handed_at true None who e = absurd cc
-handed_at false None who e = absurd cc
+handed_at : (f : Bool) (g : Option Desc) (r : Option Sid) (who : Sid) → outcome_by_receiver f g r ≡ HandedTo who → r ≡ Some who
+handed_at f g (Some x) who e = let same : x ≡ who = cc in ap Some same
+handed_at true g None who e = absurd cc
+handed_at false None None who e = absurd cc
+handed_at false (Some desc) None who e = absurd cc
 
 pub handed : (q : Tickets) (who : Sid) → send_outcome q ≡ HandedTo who → first q.receivers ≡ Some who
 unfolding send_outcome
-handed q who e = handed_at (is_full_of q) (first q.receivers) who e
+handed q who e = handed_at (is_full_of q) (fired q) (first q.receivers) who e
 
 admitted_at : (n : Option ℕ) (r : Option ParkedSend) (place : ℕ) (who : Sid) → outcome_by_next n r ≡ TookAndAdmitted place who → (m : ParkedSend) × ((r ≡ Some m) × (m.session ≡ who))
 admitted_at None r place who e = absurd cc

@@ -1,5 +1,5 @@
 -- Each user's charge covers what the user's objects take, also once an object has given back what it took.
-use Rattle.std.proofs.Common.{◌≡◌, ℕ, suc, ◌<◌, length, get_or, drop, subst, add-one, ◌+◌, ◌-◌, ◌≤◌, Bool, true, false, not, eqb, cond, filter, List, [], ◌∷◌, Option, Some, None, refl, sym, ap, ◌∙◌, arith}
+use Rattle.std.proofs.Common.{map, find, is_some, ◌≡◌, ℕ, suc, ◌<◌, length, get_or, drop, subst, add-one, ◌+◌, ◌-◌, ◌≤◌, Bool, true, false, not, eqb, cond, filter, List, [], ◌∷◌, Option, Some, None, refl, sym, ap, ◌∙◌, arith}
 use Rattle.std.specs.Option.{option_map, option_map_or}
 use Rattle.std.proofs.lemmas.Bool.{eqb-true, eq-eqb}
 use Rattle.std.proofs.lemmas.List.Sums.{sum_by-cons}
@@ -11,7 +11,11 @@ use Rattle.ipc_terms.specs.declared.ids.Family.TheVariants.{Mq, Sem}
 use Rattle.ipc_descr.specs.declared.charges.Charge.{Charge}
 use Rattle.ipc_descr.specs.Charges.{is_user, charge_of, used_of, with_less, lowered}
 use Rattle.ipc_tables.specs.declared.rows.ObjectRow.{ObjectRow}
-use Rattle.ipc_tables.specs.Objects.{is_number, with_withdrawal}
+use Rattle.ipc_terms.specs.declared.ids.Desc.{Desc}
+use Rattle.ipc_queue.specs.Tickets.{without_registration}
+use Rattle.ipc_descr.specs.declared.row.Row.{Row}
+use Rattle.ipc_descr.specs.Descriptions.{is_desc}
+use Rattle.ipc_tables.specs.Objects.{is_number, registered_in, with_queue, held_by, with_held, with_withdrawal}
 use Rattle.ipc_tables.specs.Kept.{Kept, parked_on_at}
 use Rattle.ipc_tables.specs.Steps.{after_withdrawal, without_binding}
 use Rattle.ipc_tables.specs.Charging.{taken_by, taken, Covered, settled}
@@ -145,3 +149,22 @@ settled_more keep objects first i charges row have within here =
 
 pub settled_covers : (keep : ObjectRow → Bool) (objects : List ObjectRow) (first : List Charge) (i : ℕ) (charges : List Charge) (row : ObjectRow) → HaveSettled keep objects first i charges → i < length objects → row ≡ get_or objects i row → row.bytes ≤ used_of charges row.object.creator.0
 settled_covers keep objects first i charges row have within here = first_covered charges row (drop (i + 1) objects) (subst (Covered charges) (dropped objects i row within here) have.covered)
+
+-- a registration that is gone takes and gives nothing
+same_taken : (rows : List Row) (u : ℕ) (row : ObjectRow) → taken_by u (with_held rows row) ≡ taken_by u row
+same_taken rows u row = at (registered_in row.body) where
+  by_held : (desc : Desc) (b : Bool) → taken_by u (cond b row (with_queue (without_registration desc) row)) ≡ taken_by u row
+  by_held desc true = refl
+  by_held desc false = refl
+
+  at : (w : Option Desc) → taken_by u (held_by rows row w) ≡ taken_by u row
+  at None = refl
+  at (Some desc) = by_held desc (is_some (find (is_desc desc.0) rows))
+
+pub taken_held : (rows : List Row) (u : ℕ) (objects : List ObjectRow) → taken u (map (with_held rows) objects) ≡ taken u objects
+taken_held rows u [] = refl
+taken_held rows u (row ∷ objects) =
+    sum_by-cons (taken_by u) (with_held rows row) (map (with_held rows) objects)
+    ∙ ap (λ n. n + taken u (map (with_held rows) objects)) (same_taken rows u row)
+    ∙ ap (λ n. taken_by u row + n) (taken_held rows u objects)
+    ∙ sym (sum_by-cons (taken_by u) row objects)

@@ -1,2 +1,3 @@
 pub mod CallTables
 pub mod CoveredCharges
+pub mod HeldRegistrations

@@ -1,5 +1,5 @@
 -- Objects in their table, and what is looked up there.
-use Rattle.std.specs.Prelude.{Bool, ℕ, ◌<◌, ◌≤◌, ◌==◌, List, [], find, Option, Some, None, is_some, option_and_then}
+use Rattle.std.specs.Prelude.{Bool, ℕ, ◌<◌, ◌≤◌, ◌==◌, List, [], find, Option, Some, None, is_some, option_and_then, if◌then◌else◌}
 use Rattle.std.specs.Option.{option_map}
 use Rattle.ipc_terms.specs.declared.facts.Facts.{Facts}
 use Rattle.ipc_terms.specs.declared.object.Kind.{Kind}
@@ -8,7 +8,10 @@ use Rattle.ipc_terms.specs.declared.object.TheConstants.{SEM_VALUE_MAX}
 use Rattle.ipc_terms.specs.declared.object.Object.{Object}
 use Rattle.ipc_terms.specs.declared.ids.Sid.{Sid}
 use Rattle.ipc_descr.specs.Charges.{bytes_of}
-use Rattle.ipc_queue.specs.Tickets.{Tickets, withdrawn as withdrawn_call}
+use Rattle.ipc_terms.specs.declared.ids.Desc.{Desc}
+use Rattle.ipc_descr.specs.declared.row.Row.{Row}
+use Rattle.ipc_descr.specs.Descriptions.{is_desc}
+use Rattle.ipc_queue.specs.Tickets.{Tickets, withdrawn as withdrawn_call, without_registration}
 use Rattle.ipc_sem.specs.Counters.{Counter, withdrawn as withdrawn_wait}
 use Rattle.ipc_tables.specs.declared.rows.Body.{Body}
 use Rattle.ipc_tables.specs.declared.rows.Body.TheVariants.{Queue as QueueBody, Semaphore as SemaphoreBody}
@@ -51,7 +54,7 @@ bytes_taken (SemaphoreKind value) = 0
 
 -- what stands in a new object
 abbrev pub new_body : Kind → Body
-new_body (QueueKind attributes) = QueueBody (record { maxmsg = attributes.maxmsg; msgsize = attributes.msgsize; tickets = []; senders = []; receivers = [] })
+new_body (QueueKind attributes) = QueueBody (record { maxmsg = attributes.maxmsg; msgsize = attributes.msgsize; tickets = []; senders = []; receivers = []; registered = None })
 new_body (SemaphoreKind value) = SemaphoreBody (record { value = value; waiters = [] })
 
 -- the row of a new object
@@ -97,3 +100,16 @@ with_facts facts row = record row { facts = facts }
 -- the session's parked call in a row is gone
 abbrev pub with_withdrawal : Sid → ObjectRow → ObjectRow
 with_withdrawal who row = record row { body = without_call who row.body }
+
+-- the description that is registered for the notice of a queue
+abbrev pub registered_in : Body → Option Desc
+registered_in body = option_and_then (λ q. q.registered) (queue_in body)
+
+-- the row without the registration of this description, unless that is held
+abbrev pub held_by : List Row → ObjectRow → Option Desc → ObjectRow
+held_by rows row None = row
+held_by rows row (Some desc) = if is_some (find (is_desc desc.0) rows) then row else with_queue (without_registration desc) row
+
+-- the registration in a row is gone, where its description is held no longer
+abbrev pub with_held : List Row → ObjectRow → ObjectRow
+with_held rows row = held_by rows row (registered_in row.body)

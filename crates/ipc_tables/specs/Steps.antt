@@ -7,6 +7,7 @@ use Rattle.ipc_terms.specs.declared.ids.Family.{Family}
 use Rattle.ipc_terms.specs.declared.ids.Family.TheVariants.{Mq, Sem}
 use Rattle.ipc_terms.specs.declared.ids.Uid.{Uid}
 use Rattle.ipc_terms.specs.declared.ids.Sid.{Sid}
+use Rattle.ipc_terms.specs.declared.ids.Desc.{Desc}
 use Rattle.ipc_terms.specs.declared.ids.Mode.{Mode}
 use Rattle.ipc_terms.specs.declared.object.Object.{Object}
 use Rattle.ipc_terms.specs.declared.facts.Facts.{Facts}
@@ -21,14 +22,14 @@ use Rattle.ipc_queue.specs.declared.queue.SendOutcome.{SendOutcome}
 use Rattle.ipc_queue.specs.declared.queue.SendOutcome.TheVariants.{HandedTo, Parked as SendParks}
 use Rattle.ipc_queue.specs.declared.queue.ReceiveOutcome.{ReceiveOutcome}
 use Rattle.ipc_queue.specs.declared.queue.ReceiveOutcome.TheVariants.{TookAndAdmitted, Parked as ReceiveParks}
-use Rattle.ipc_queue.specs.Tickets.{Tickets, send_outcome, sent, receive_outcome, received}
+use Rattle.ipc_queue.specs.Tickets.{Tickets, with_registration, without_registration, send_outcome, sent, receive_outcome, received}
 use Rattle.ipc_sem.specs.declared.semaphore.WaitOutcome.{WaitOutcome}
 use Rattle.ipc_sem.specs.declared.semaphore.WaitOutcome.TheVariants.{Parked as WaitParks}
 use Rattle.ipc_sem.specs.Counters.{posted, wait_outcome, waited, tried}
 use Rattle.ipc_tables.specs.declared.rows.Session.{Session}
 use Rattle.ipc_tables.specs.declared.rows.ObjectRow.{ObjectRow}
 use Rattle.ipc_tables.specs.declared.tables.Grant.{Grant}
-use Rattle.ipc_tables.specs.Objects.{is_number, queue_at, semaphore_at, new_row, with_queue, with_semaphore, with_withdrawal, with_facts}
+use Rattle.ipc_tables.specs.Objects.{is_number, queue_at, semaphore_at, new_row, with_queue, with_semaphore, with_withdrawal, with_facts, with_held}
 use Rattle.ipc_tables.specs.Kept.{Kept, is_kept, parked_on_at}
 use Rattle.ipc_tables.specs.Charging.{charged_with, settled}
 
@@ -92,9 +93,9 @@ with_object t grant object facts =
 abbrev pub after_created : Kept → Grant → List ℕ → Object → Facts → Kept
 after_created t grant name object facts = with_object (with_binding (family_of object.kind) name t.created t) grant object facts
 
--- the objects that are alive
+-- the objects that are alive, each with its registration if that is held
 abbrev pub living : Directory → Directory → List Row → List ObjectRow → List ObjectRow
-living queues semaphores rows objects = filter (is_kept queues semaphores rows) objects
+living queues semaphores rows objects = map (with_held rows) (filter (is_kept queues semaphores rows) objects)
 
 -- other descriptions are held, and the objects that nothing keeps are gone, with what they took of their creators' bytes
 abbrev pub with_rows : Kept → List Row → Kept
@@ -225,3 +226,10 @@ after_directory t family facts = with_directory family (λ d. record d { facts =
 -- user u's queues may take so many bytes
 abbrev pub after_limit : Kept → ℕ → ℕ → Kept
 after_limit t u bytes = record t { charges = with_limit t.charges u bytes }
+
+-- a description is registered for the notice of object o, or not any longer
+abbrev pub after_register : Kept → ℕ → Desc → Kept
+after_register t o desc = record t { objects = changed_first (is_number o) (with_queue (with_registration desc)) t.objects }
+
+abbrev pub after_unregister : Kept → ℕ → Desc → Kept
+after_unregister t o desc = record t { objects = changed_first (is_number o) (with_queue (without_registration desc)) t.objects }

@@ -2,14 +2,14 @@
 
 ghost use Rattle.std.specs.Prelude.{◌≡◌, true, false, is_some, option_and_then, IfOk, OnOk, OnErr, Some};
 ghost use Rattle.std.specs.Option.{option_map, option_copied};
-ghost use Rattle.ipc_queue.specs.Tickets.{send_outcome, sent, receive_outcome, received};
+ghost use Rattle.ipc_queue.specs.Tickets.{with_registration, without_registration, send_outcome, sent, receive_outcome, received};
 ghost use Rattle.ipc_terms.specs.Lists.{first};
 ghost use Rattle.ipc_sem.specs.Counters.{overflows, posted, wait_outcome, waited, tried};
-ghost use Rattle.ipc_tables.specs.Objects.{queue_in, semaphore_in, with_body, with_counter, without_call, new_body, HasRoom};
+ghost use Rattle.ipc_tables.specs.Objects.{registered_in, queue_in, semaphore_in, with_body, with_counter, without_call, new_body, HasRoom};
 
 use ipc_queue::{Queue, ReceiveOutcome, SendOutcome};
 use ipc_sem::{Sem, WaitOutcome};
-use ipc_terms::{Facts, Kind, Mode, NoMemory, Object, Sid, Uid};
+use ipc_terms::{Desc, Facts, Kind, Mode, NoMemory, Object, Sid, Uid};
 use std::alloc::Global;
 
 /// A session's user, its present mask, whether it is live, and the object on which its call is
@@ -74,6 +74,31 @@ impl Body {
             Body::Queue(queue) => Ok(queue.send(ticket, priority, who)?),
             Body::Semaphore(_) => unreachable!(),
         }
+    }
+
+    /// Registers the description for the queue's notice, where none is registered.
+    pub fn register(&mut self, desc: Desc)
+        ensures { self.new ≡ with_body (with_registration desc) self.old }
+    {
+        if let Body::Queue(queue) = self {
+            queue.register(desc);
+        }
+    }
+
+    /// Takes the registration of the description back.
+    pub fn unregister(&mut self, desc: Desc)
+        ensures { self.new ≡ with_body (without_registration desc) self.old }
+    {
+        if let Body::Queue(queue) = self {
+            queue.unregister(desc);
+        }
+    }
+
+    /// The description that is registered for the queue's notice.
+    pub fn registered(&self) -> Option<Desc>
+        ensures { result ≡ registered_in self.now }
+    {
+        self.queue()?.registered()
     }
 
     /// A receive from the queue. An `Err` changes nothing.

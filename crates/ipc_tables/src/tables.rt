@@ -11,7 +11,7 @@ ghost use Rattle.ipc_tables.specs.Charging.{Covered, Affords};
 ghost use Rattle.ipc_tables.specs.Objects.{HasRoom, is_number, is_queue, row_at, queue_at, semaphore_at};
 ghost use Rattle.ipc_sem.specs.Counters.{overflows};
 ghost use Rattle.ipc_tables.specs.Kept.{directory_kept, is_alive};
-ghost use Rattle.ipc_tables.specs.Steps.{hung_up, with_parked, with_object, living, with_binding, without_binding, ReceiverStands, SenderStands, WaiterStands, after_post, after_wait, after_try, after_hello, after_umask, after_found, after_created, after_close, after_unlink, after_hangup, after_send, after_receive, after_withdrawal, ended, after_setattr, after_facts, after_directory, after_limit, with_living, first_tables};
+ghost use Rattle.ipc_tables.specs.Steps.{hung_up, with_parked, with_object, living, with_binding, without_binding, ReceiverStands, SenderStands, WaiterStands, after_post, after_wait, after_try, after_hello, after_umask, after_found, after_created, after_close, after_unlink, after_hangup, after_send, after_receive, after_withdrawal, ended, after_setattr, after_facts, after_directory, after_limit, after_register, after_unregister, with_living, first_tables};
 
 use crate::charging::{charge, settle};
 use crate::living::{keep_living, keeps};
@@ -282,6 +282,7 @@ impl Tables {
         };
         match self.objects[index].body.send(ticket, priority, sid)? {
             SendOutcome::Queued => {}
+            SendOutcome::QueuedAndNotice(_) => {}
             SendOutcome::HandedTo(receiver) => self.set_parked(receiver, None),
             SendOutcome::Parked => self.set_parked(sid, Some(object)),
         }
@@ -369,6 +370,24 @@ impl Tables {
     {
         let session = &mut self.sessions[sid.0 as usize];
         session.parked_on = object;
+    }
+
+    /// Registers the description for the notice of the queue, where none is registered.
+    pub fn register(&mut self, object: u64, desc: Desc)
+        ensures { self.new ≡ after_register self.old object desc }
+    {
+        if let Some(index) = find_index(&self.objects, object) {
+            self.objects[index].body.register(desc);
+        }
+    }
+
+    /// Takes the registration of the description back.
+    pub fn unregister(&mut self, object: u64, desc: Desc)
+        ensures { self.new ≡ after_unregister self.old object desc }
+    {
+        if let Some(index) = find_index(&self.objects, object) {
+            self.objects[index].body.unregister(desc);
+        }
     }
 
     /// Gives the object this owner, group and mode. Where there is no such object nothing changes.

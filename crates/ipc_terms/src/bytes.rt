@@ -58,6 +58,14 @@ impl Bytes {
     }
 }
 
+impl Clone for Bytes {
+    ghost is_clone = { λ bytes copy. copy ≡ bytes };
+
+    fn clone(&self) -> Result<Bytes, AllocError> {
+        self.try_clone()
+    }
+}
+
 impl PartialEq for Bytes {
     ghost eq = { pointwise ◌==◌ };
 

@@ -1,11 +1,14 @@
 //! What is asked, and what is answered.
 
 ghost use Rattle.std.specs.Prelude.{◌≡◌, IfOk};
+ghost use Rattle.std.specs.Option.{option_copied};
+ghost use Rattle.ipc_terms.specs.Lines.{op_of, name_of};
 
 use crate::bytes::Bytes;
 use crate::facts::Facts;
 use crate::flags::OpenFlags;
 use crate::ids::{Desc, Family, Gid, Mode, Sid, Target, Uid};
+use crate::line::Lines;
 use crate::name::{Name, Names};
 use crate::rule::Rule;
 use std::alloc::AllocError;
@@ -26,7 +29,7 @@ pub struct Attributes {
 }
 
 /// What `mq_open` is given. Mode and attributes count only where the open creates.
-#[derive(Drop)]
+#[derive(Clone, Drop)]
 pub struct QueueOpen {
     pub name: Name,
     pub access: Access,
@@ -36,7 +39,7 @@ pub struct QueueOpen {
 }
 
 /// What `sem_open` is given. Mode and value count only where the open creates.
-#[derive(Drop)]
+#[derive(Clone, Drop)]
 pub struct SemaphoreOpen {
     pub name: Name,
     /// `CREATE` and `EXCLUSIVE`; no other flag means anything here.
@@ -47,7 +50,7 @@ pub struct SemaphoreOpen {
 }
 
 /// What a session asks for.
-#[derive(Drop)]
+#[derive(Clone, Drop)]
 pub enum Call {
     /// Sets the session's mask to the low nine bits, and answers the mask before (POSIX.1-2017, `umask`).
     Umask(Mode),
@@ -74,6 +77,12 @@ pub enum Call {
     MqSetattr {
         desc: Desc,
         nonblock: bool,
+    },
+    /// Asks for a notice when a message comes to the empty queue, once, or no longer asks for it
+    /// (POSIX.1-2017, `mq_notify`). A queue has one registration, the description's that asked.
+    MqNotify {
+        desc: Desc,
+        on: bool,
     },
     /// Leaves a queue's name unbound at once. The queue lives until its last description is closed
     /// (POSIX.1-2017, `mq_unlink`).
@@ -122,9 +131,69 @@ pub enum Call {
         uid: Uid,
         bytes: u64,
     },
+    /// Asks what was recorded before this call: from the place `start` on, counted from 0, at most `count`
+    /// lines and at most 1,000. For user 0 alone.
+    Audit {
+        start: u64,
+        count: u16,
+    },
     /// Ends the session's call that is parked: that call is answered that it was interrupted, and has no
     /// other effect (POSIX.1-2017, `EINTR`).
     Interrupt,
+}
+
+impl Call {
+    /// The number of the call, as its frames carry it, from 2 to 24.
+    pub(crate) fn op(&self) -> u8
+        ensures { result ≡ op_of self.now }
+    {
+        match self {
+            Call::Umask(..) => 2,
+            Call::MqOpen(..) => 3,
+            Call::MqClose(..) => 4,
+            Call::MqUnlink(..) => 5,
+            Call::MqSend { .. } => 6,
+            Call::MqReceive { .. } => 7,
+            Call::MqGetattr(..) => 8,
+            Call::MqSetattr { .. } => 9,
+            Call::MqNotify { .. } => 10,
+            Call::SemOpen(..) => 11,
+            Call::SemClose(..) => 12,
+            Call::SemUnlink(..) => 13,
+            Call::SemPost(..) => 14,
+            Call::SemWait(..) => 15,
+            Call::SemTryWait(..) => 16,
+            Call::SemGetvalue(..) => 17,
+            Call::ListNames { .. } => 18,
+            Call::StatName(..) => 19,
+            Call::Chmod { .. } => 20,
+            Call::Chown { .. } => 21,
+            Call::SetLimit { .. } => 22,
+            Call::Interrupt => 23,
+            Call::Audit { .. } => 24,
+        }
+    }
+
+    /// The name that the call names, if it names one.
+    pub(crate) fn name(&self) -> Option<&Name>
+        ensures { option_copied result ≡ name_of self.now }
+    {
+        match self {
+            Call::MqOpen(asked) => Some(&asked.name),
+            Call::SemOpen(asked) => Some(&asked.name),
+            Call::MqUnlink(name) | Call::SemUnlink(name) => Some(name),
+            Call::StatName(Target::Name(_, name))
+            | Call::Chmod {
+                target: Target::Name(_, name),
+                ..
+            }
+            | Call::Chown {
+                target: Target::Name(_, name),
+                ..
+            } => Some(name),
+            _ => None,
+        }
+    }
 }
 
 /// What is answered.
@@ -158,6 +227,11 @@ pub enum Answer {
     Names(Names),
     /// To a stat: the owner, group and mode.
     Stat(Facts),
+    /// To a question about what was recorded: its lines.
+    Records(Lines),
+    /// To no call: a message came to the empty queue for which a notice was asked by this description
+    /// (POSIX.1-2017, `mq_notify`).
+    Notice(Desc),
     /// To anything: the rule of the lowest number that forbids it.
     Refused(Rule),
     /// To a call that was parked: an interrupt ended it (POSIX.1-2017, `EINTR`).
@@ -190,6 +264,8 @@ impl Answer {
             Answer::Value(value) => Answer::Value(*value),
             Answer::Names(names) => Answer::Names(names.try_clone()?),
             Answer::Stat(facts) => Answer::Stat(*facts),
+            Answer::Records(lines) => Answer::Records(lines.try_clone()?),
+            Answer::Notice(desc) => Answer::Notice(*desc),
             Answer::Refused(rule) => Answer::Refused(*rule),
             Answer::Interrupted => Answer::Interrupted,
         })

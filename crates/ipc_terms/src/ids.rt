@@ -40,7 +40,7 @@ pub enum Family {
 }
 
 /// What a call on names means: the directory of a family itself, or a name in it.
-#[derive(Drop)]
+#[derive(Clone, Drop)]
 pub enum Target {
     Dir(Family),
     Name(Family, Name),

@@ -60,6 +60,14 @@ impl Name {
     }
 }
 
+impl Clone for Name {
+    ghost is_clone = { λ name copy. copy ≡ name };
+
+    fn clone(&self) -> Result<Name, AllocError> {
+        self.try_clone()
+    }
+}
+
 impl PartialEq for Name {
     ghost eq = { pointwise ◌==◌ };
 

@@ -1,14 +1,18 @@
 //! What happens, and what is recorded of it.
 
-ghost use Rattle.std.specs.Prelude.{◌≡◌};
+ghost use Rattle.std.specs.Prelude.{◌≡◌, IfOk};
+ghost use Rattle.std.specs.Option.{option_copied};
 ghost use Rattle.ipc_terms.specs.Events.{caller};
+ghost use Rattle.ipc_terms.specs.Lines.{event_op, event_name, rule_number};
 
 use crate::call::Call;
+use crate::errors::NoMemory;
 use crate::ids::{Sid, Uid};
+use crate::name::Name;
 use crate::rule::Rule;
 
 /// One step of the server.
-#[derive(Drop)]
+#[derive(Clone, Drop)]
 pub enum Event {
     /// Somebody came with a key. The user whose key it is was found, or none was.
     Hello { found: Option<Uid> },
@@ -19,6 +23,13 @@ pub enum Event {
 }
 
 impl Event {
+    /// An equal event.
+    pub fn copy(&self) -> Result<Event, NoMemory>
+        ensures { IfOk result (λ copy. copy ≡ self.now) }
+    {
+        Ok(self.clone()?)
+    }
+
     /// The session that the event names; a hello names nobody.
     pub fn caller(&self) -> Sid
         ensures { result ≡ caller self.now }
@@ -28,6 +39,27 @@ impl Event {
             Event::Do { sid, .. } | Event::Hangup { sid } => *sid,
         }
     }
+
+    /// The number of the call, as its frames carry it; 1 for a hello and 25 for a hang-up.
+    pub fn op(&self) -> u8
+        ensures { result ≡ event_op self.now }
+    {
+        match self {
+            Event::Hello { .. } => 1,
+            Event::Do { call, .. } => call.op(),
+            Event::Hangup { .. } => 25,
+        }
+    }
+
+    /// The name that the call names, if it names one.
+    pub fn name(&self) -> Option<&Name>
+        ensures { option_copied result ≡ event_name self.now }
+    {
+        match self {
+            Event::Do { call, .. } => call.name(),
+            _ => None,
+        }
+    }
 }
 
 /// An event, and the rule that refused it; with no rule it was accepted.
@@ -35,4 +67,16 @@ impl Event {
 pub struct Record {
     pub event: Event,
     pub rule: Option<Rule>,
+}
+
+impl Record {
+    /// The number of the rule, or 0.
+    pub fn rule_number(&self) -> u16
+        ensures { result ≡ rule_number self.now.rule }
+    {
+        match self.rule {
+            Some(rule) => rule.number(),
+            None => 0,
+        }
+    }
 }

@@ -2,7 +2,9 @@
 //! the record of its send.
 #![tactic(auto)]
 
+mod audit;
 mod message;
 mod trail;
 
+pub use audit::Receipt;
 pub use trail::Trail;

@@ -1,11 +1,15 @@
 //! A trail: a list of records that only grows.
 
-ghost use Rattle.std.specs.Prelude.{◌≡◌, ◌+◌, ◌^◌, ◌<◌, [], ◌∷◌, length, slice_get, Some, IsSome, OnOk};
+ghost use Rattle.std.specs.Prelude.{◌≡◌, ◌+◌, ◌^◌, ◌<◌, [], ◌∷◌, length, slice_get, Some, IsSome, IfOk, OnOk};
 ghost use Rattle.std.specs.Option.{option_copied, option_map};
 ghost use Rattle.ipc_terms.specs.History.{record_at, message_of, message_at};
+ghost use Rattle.ipc_terms.specs.Lines.{line_of, lines};
+ghost use Rattle.ipc_terms.specs.Pages.{page};
+ghost use Rattle.ipc_trail.specs.Receipts.{receipt_of};
 
+use crate::audit::{Receipt, lines_from, receipt_of};
 use crate::message::{bytes_of, priority_of};
-use ipc_terms::{Event, NoMemory, Record, push_within};
+use ipc_terms::{Event, Lines, NoMemory, Record, page_of, push_within};
 use std::alloc::Global;
 use std::marker::Model;
 
@@ -47,6 +51,25 @@ impl Trail {
         ensures { option_copied result ≡ record_at place self.now.history }
     {
         find_record(&self.records, place)
+    }
+
+    /// The receipt of the record at a place; places count from 0. `None` at the length and past it.
+    pub fn receipt(&self, place: usize) -> Option<Receipt>
+        ensures { result ≡ option_map (λ r. receipt_of (line_of place r)) (record_at place self.now.history) }
+    {
+        match self.get(place) {
+            Some(found) => Some(receipt_of(place as u64, found)),
+            None => None,
+        }
+    }
+
+    /// The audit's lines from the place `start` on, the oldest first: at most `count`, and at most
+    /// 1,000. Past the last record there are none. Refused events are shown too.
+    pub fn page(&self, alloc: Global, start: u64, count: u16) -> Result<Lines, NoMemory>
+        ensures { IfOk result (λ shown. shown ≡ page start count (lines self.now.history)) }
+    {
+        let asked = page_of(&self.records, start, count);
+        Ok(Lines::new(lines_from(alloc, start, asked)?))
     }
 
     /// The bytes of the message whose send stands at the place, whether it was accepted or refused.

@@ -14,14 +14,14 @@ use Rattle.ipc_terms.specs.declared.ids.Target.{Target}
 use Rattle.ipc_terms.specs.declared.ids.Target.TheVariants as target
 use Rattle.ipc_words.specs.declared.calls.Manner.{Manner}
 use Rattle.ipc_words.specs.declared.commands.Verb.{Verb}
-use Rattle.ipc_words.specs.declared.commands.Verb.TheVariants.{Umask, MqOpen, MqClose, MqSend, MqReceive, MqGetattr, MqSetattr, MqUnlink, SemOpen, SemClose, SemUnlink, SemPost, SemWait, SemTryWait, SemGetvalue, Ls, Stat, Chmod, Chown, SetLimit, Interrupt}
+use Rattle.ipc_words.specs.declared.commands.Verb.TheVariants.{Umask, MqOpen, MqClose, MqSend, MqReceive, MqGetattr, MqSetattr, MqNotify, MqUnlink, SemOpen, SemClose, SemUnlink, SemPost, SemWait, SemTryWait, SemGetvalue, Ls, Stat, Chmod, Chown, SetLimit, Interrupt, Audit}
 use Rattle.ipc_words.specs.declared.faults.WordFault.{WordFault}
 use Rattle.ipc_words.specs.declared.faults.WordFault.TheVariants.{Usage, NoMemory}
 use Rattle.ipc_words.specs.Grammar.{Form, app_of_form, form_of_word}
 use Rattle.ipc_words.specs.Numbers.{decimal_within, octal_mode}
 use Rattle.ipc_words.specs.Parses.{IsParsed}
 use Rattle.ipc_words.specs.Readings.{Meaning, Reads, ◌>>=◌, description_at, is_given, option_at, value_at}
-use Rattle.ipc_words.specs.Values.{access_of_word, bytes_of_word, family_of_word, id_of_word, nonblock_of_word}
+use Rattle.ipc_words.specs.Values.{access_of_word, bytes_of_word, family_of_word, id_of_word, nonblock_of_word, notification_of_word}
 
 -- 1 for CREATE, 2 for EXCLUSIVE and 4 for NONBLOCK
 unfoldable pub flags_of_rows : List Row → OpenFlags
@@ -111,6 +111,10 @@ meaning_of MqSetattr rows =
     description_at rows >>= λ desc.
     value_at nonblock_of_word (codes "how") rows >>= λ nonblock.
     Ok (call.MqSetattr desc nonblock)
+meaning_of MqNotify rows =
+    description_at rows >>= λ desc.
+    value_at notification_of_word (codes "how") rows >>= λ on.
+    Ok (call.MqNotify desc on)
 meaning_of MqUnlink rows = value_at bytes_of_word (codes "name") rows >>= λ name. Ok (call.MqUnlink name)
 meaning_of SemOpen rows = semaphore_open_of_rows rows >>= λ asked. Ok (call.SemOpen asked)
 meaning_of SemClose rows = description_at rows >>= λ desc. Ok (call.SemClose desc)
@@ -139,6 +143,10 @@ meaning_of SetLimit rows =
     value_at (decimal_within (2 ^ 64 - 1)) (codes "bytes") rows >>= λ bytes.
     Ok (call.SetLimit (record { 0 = uid }) bytes)
 meaning_of Interrupt rows = Ok call.Interrupt
+meaning_of Audit rows =
+    value_at (decimal_within (2 ^ 64 - 1)) (codes "start") rows >>= λ start.
+    value_at (decimal_within (2 ^ 16 - 1)) (codes "count") rows >>= λ count.
+    Ok (call.Audit start count)
 
 -- ---- what words mean
 

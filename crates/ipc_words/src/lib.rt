@@ -16,6 +16,7 @@ mod numbers;
 mod parsing;
 mod printing;
 mod readings;
+mod records;
 mod rules;
 mod usage;
 mod values;

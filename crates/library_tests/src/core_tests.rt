@@ -281,4 +281,6 @@ fn the_laws_are_there(_rt: HostRuntime) {
     laws::counted();
     laws::rights();
     laws::within_limit();
+    laws::confined();
+    laws::once();
 }

@@ -12,6 +12,8 @@ mod descriptions_tests;
 #[cfg(test)]
 mod fault_tests;
 #[cfg(test)]
+mod lines_tests;
+#[cfg(test)]
 mod made;
 #[cfg(test)]
 mod names_tests;

@@ -1,7 +1,7 @@
 //! Queues, as a table of steps.
 
 use ipc_queue::{Queue, ReceiveOutcome, SendOutcome};
-use ipc_terms::{NoMemory, Sid};
+use ipc_terms::{Desc, NoMemory, Sid};
 use std::alloc::Global;
 use std::test::Fail;
 
@@ -18,6 +18,9 @@ enum Step {
     Send(u64, u32, Sid, SendOutcome),
     Receive(Sid, ReceiveOutcome),
     Withdraw(Sid, bool),
+    Register(u64, bool),
+    Unregister(u64),
+    Registered(Option<Desc>),
     Length(usize),
     Full(bool),
     Next(Option<u64>),
@@ -34,11 +37,11 @@ enum Step {
 }
 
 use Step::{
-    ComeOut, Enter, Fill, Full, Length, New, Next, OneKind, Receive, Receiver, Send, Sender,
-    Withdraw,
+    ComeOut, Enter, Fill, Full, Length, New, Next, OneKind, Receive, Receiver, Register,
+    Registered, Send, Sender, Unregister, Withdraw,
 };
 
-static STEPS: [Step; 142] = [
+static STEPS: [Step; 176] = [
     // Nothing is in an empty queue.
     New(2),
     Length(0),
@@ -132,6 +135,43 @@ static STEPS: [Step; 142] = [
     Receiver(Some(ANN)),
     Send(4, 0, BOB, SendOutcome::HandedTo(ANN)),
     Send(5, 0, BOB, SendOutcome::Queued),
+    // One description is registered, and it alone ends that.
+    New(1),
+    Registered(None),
+    Unregister(7),
+    Register(7, true),
+    Register(7, false),
+    Register(8, false),
+    Unregister(8),
+    Registered(Some(Desc(7))),
+    Unregister(7),
+    Registered(None),
+    Register(8, true),
+    Registered(Some(Desc(8))),
+    // A message that a parked receive takes gives no notice; the next that enters the empty queue gives one.
+    New(2),
+    Register(7, true),
+    Receive(BOB, ReceiveOutcome::Parked),
+    Send(0, 0, ANN, SendOutcome::HandedTo(BOB)),
+    Registered(Some(Desc(7))),
+    Send(1, 0, ANN, SendOutcome::QueuedAndNotice(Desc(7))),
+    Registered(None),
+    Register(8, true),
+    Send(2, 0, ANN, SendOutcome::Queued),
+    Send(3, 0, ANN, SendOutcome::Parked),
+    Withdraw(ANN, true),
+    Registered(Some(Desc(8))),
+    // A message that a receive lets in gives none.
+    New(1),
+    Send(0, 0, ANN, SendOutcome::Queued),
+    Register(1, true),
+    Send(1, 9, ANN, SendOutcome::Parked),
+    Receive(BOB, ReceiveOutcome::TookAndAdmitted(0, ANN)),
+    Registered(Some(Desc(1))),
+    Receive(BOB, ReceiveOutcome::Took(1)),
+    Send(2, 0, ANN, SendOutcome::QueuedAndNotice(Desc(1))),
+    Receive(BOB, ReceiveOutcome::Took(2)),
+    Send(3, 0, ANN, SendOutcome::Queued),
     // A queue of one message.
     New(1),
     Full(false),
@@ -201,6 +241,12 @@ fn gives(alloc: Global, queue: &mut Queue, step: &Step) -> Result<bool, NoMemory
         Send(place, priority, who, wanted) => queue.send(place, priority, who)? == wanted,
         Receive(who, wanted) => queue.receive(who)? == wanted,
         Withdraw(who, wanted) => queue.withdraw(who) == wanted,
+        Register(number, wanted) => queue.register(Desc(number)) == wanted,
+        Unregister(number) => {
+            queue.unregister(Desc(number));
+            true
+        }
+        Registered(wanted) => queue.registered() == wanted,
         Length(wanted) => queue.len() == wanted,
         Full(wanted) => queue.is_full() == wanted,
         Next(wanted) => queue.next() == wanted,

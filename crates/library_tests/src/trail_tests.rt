@@ -1,12 +1,13 @@
 //! Trails: what was pushed stands at its place, and a send's message with it.
 
-use crate::made::send;
-use ipc_terms::{Call, Event, NoMemory, Record, Rule, Sid, Uid};
-use ipc_trail::Trail;
+use crate::made::{name, send};
+use ipc_terms::{Call, Event, Line, NoMemory, Record, Rule, Sid, Uid};
+use ipc_trail::{Receipt, Trail};
 use std::alloc::Global;
 use std::test::Fail;
 
 /// A record, and what is to stand at its place.
+#[derive(Drop)]
 enum Pushed {
     /// A hello of this user.
     Hello(u32),
@@ -101,4 +102,149 @@ fn all_stand(trail: &Trail) -> Result<(), Fail> {
         }
     }
     Ok(())
+}
+
+/// Session, event and rule that the audit shows of each of `PUSHED`.
+static SHOWN: [(u64, u8, u16); 8] = [
+    (u64::MAX, 1, 0),
+    (0, 6, 0),
+    (u64::MAX, 1, 0),
+    (0, 6, 0),
+    (0, 6, 25),
+    (0, 6, 0),
+    (u64::MAX, 1, 0),
+    (0, 6, 0),
+];
+
+/// The start and the count of a page, and how many lines it has.
+static PAGES: [(u64, u16, usize); 7] = [
+    (0, 5, 5),
+    (0, 8, 8),
+    (6, 9, 2),
+    (3, 0, 0),
+    (3, 1, 1),
+    (8, 1, 0),
+    (u64::MAX, u16::MAX, 0),
+];
+
+#[test]
+fn pages_and_receipts_show_the_records(rt: HostRuntime) -> Result<(), Fail> {
+    let trail = trail_of(rt.alloc(), &PUSHED)?;
+    for (start, count, lines) in &PAGES {
+        if !is_page(rt.alloc(), &trail, (*start, *count), *lines)? {
+            return Err(Fail::new(format_args!("the page from {start}")));
+        }
+    }
+    assert!(rt; trail.receipt(PUSHED.len()).is_none());
+    all_have_receipts(&trail)
+}
+
+fn trail_of(alloc: Global, pushed: &[Pushed]) -> Result<Trail, NoMemory> {
+    let mut trail = Trail::new(alloc);
+    for one in pushed {
+        let _is_last = pushes(alloc, &mut trail, one)?;
+    }
+    Ok(trail)
+}
+
+/// Whether the page has so many lines, each of its own place.
+fn is_page(
+    alloc: Global,
+    trail: &Trail,
+    asked: (u64, u16),
+    lines: usize,
+) -> Result<bool, NoMemory> {
+    let (start, count) = asked;
+    let page = trail.page(alloc, start, count)?;
+    let shown = page.as_slice();
+    for (index, line) in shown.iter().enumerate() {
+        if !is_shown(line, start.wrapping_add(index as u64)) {
+            return Ok(false);
+        }
+    }
+    Ok(shown.len() == lines)
+}
+
+fn is_shown(line: &Line, place: u64) -> bool {
+    let seen = (line.sid.0, line.op, line.rule);
+    line.place == place
+        && line.name.as_slice().is_empty()
+        && SHOWN.get(place as usize) == Some(&seen)
+}
+
+fn all_have_receipts(trail: &Trail) -> Result<(), Fail> {
+    for (place, (session, op, rule)) in SHOWN.iter().enumerate() {
+        let wanted = Receipt {
+            place: place as u64,
+            sid: Sid(*session),
+            op: *op,
+            rule: *rule,
+        };
+        if trail.receipt(place) != Some(wanted) {
+            return Err(Fail::new(format_args!("the receipt at {place}")));
+        }
+    }
+    Ok(())
+}
+
+/// The length of an unlinked name, and how many bytes of it are shown.
+static NAMES: [(usize, usize); 4] = [(0, 0), (255, 255), (256, 256), (257, 256)];
+
+#[test]
+fn names_are_cut_at_256_bytes(rt: HostRuntime) -> Result<(), Fail> {
+    for (length, shown) in &NAMES {
+        if shown_of_name(rt.alloc(), *length)? != *shown {
+            return Err(Fail::new(format_args!("a name of {length} bytes")));
+        }
+    }
+    Ok(())
+}
+
+/// How many bytes of a name of this length the audit shows.
+fn shown_of_name(alloc: Global, length: usize) -> Result<usize, NoMemory> {
+    let mut trail = Trail::new(alloc);
+    let text = Vec::from_elem(alloc, b'a', length)?;
+    let unlinked = Record {
+        event: Event::Do {
+            sid: Sid(0),
+            call: Call::MqUnlink(name(alloc, &text)?),
+        },
+        rule: Some(Rule::NameForm),
+    };
+    trail.reserve_one()?;
+    trail.push_reserved(unlinked);
+    let page = trail.page(alloc, 0, 5)?;
+    Ok(match page.as_slice() {
+        [line] if line.op == 5 && line.rule == 4 => line.name.as_slice().len(),
+        _ => usize::MAX,
+    })
+}
+
+/// The start and the count of a page of 1,001 lines, and how many it has.
+static LONG_PAGES: [(u64, u16, usize); 5] = [
+    (0, 999, 999),
+    (0, 1_000, 1_000),
+    (0, 1_001, 1_000),
+    (1, u16::MAX, 1_000),
+    (2, u16::MAX, 999),
+];
+
+#[test]
+fn a_page_has_at_most_1000_lines(rt: HostRuntime) -> Result<(), Fail> {
+    let trail = hellos(rt.alloc(), 1_001)?;
+    for (start, count, lines) in &LONG_PAGES {
+        let page = trail.page(rt.alloc(), *start, *count)?;
+        if page.as_slice().len() != *lines {
+            return Err(Fail::new(format_args!("{count} from {start}")));
+        }
+    }
+    Ok(())
+}
+
+fn hellos(alloc: Global, count: u32) -> Result<Trail, NoMemory> {
+    let mut trail = Trail::new(alloc);
+    for user in 0..count {
+        let _is_last = pushes(alloc, &mut trail, &Hello(user))?;
+    }
+    Ok(trail)
 }

@@ -1,13 +1,8 @@
-//! Words and the calls that they mean; answers and their lines.
+//! Words and the calls that they mean.
 
-use crate::made::names;
 use bitflags::Flags;
-use ipc_rules::EVERY_RULE;
-use ipc_terms::{
-    Access, Answer, Attributes, Bytes, Call, Desc, Facts, Family, Gid, Mode, Name, Names, NoMemory,
-    OpenFlags, QueueOpen, Rule, SemaphoreOpen, Sid, Target, Uid,
-};
-use ipc_words::{WordFault, call_of_words, line_of_answer, usage_of_commands};
+use ipc_terms::{Access, Call, Family, NoMemory, QueueOpen, SemaphoreOpen, Target};
+use ipc_words::{WordFault, call_of_words, usage_of_commands};
 use std::alloc::Global;
 use std::test::Fail;
 
@@ -23,6 +18,7 @@ enum Meaning {
     Receive(u64, u32),
     Getattr(u64),
     Setattr(u64, bool),
+    Notify(u64, bool),
     Unlink(&'static [u8]),
     SemOpen(&'static [u8], u8, u16, u32),
     SemClose(u64),
@@ -37,13 +33,14 @@ enum Meaning {
     Chmod(u16, Family, Option<&'static [u8]>),
     Chown(Option<u32>, Option<u32>, Family, Option<&'static [u8]>),
     SetLimit(u32, u64),
+    Audit(u64, u16),
     Interrupt,
 }
 
 use Meaning::{
-    BadValue, Chmod, Chown, Close, Directory, Getattr, Interrupt, List, Open, Receive, SemClose,
-    SemGetvalue, SemOpen, SemPost, SemTryWait, SemUnlink, SemWait, Send, SetLimit, Setattr, Stat,
-    Umask, Unlink, Usage,
+    Audit, BadValue, Chmod, Chown, Close, Directory, Getattr, Interrupt, List, Notify, Open,
+    Receive, SemClose, SemGetvalue, SemOpen, SemPost, SemTryWait, SemUnlink, SemWait, Send,
+    SetLimit, Setattr, Stat, Umask, Unlink, Usage,
 };
 
 /// Whether the words mean this.
@@ -82,6 +79,9 @@ fn is_call(call: &Call, meaning: &Meaning) -> bool {
         (Call::MqSetattr { desc, nonblock }, Setattr(number, wanted)) => {
             desc.0 == *number && nonblock == wanted
         }
+        (Call::MqNotify { desc, on }, Notify(number, wanted)) => {
+            desc.0 == *number && on == wanted
+        }
         (Call::MqUnlink(name), Unlink(wanted)) => name.as_slice() == *wanted,
         (Call::StatName(target), Directory(family)) => is_meant(target, *family, None),
         (Call::StatName(target), Stat(family, name)) => is_meant(target, *family, Some(name)),
@@ -112,6 +112,7 @@ fn is_call(call: &Call, meaning: &Meaning) -> bool {
             uid.0 == *number && bytes == wanted
         }
         (Call::Interrupt, Interrupt) => true,
+        (Call::Audit { start, count }, Audit(first, most)) => start == first && count == most,
         _ => is_semaphore_call(call, meaning),
     }
 }
@@ -192,7 +193,7 @@ const EXCLUSIVE: u8 = 2;
 
 const NONBLOCK: u8 = 4;
 
-static CALLS: [Row; 38] = [
+static CALLS: [Row; 42] = [
     ("umask 0", Umask(0)),
     ("umask 22", Umask(0o22)),
     ("umask 022", Umask(0o22)),
@@ -225,6 +226,11 @@ static CALLS: [Row; 38] = [
         "mq-setattr 18446744073709551615 nonblock",
         Setattr(u64::MAX, true),
     ),
+    ("mq-notify 0 on", Notify(0, true)),
+    (
+        "mq-notify 18446744073709551615 off",
+        Notify(u64::MAX, false),
+    ),
     ("mq-unlink /jobs", Unlink(b"/jobs")),
     ("mq-unlink hex:2fff", Unlink(b"/\xff")),
     ("mq-unlink hex:", Unlink(b"")),
@@ -241,6 +247,11 @@ static CALLS: [Row; 38] = [
     ("stat sem hex:2f2d", Stat(Family::Sem, b"/-")),
     ("stat mq hex:", Stat(Family::Mq, b"")),
     ("interrupt", Interrupt),
+    ("audit 0 10", Audit(0, 10)),
+    (
+        "audit 18446744073709551615 65535",
+        Audit(u64::MAX, u16::MAX),
+    ),
     // The names of options are names of values too.
     ("mq-send 0 0 mode", Send(0, 0, b"mode")),
     ("mq-unlink mq-unlink", Unlink(b"mq-unlink")),
@@ -357,7 +368,7 @@ fn commands_mean_their_calls(rt: HostRuntime) -> Result<(), Fail> {
 }
 
 /// Of several values that don't read, the first in the command's order is named.
-static FIRST_UNREAD: [Row; 20] = [
+static FIRST_UNREAD: [Row; 22] = [
     (
         "mq-open hex:2 x --msgsize x --maxmsg x --mode x",
         BadValue("name"),
@@ -382,6 +393,8 @@ static FIRST_UNREAD: [Row; 20] = [
     ("mq-receive x x", BadValue("d")),
     ("mq-receive 0 x", BadValue("len")),
     ("mq-setattr x x", BadValue("d")),
+    ("mq-notify x x", BadValue("d")),
+    ("audit x x", BadValue("start")),
     ("ls x x x", BadValue("family")),
     ("ls mq x x", BadValue("start")),
     ("ls mq 0 x", BadValue("count")),
@@ -445,6 +458,8 @@ mq-getattr 0 1
 mq-setattr 0
 mq-setattr 0 --nonblock
 mq-setattr 0 block nonblock
+mq-notify 0
+mq-notify 0 on off
 mq-unlink
 mq-unlink /a /b
 mq-unlink /a --create
@@ -459,6 +474,8 @@ stat mq --mode 600
 set-limit 0
 set-limit 0 1 2
 interrupt 0
+audit 0
+audit 0 1 2
 interrupt --nonblock
 interrupt interrupt
 mq-open /a
@@ -534,7 +551,7 @@ const FAMILIES: &[&str] = &["", "MQ", "mqs", "m", "queue", "hex:6d71", "mq "];
 
 const PAIRS: &[&str] = &["hex:2", "hex:2D", "hex:2g", "hex:2d ", "hex:hex:", "hex:-1"];
 
-static UNREAD: [Unread; 24] = [
+static UNREAD: [Unread; 27] = [
     (&["umask"], MODES, &[], "octal"),
     (&["mq-open", "/a", "r", "--mode"], MODES, &[], "mode"),
     (&["mq-close"], DESCRIPTIONS, &[], "d"),
@@ -558,6 +575,8 @@ static UNREAD: [Unread; 24] = [
         "count",
     ),
     (&["ls", "mq"], COUNTS, &["1"], "start"),
+    (&["audit"], DESCRIPTIONS, &["1"], "start"),
+    (&["audit", "0"], &["65536", "00", "", "all"], &[], "count"),
     (&["mq-send", "0"], COUNTS, &["hi"], "prio"),
     (&["mq-receive", "0"], COUNTS, &[], "len"),
     (
@@ -581,6 +600,12 @@ static UNREAD: [Unread; 24] = [
     (
         &["mq-setattr", "0"],
         &["", "Block", "nonblocking", "on", "0", "hex:", "block "],
+        &[],
+        "how",
+    ),
+    (
+        &["mq-notify", "0"],
+        &["", "On", "of", "true", "0", "hex:", "off "],
         &[],
         "how",
     ),
@@ -618,151 +643,6 @@ fn values_that_do_not_read_are_named(rt: HostRuntime) -> Result<(), Fail> {
     Ok(())
 }
 
-/// An answer, without memory of its own.
-enum Said {
-    Started(u64),
-    Done,
-    Opened(u64),
-    Mask(u16),
-    Sent,
-    Received(u32, &'static [u8]),
-    Attrs(bool, u32, u32, u32),
-    Value(u32),
-    Listed(&'static [&'static [u8]]),
-    Facts(u32, u32, u16),
-    Refused(Rule),
-    Interrupted,
-}
-
-fn answer_of(alloc: Global, said: &Said) -> Result<Answer, NoMemory> {
-    Ok(match said {
-        Said::Started(number) => Answer::Started(Sid(*number)),
-        Said::Done => Answer::Done,
-        Said::Opened(number) => Answer::Opened(Desc(*number)),
-        Said::Mask(bits) => Answer::Mask(Mode(*bits)),
-        Said::Sent => Answer::Sent,
-        Said::Received(priority, message) => Answer::Received {
-            priority: *priority,
-            bytes: Bytes::from_slice(alloc, message)?,
-        },
-        Said::Attrs(nonblock, maxmsg, msgsize, messages) => Answer::Attrs {
-            nonblock: *nonblock,
-            attributes: Attributes {
-                maxmsg: *maxmsg,
-                msgsize: *msgsize,
-            },
-            messages: *messages,
-        },
-        Said::Value(value) => Answer::Value(*value),
-        Said::Listed(texts) => Answer::Names(names(alloc, texts)?),
-        Said::Facts(owner, group, mode) => Answer::Stat(Facts {
-            owner: Uid(*owner),
-            group: Gid(*group),
-            mode: Mode(*mode),
-        }),
-        Said::Refused(rule) => Answer::Refused(*rule),
-        Said::Interrupted => Answer::Interrupted,
-    })
-}
-
-static LINES: [(Said, &str); 47] = [
-    (Said::Value(0), "value 0"),
-    (Said::Value(u32::MAX), "value 4294967295"),
-    (Said::Started(3), "started 3"),
-    (Said::Started(u64::MAX), "started 18446744073709551615"),
-    (Said::Done, "done"),
-    (Said::Opened(0), "opened 0"),
-    (Said::Sent, "sent"),
-    (Said::Interrupted, "interrupted EINTR"),
-    (Said::Mask(0), "mask 000"),
-    (Said::Mask(0o22), "mask 022"),
-    (Said::Mask(0o777), "mask 777"),
-    (Said::Mask(0o1777), "mask 1777"),
-    (
-        Said::Refused(Rule::ModeDenied),
-        "refused 15 EACCES ModeDenied",
-    ),
-    (Said::Refused(Rule::NoSession), "refused 1 ESRCH NoSession"),
-    (Said::Refused(Rule::BadKey), "refused 31 EACCES BadKey"),
-    (Said::Received(0, b"hi"), "received 0 hi"),
-    (Said::Received(5, b"!~"), "received 5 !~"),
-    (Said::Received(32_767, b"-"), "received 32767 -"),
-    (Said::Received(u32::MAX, b"hex"), "received 4294967295 hex"),
-    // Without bytes, with one below `!` or above `~`, and with `hex:` in front.
-    (Said::Received(1, b""), "received 1 hex:"),
-    (Said::Received(1, b"a b"), "received 1 hex:612062"),
-    (Said::Received(1, b"a\x7f"), "received 1 hex:617f"),
-    (Said::Received(1, b"a\0"), "received 1 hex:6100"),
-    (Said::Received(1, b"hex:"), "received 1 hex:6865783a"),
-    (Said::Received(1, b"hex:2f"), "received 1 hex:6865783a3266"),
-    (Said::Received(1, b"\xc3\xa9"), "received 1 hex:c3a9"),
-    (Said::Received(1, b"\xab\xcd\xef"), "received 1 hex:abcdef"),
-    (Said::Received(1, b"/jobs"), "received 1 /jobs"),
-    (Said::Received(1, b"-a"), "received 1 -a"),
-    (Said::Received(1, b"hexa:"), "received 1 hexa:"),
-    (Said::Received(1, b"/hex:"), "received 1 /hex:"),
-    (Said::Attrs(false, 10, 8192, 0), "attrs 0 10 8192 0"),
-    (Said::Attrs(true, 1, 8, 1), "attrs 1 1 8 1"),
-    (
-        Said::Attrs(true, 65_536, 16_777_216, 7),
-        "attrs 1 65536 16777216 7",
-    ),
-    (
-        Said::Attrs(false, u32::MAX, 0, u32::MAX),
-        "attrs 0 4294967295 0 4294967295",
-    ),
-    (Said::Listed(&[]), "names 0"),
-    (Said::Listed(&[b"/a"]), "names 1 /a"),
-    (Said::Listed(&[b"/b", b"/a"]), "names 2 /b /a"),
-    (
-        Said::Listed(&[b"/ ", b"/a", b"", b"/\xff"]),
-        "names 4 hex:2f20 /a hex: hex:2fff",
-    ),
-    (Said::Facts(1000, 1000, 0o600), "stat 1000 1000 0600"),
-    (Said::Facts(0, 0, 0o1777), "stat 0 0 1777"),
-    (Said::Facts(1, u32::MAX, 0), "stat 1 4294967295 0000"),
-    (Said::Facts(7, 8, 0o22), "stat 7 8 0022"),
-    (Said::Facts(7, 8, 0o10777), "stat 7 8 10777"),
-    (Said::Opened(u64::MAX), "opened 18446744073709551615"),
-    (
-        Said::Refused(Rule::Overflow),
-        "refused 30 EOVERFLOW Overflow",
-    ),
-    (Said::Refused(Rule::Sticky), "refused 17 EACCES Sticky"),
-];
-
-fn has_line(alloc: Global, (said, line): &(Said, &str)) -> Result<bool, Fail> {
-    let answer = answer_of(alloc, said)?;
-    Ok(line_of_answer(alloc, &answer)?.as_str() == *line)
-}
-
-#[test]
-fn answers_have_lines(rt: HostRuntime) -> Result<(), Fail> {
-    for (row, shown) in LINES.iter().enumerate() {
-        if !has_line(rt.alloc(), shown)? {
-            return Err(Fail::new(format_args!("row {row} has another line")));
-        }
-    }
-    Ok(())
-}
-
-/// Whether the line of a refusal by the rule ends with the name of its variant.
-fn is_named(alloc: Global, rule: Rule) -> Result<bool, Fail> {
-    let line = line_of_answer(alloc, &Answer::Refused(rule))?;
-    let name = format!(in alloc; " {rule:?}")?;
-    Ok(line.as_str().ends_with(name.as_str()))
-}
-
-#[test]
-fn rules_have_the_names_of_their_variants(rt: HostRuntime) -> Result<(), Fail> {
-    for rule in EVERY_RULE {
-        if !is_named(rt.alloc(), rule)? {
-            return Err(Fail::new(format_args!("{rule:?} has another name")));
-        }
-    }
-    Ok(())
-}
-
 const USAGE: &str = "  umask <octal>
   mq-open <name> <access> [--create] [--excl] [--nonblock] [--mode <value>] [--maxmsg <value>] [--msgsize <value>]
   mq-close <d>
@@ -770,6 +650,7 @@ const USAGE: &str = "  umask <octal>
   mq-receive <d> <len>
   mq-getattr <d>
   mq-setattr <d> <how>
+  mq-notify <d> <how>
   mq-unlink <name>
   sem-open <name> [--create] [--excl] [--mode <value>] [--value <value>]
   sem-close <d>
@@ -784,6 +665,7 @@ const USAGE: &str = "  umask <octal>
   chown <uid> <gid> <family> [name]
   set-limit <uid> <bytes>
   interrupt
+  audit <start> <count>
 ";
 
 #[test]

@@ -11,7 +11,7 @@ use row::judge;
 use std::io;
 
 /// The scripts, in the order in which they are run.
-const ROWS: [&str; 83] = [
+const ROWS: [&str; 89] = [
     "first_run",
     "present_before_mode",
     "name_forms",
@@ -75,6 +75,12 @@ const ROWS: [&str; 83] = [
     "hang_up_gives_bytes_back",
     "limits_lowered",
     "greatest_queues_of_user_0",
+    "notice_once_to_who_asked",
+    "no_notice_of_what_a_receive_lets_in",
+    "registration_ends",
+    "audit_shows_what_came_before",
+    "audit_pages",
+    "thousand_lines_a_page",
     "parked_under_an_older_label",
     "labels_and_sessions",
     "lines_and_words",

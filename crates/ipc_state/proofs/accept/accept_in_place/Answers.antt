@@ -1,6 +1,6 @@
 use Rattle.std.proofs.Common.{refl}
 use Rattle.ipc_terms.specs.declared.ids.Family.TheVariants.{Mq, Sem}
-use Rattle.ipc_state.proofs.Accepting.{agrees_asked, agrees_listed, agrees_told, agrees_valued}
+use Rattle.ipc_state.proofs.Accepting.{agrees_asked, agrees_listed, agrees_told, agrees_valued, agrees_audited}
 use Rattle.ipc_state.proofs.Opens.{queue_closes, semaphore_closes, unlinks_of}
 use Rattle.ipc_state.proofs.Opened.{agrees_closed, agrees_unlinked}
 use Rattle.ipc_state.proofs.ChargeTables.{core_covered}
@@ -41,3 +41,6 @@ unlink-requires c = core_covered _ _ _ c.requires.core
 
 pub unlink-requires-in-SemUnlink : goal.unlink-requires-in-SemUnlink
 unlink-requires-in-SemUnlink c = core_covered _ _ _ c.requires.core
+
+pub returns-in-Audit : goal.returns-in-Audit
+returns-in-Audit c = rw (c.in-Audit.is) (agrees_audited _ _ _ c.args.sid c.in-Audit.start c.in-Audit.count c.requires.core.agrees)

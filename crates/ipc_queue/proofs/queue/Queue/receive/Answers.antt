@@ -18,14 +18,14 @@ remove_ticket-requires c = next_is_there c.self.inside.tickets.items c.deref.res
 pub invariant_of-self-in-Some-pop_front : goal.invariant_of-self-in-Some-pop_front
 invariant_of-self-in-Some-pop_front c =
     let inside = c.self.inside in
-    let queue : Tickets = record { maxmsg = inside.maxmsg; msgsize = inside.msgsize; tickets = inside.tickets.items; senders = inside.senders.items; receivers = inside.receivers.items } in
+    let queue : Tickets = record { maxmsg = inside.maxmsg; msgsize = inside.msgsize; tickets = inside.tickets.items; senders = inside.senders.items; receivers = inside.receivers.items; registered = inside.registered } in
     let there = next_is_there inside.tickets.items c.deref.result.now c.in-Some.next c.deref.ensures.value c.in-Some.ensures in
-    let_in queue c.remove_ticket.new.tickets.items c.push_within.new.items.items c.pop_front.new.self.items c.in-Some.next c.in-Some-pop_front.sender c.self.invariant there c.remove_ticket.ensures.items c.in-Some-pop_front.ensures.items c.push_within.ensures.items
+    let_in queue _ c.remove_ticket.new.tickets.items c.push_within.new.items.items c.pop_front.new.self.items c.in-Some.next c.in-Some-pop_front.sender c.self.invariant there c.remove_ticket.ensures.items c.in-Some-pop_front.ensures.items c.push_within.ensures.items
 
 pub invariant_of-self-in-None : goal.invariant_of-self-in-None
 invariant_of-self-in-None c =
     let inside = c.self.inside in
-    let queue : Tickets = record { maxmsg = inside.maxmsg; msgsize = inside.msgsize; tickets = inside.tickets.items; senders = inside.senders.items; receivers = inside.receivers.items } in
+    let queue : Tickets = record { maxmsg = inside.maxmsg; msgsize = inside.msgsize; tickets = inside.tickets.items; senders = inside.senders.items; receivers = inside.receivers.items; registered = inside.registered } in
     let there = next_is_there inside.tickets.items c.deref.result.now c.in-Some.next c.deref.ensures.value c.in-Some.ensures in
     taken queue c.remove_ticket.new.tickets.items c.pop_front.new.self.items c.in-Some.next c.self.invariant there c.remove_ticket.ensures.items c.in-None.ensures.items c.in-None.ensures.rest
 

@@ -34,6 +34,14 @@ returns-in-Queued-clause-ok c =
     let outcome = ap Some (sym c.in-Queued.is) ∙ c.in_ok-send.ensures.outcome ∙ ap (option_map send_outcome) (sym there) in
     rw (← c.self.view_is, c.in_ok-send.ensures.ok) (after_send_is (record { sessions = inside.sessions.items; queues = inside.queues; semaphores = inside.semaphores; objects = inside.objects.items; created = inside.created; descriptions = inside.descriptions; charges = inside.charges }) c.args.object (record { place = c.args.ticket; priority = c.args.priority }) c.args.sid _ _ _ outcome refl (place_changed (is_number c.args.object) (with_queue (sent (record { place = c.args.ticket; priority = c.args.priority }) c.args.sid)) inside.objects.items c.in-Some.index c.index_mut.result.now place c.index_mut.ensures.value))
 
+pub returns-in-QueuedAndNotice-clause-ok : goal.returns-in-QueuedAndNotice-clause-ok
+returns-in-QueuedAndNotice-clause-ok c =
+    let inside = c.self.inside in
+    let place = ap (position (is_number c.args.object)) (sym c.deref.ensures.value) ∙ sym c.find_index.ensures ∙ c.in-Some.is in
+    let there = at_place inside.objects.items c.args.object c.in-Some.index c.index_mut.result.now place c.index_mut.ensures.value in
+    let outcome = ap Some (sym c.in-QueuedAndNotice.is) ∙ c.in_ok-send.ensures.outcome ∙ ap (option_map send_outcome) (sym there) in
+    rw (← c.self.view_is, c.in_ok-send.ensures.ok) (after_send_is (record { sessions = inside.sessions.items; queues = inside.queues; semaphores = inside.semaphores; objects = inside.objects.items; created = inside.created; descriptions = inside.descriptions; charges = inside.charges }) c.args.object (record { place = c.args.ticket; priority = c.args.priority }) c.args.sid _ _ _ outcome refl (place_changed (is_number c.args.object) (with_queue (sent (record { place = c.args.ticket; priority = c.args.priority }) c.args.sid)) inside.objects.items c.in-Some.index c.index_mut.result.now place c.index_mut.ensures.value))
+
 pub returns-in-HandedTo-clause-ok : goal.returns-in-HandedTo-clause-ok
 returns-in-HandedTo-clause-ok c =
     let inside = c.self.inside in

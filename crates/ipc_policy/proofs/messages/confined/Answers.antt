@@ -1,0 +1,12 @@
+use Rattle.ipc_policy.proofs.Bringing.{answers_delivered}
+use Rattle.ipc_policy.proofs.Delivering.{delivery_confined, delivered_once}
+use Rattle.ipc_policy.proofs.messages.confined.Goals as goal
+
+pub returns-clause-answers : goal.returns-clause-answers
+returns-clause-answers g = answers_delivered
+
+pub returns-clause-deliveries : goal.returns-clause-deliveries
+returns-clause-deliveries g = delivery_confined
+
+pub returns-clause-sends : goal.returns-clause-sends
+returns-clause-sends g = delivered_once

@@ -1,0 +1,105 @@
+-- Where a message that is received comes from, and who may receive it.
+use Rattle.std.specs.Prelude.{◌≡◌, Bool, false, ℕ, ◌<◌, ◌≤◌, ◌||◌, List, [], ◌∷◌, length, IsTrue, Option, Some, None, is_none, if◌then◌else◌}
+use Rattle.std.specs.Option.{option_map}
+use Rattle.ipc_terms.specs.declared.ids.Sid.{Sid}
+use Rattle.ipc_terms.specs.declared.facts.Facts.{Facts}
+use Rattle.ipc_terms.specs.declared.call.Answer.{Answer}
+use Rattle.ipc_terms.specs.declared.call.Answer.TheVariants.{Received}
+use Rattle.ipc_terms.specs.declared.call.Call.TheVariants.{MqSend, MqReceive}
+use Rattle.ipc_terms.specs.declared.record.Event.{Event}
+use Rattle.ipc_terms.specs.declared.record.Event.TheVariants.{Do}
+use Rattle.ipc_access.specs.declared.class.Cred.{Cred}
+use Rattle.ipc_access.specs.Class.{granted}
+use Rattle.ipc_policy.specs.declared.config.Config.{Config}
+use Rattle.ipc_policy.specs.declared.config.Held.{Held}
+use Rattle.ipc_policy.specs.History.{History, after_accepted, listed, record_at, before_at}
+use Rattle.ipc_policy.specs.Sessions.{cred}
+use Rattle.ipc_policy.specs.Names.{Opening, opening, creating}
+use Rattle.ipc_policy.specs.Objects.{facts}
+use Rattle.ipc_policy.specs.Descriptions.{opens, opened, held_as, holds}
+use Rattle.ipc_policy.specs.Queues.{Send, Wait}
+use Rattle.ipc_policy.specs.Rules.{bits_wanted, reads_only, writes_only}
+use Rattle.ipc_policy.specs.Verdict.{Legal, verdict, answers}
+use Rattle.ipc_policy.specs.Deliveries.{Delivery, delivery, deliveries}
+
+-- the record of the place is of this event, which was accepted
+abbrev pub IsAccepted : History → ℕ → Event → Type 0
+IsAccepted h place e = record_at place h ≡ Some (record { event = e; rule = None })
+
+-- this was sent, and accepted
+abbrev pub IsSend : History → Send → Type 0
+IsSend h m = IsAccepted h m.place (Do (record { 0 = m.session }) (MqSend (record { 0 = m.desc }) m.priority m.bytes))
+
+-- there are a user and an object, and the object grants what is wanted
+abbrev pub grants_to : Option Cred → Option Facts → ℕ → Bool
+grants_to (Some who) (Some at) wanted = granted who at.owner at.group at.mode wanted
+grants_to _ _ wanted = false
+
+-- an accepted open gave description d all that this says; it created the object, or the object, by its owner, group and
+-- mode of that moment, granted the access that the open asked for
+pub record IsGranted (c : Config) (h : History) (d : ℕ) (x : Held) : Type 0 where
+  pub place : ℕ
+  pub event : Event
+  pub asked : Opening
+  pub recorded : IsAccepted h place event
+  pub is_open : opening event ≡ Some asked
+  pub number : opens (before_at place h) ≡ d
+  pub gives : option_map (held_as asked) (opened (before_at place h) asked) ≡ Some x
+  pub grants : IsTrue (creating (before_at place h) asked || grants_to (cred c (before_at place h) asked.session.0) (facts c (before_at place h) x.object) (bits_wanted asked.access))
+
+-- this was sent and accepted; its session then held the description, of object o and for writing
+pub record IsSendTo (c : Config) (h : History) (o : ℕ) (m : Send) : Type 0 where
+  pub recorded : IsSend h m
+  pub writer : Held
+  pub held : holds (before_at m.place h) m.session m.desc ≡ Some writer
+  pub object : writer.object ≡ o
+  pub writable : reads_only writer.access ≡ false
+  pub granted : IsGranted c h m.desc writer
+
+-- the record of the place is an accepted receive; from there to the end of the history its session held the description,
+-- of object o and for reading
+pub record IsReceiveFrom (c : Config) (h : History) (o : ℕ) (w : Wait) : Type 0 where
+  pub length' : ℕ
+  pub recorded : IsAccepted h w.place (Do (record { 0 = w.session }) (MqReceive (record { 0 = w.desc }) length'))
+  pub reader : Held
+  pub held : (place : ℕ) → w.place ≤ place → place < length h → holds (before_at place h) w.session w.desc ≡ Some reader
+  pub object : reader.object ≡ o
+  pub readable : writes_only reader.access ≡ false
+  pub granted : IsGranted c h w.desc reader
+
+-- a message that an answer brings, and to whom
+pub record Brought : Type 0 where
+  pub session : ℕ
+  pub priority : ℕ
+  pub bytes : List ℕ
+
+-- the messages that answers bring
+abbrev pub brought : List (Sid × Answer) → List Brought
+brought [] = []
+brought ((to, Received priority bytes) ∷ rest) = record { session = to.0; priority = priority; bytes = bytes } ∷ brought rest
+brought (other ∷ rest) = brought rest
+
+-- the answer to a delivery brings the message to the session of the receive
+abbrev pub brings : Delivery → Brought
+brings x = record { session = x.receive.session; priority = x.message.priority; bytes = x.message.bytes }
+
+-- the answers to an event bring what it delivers, where it is accepted, and no other message
+abbrev pub EachAnswerIsDelivered : Type 0
+EachAnswerIsDelivered =
+    (c : Config) (h : History) (e : Event) →
+    brought (answers c h e) ≡ listed (option_map brings (if is_none (verdict c h e) then delivery c e h else None))
+
+-- the message was sent to the object, and the receive was made of it
+pub record IsConfined (c : Config) (h : History) (x : Delivery) : Type 0 where
+  pub sent : IsSendTo c h x.object x.message
+  pub received : IsReceiveFrom c h x.object x.receive
+
+-- so whenever a legal history grows by an event that delivers a message
+abbrev pub EachDeliveryIsConfined : Type 0
+EachDeliveryIsConfined =
+    (c : Config) (h : History) (e : Event) (x : Delivery) → Legal c (after_accepted h e) → delivery c e h ≡ Some x →
+    IsConfined c (after_accepted h e) x
+
+-- and no two events deliver the message of one send
+abbrev pub EachSendIsDeliveredOnce : Type 0
+EachSendIsDeliveredOnce = (c : Config) (h : History) (i : ℕ) → Legal c h → deliveries c h i ≤ 1

@@ -1,0 +1,75 @@
+//! What the audit shows of a record.
+
+ghost use Rattle.std.specs.Prelude.{◌≡◌, ◌+◌, ◌^◌, ◌<◌, [], take, length, unwrap_or, IfOk};
+ghost use Rattle.ipc_terms.specs.Lines.{line_of, event_name};
+ghost use Rattle.ipc_trail.specs.Receipts.{receipt_of, lines_from};
+
+use ipc_terms::{Bytes, Event, Line, Name, NoMemory, Record, Sid};
+use std::alloc::Global;
+
+/// The most bytes of a name that a line shows.
+const LONGEST_NAME: usize = 256;
+
+/// What the audit says of the record at a place, but for its name.
+#[derive(Clone, Copy, PartialEq, Eq)]
+pub struct Receipt {
+    /// How many records came before it.
+    pub place: u64,
+    /// The session that the event names; a hello names nobody.
+    pub sid: Sid,
+    /// The number of the call, as its frames carry it; 1 for a hello and 25 for a hang-up.
+    pub op: u8,
+    /// The number of the rule that refused it, or 0.
+    pub rule: u16,
+}
+
+pub(crate) fn receipt_of(place: u64, record: &Record) -> Receipt
+    ensures { result ≡ receipt_of (line_of place record.now) }
+{
+    Receipt {
+        place,
+        sid: record.event.caller(),
+        op: record.event.op(),
+        rule: record.rule_number(),
+    }
+}
+
+/// The lines of these records, which follow one another from the place `first` on.
+pub(crate) fn lines_from(
+    alloc: Global,
+    first: u64,
+    records: &[Record],
+) -> Result<Vec<Line>, NoMemory>
+    requires { first + length records.now < 2 ^ 64 }
+    ensures { IfOk result (λ lines. lines.items ≡ lines_from first records.now) }
+{
+    let mut lines = Vec::with_capacity(alloc, records.len())?;
+    for (index, record) in records.iter().enumerate() {
+        lines.push(line_of(alloc, first + index as u64, record)?)?;
+    }
+    Ok(lines)
+}
+
+fn line_of(alloc: Global, place: u64, record: &Record) -> Result<Line, NoMemory>
+    ensures { IfOk result (λ line. line ≡ line_of place record.now) }
+{
+    Ok(Line {
+        place,
+        sid: record.event.caller(),
+        op: record.event.op(),
+        rule: record.rule_number(),
+        name: name_shown(alloc, &record.event)?,
+    })
+}
+
+/// The first 256 bytes of the name that the event names; no bytes where it names nothing.
+fn name_shown(alloc: Global, event: &Event) -> Result<Name, NoMemory>
+    ensures { IfOk result (λ name. name ≡ take 256 (unwrap_or (event_name event.now) [])) }
+{
+    let bytes = match event.name() {
+        Some(name) => name.as_slice(),
+        None => &[],
+    };
+    let (shown, _rest) = bytes.split_at(bytes.len().min(LONGEST_NAME));
+    Ok(Name::new(Bytes::from_slice(alloc, shown)?))
+}
