@@ -85,7 +85,7 @@ impl Cred {
 }
 
 /// One of the three classes of users at an object (POSIX.1-2017, XBD 4.5, File Access Permissions).
-#[derive(Clone, Copy, PartialEq, Eq, Debug)]
+#[derive(Clone, Copy, PartialEq, Eq)]
 pub enum Class {
     Owner,
     Group,

@@ -4,10 +4,12 @@ ghost use Rattle.std.specs.Prelude.{◌≡◌, [], ◌∷◌, ◌++◌, None, On
 ghost use Rattle.ipc_terms.specs.Pages.{page};
 ghost use Rattle.ipc_names.specs.Directory.{first_directory, object_named, without_name, names_object, bound_names};
 
-use crate::listing;
+use crate::{counts, listing};
+use indexmap::IndexMap;
 use ipc_access::DirFacts;
-use ipc_terms::{Binding, Family, Gid, Mode, Name, Names, NoMemory, Uid, page_of};
+use ipc_terms::{Family, Gid, Mode, Name, Names, NoMemory, Uid, page_of};
 use std::alloc::Global;
+use std::collections::BTreeMap;
 use std::marker::Model;
 
 /// The names of a family that are bound, each to the number of an object, in the order in which
@@ -15,16 +17,20 @@ use std::marker::Model;
 #[derive(Drop)]
 pub struct NameDir {
     family: Family,
-    bindings: Vec<Binding>,
+    objects: IndexMap<Vec<u8>, u64>,
+    counts: BTreeMap<u64, usize>,
     facts: DirFacts,
 }
 
 impl Model for NameDir {
     ghost use Rattle.ipc_names.specs.Directory.{Directory};
+    ghost use Rattle.ipc_names.specs.Counting.{bindings_of, Counts};
 
     ghost Value = { Directory };
 
-    ghost view = { λ a. record { family = a.family; bindings = a.bindings.items; facts = a.facts } };
+    ghost view = { λ a. record { family = a.family; bindings = bindings_of a.objects.entries; facts = a.facts } };
+
+    ghost invariant = { λ a. Counts a.counts (bindings_of a.objects.entries) };
 }
 
 impl NameDir {
@@ -35,7 +41,8 @@ impl NameDir {
     {
         NameDir {
             family,
-            bindings: Vec::new(alloc),
+            objects: IndexMap::new(alloc),
+            counts: BTreeMap::new(alloc),
             facts: DirFacts {
                 owner: Uid(0),
                 group: Gid(0),
@@ -54,7 +61,7 @@ impl NameDir {
     pub fn get(&self, name: &Name) -> Option<u64>
         ensures { result ≡ object_named self.now.bindings name.now }
     {
-        listing::find_name(&self.bindings, name)
+        self.objects.get(name.as_slice()).copied()
     }
 
     /// Whether a name is bound to the object. An object that has none may live on: it is open
@@ -62,7 +69,7 @@ impl NameDir {
     pub fn names_object(&self, object: u64) -> bool
         ensures { result ≡ names_object self.now.bindings object }
     {
-        listing::any_names(&self.bindings, object)
+        counts::count(&self.counts, object) > 0
     }
 
     /// Binds a name that is unbound. The directory doesn't ask whether it has the form of a name:
@@ -72,7 +79,13 @@ impl NameDir {
         ensures ok { OnOk result (self.new ≡ record self.old { bindings = self.old.bindings ++ record { name = name; object = object } ∷ [] }) }
         ensures err { OnErr result (self.new ≡ self.old) }
     {
-        self.bindings.push(Binding { name, object })?;
+        // The length is what says that a name more can be counted.
+        let _names = self.objects.len();
+        self.objects.reserve(1)?;
+        counts::raise(&mut self.counts, object)?;
+        self.objects
+            .insert(name.into_bytes().into_vec(), object)
+            .unwrap();
         Ok(())
     }
 
@@ -82,9 +95,9 @@ impl NameDir {
         ensures object { result ≡ object_named self.old.bindings name.now }
         ensures rest { self.new ≡ record self.old { bindings = without_name self.old.bindings name.now } }
     {
-        let object = self.get(name);
-        listing::remove_name(&mut self.bindings, name);
-        object
+        let object = self.objects.shift_remove(name.as_slice())?;
+        counts::lower(&mut self.counts, object);
+        Some(object)
     }
 
     /// A page of the names that are bound, the first bound first: from the position `start` on,
@@ -93,7 +106,8 @@ impl NameDir {
     pub fn list(&self, alloc: Global, start: u32, count: u16) -> Result<Names, NoMemory>
         ensures { IfOk result (λ names. names ≡ page start count (bound_names self.now.bindings)) }
     {
-        let asked = page_of(&self.bindings, u64::from(start), count);
+        let keys = self.objects.keys();
+        let asked = page_of(keys.as_slice(), u64::from(start), count);
         Ok(Names::new(listing::names_of(alloc, asked)?))
     }
 

@@ -1,6 +1,7 @@
 //! Names of objects, and the directory of a family.
 #![tactic(auto)]
 
+mod counts;
 mod directory;
 mod form;
 mod listing;

@@ -24,7 +24,7 @@ pub const LIMIT_MAX: u64 = 1_000_000_000_000_000;
 /// Limits that are given at the start (`mq_overview(7)`): `msg_max`, from 1 to `HARD_MSG_MAX`, bounds
 /// the messages of a queue; `msgsize_max`, from 1 to `HARD_MSGSIZE_MAX`, the bytes of a message;
 /// `queues_max`, from 0 to `HARD_QUEUES_MAX`, the queues that are alive. User 0 has limits of its own.
-#[derive(Clone, Copy, PartialEq, Eq, Debug)]
+#[derive(Clone, Copy, PartialEq, Eq)]
 pub struct Limits {
     pub msg_max: u32,
     pub msgsize_max: u32,
@@ -55,7 +55,7 @@ pub struct Registration {
 }
 
 /// What a description gives, and to which session.
-#[derive(Clone, Copy, PartialEq, Eq, Debug)]
+#[derive(Clone, Copy, PartialEq, Eq)]
 pub struct Held {
     pub session: Sid,
     pub object: u64,

@@ -1,2 +1,3 @@
 pub mod Greatest
 pub mod Leaving
+pub mod Standing

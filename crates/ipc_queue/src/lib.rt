@@ -2,6 +2,7 @@
 //! Messages are known by tickets, the places of their sends in the trail; their bytes stand there.
 #![tactic(auto)]
 
+mod contents;
 mod queue;
 
 pub use queue::{ParkedSend, Queue, ReceiveOutcome, SendOutcome, Ticket};

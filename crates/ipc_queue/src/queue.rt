@@ -1,19 +1,18 @@
 //! The queue.
 
-ghost use Rattle.std.specs.Prelude.{◌≡◌, ◌<◌, ◌≤◌, ◌^◌, [], None, true, is_none, length, vec_len, vec_capacity, OnOk, OnErr, IfOk, IsOk};
-ghost use Rattle.std.specs.List.{list_any, position};
+ghost use Rattle.std.specs.Prelude.{◌≡◌, ◌<◌, ◌≤◌, ◌^◌, [], None, is_none, length, OnOk, OnErr, IfOk, IsOk};
 ghost use Rattle.std.specs.Option.{option_map};
-ghost use Rattle.ipc_terms.specs.Events.{is_session};
-ghost use Rattle.ipc_terms.specs.Lists.{first, without_first};
-ghost use Rattle.ipc_queue.specs.Tickets.{IsQueue, is_ticket, is_sender, next_ticket, next_place, is_full_of, send_outcome, sent, receive_outcome, received, is_parked, withdrawn, with_registration, without_registration};
+ghost use Rattle.ipc_terms.specs.Lists.{first};
+ghost use Rattle.ipc_queue.specs.Tickets.{IsQueue, next_place, is_full_of, send_outcome, sent, receive_outcome, received, is_parked, withdrawn, with_registration, without_registration};
 
-use ipc_terms::{Desc, NoMemory, Sid, push_within, remove_first, remove_session};
+use crate::contents::Contents;
+use ipc_terms::{Desc, NoMemory, Sid};
+use ipc_waiters::{Waiters, Waiting};
 use std::alloc::Global;
-use std::collections::VecDeque;
 use std::marker::Model;
 
 /// A message: the place of its send in the trail, and its priority.
-#[derive(Clone, Copy, PartialEq, Eq, Debug)]
+#[derive(Clone, Copy, PartialEq, Eq)]
 pub struct Ticket {
     pub place: u64,
     pub priority: u32,
@@ -28,8 +27,16 @@ pub struct ParkedSend {
     pub session: Sid,
 }
 
+impl Waiting for ParkedSend {
+    ghost caller = { λ sender. sender.session.0 };
+
+    fn session(&self) -> Sid {
+        self.session
+    }
+}
+
 /// What became of a send.
-#[derive(Clone, Copy, PartialEq, Eq, Debug)]
+#[derive(Clone, Copy, PartialEq, Eq)]
 pub enum SendOutcome {
     /// The message entered the queue.
     Queued,
@@ -42,7 +49,7 @@ pub enum SendOutcome {
 }
 
 /// What became of a receive.
-#[derive(Clone, Copy, PartialEq, Eq, Debug)]
+#[derive(Clone, Copy, PartialEq, Eq)]
 pub enum ReceiveOutcome {
     /// It took the message of this place.
     Took(u64),
@@ -60,10 +67,10 @@ pub enum ReceiveOutcome {
 pub struct Queue {
     maxmsg: u32,
     msgsize: u32,
-    tickets: Vec<Ticket>,
-    senders: VecDeque<ParkedSend>,
+    contents: Contents,
+    senders: Waiters<ParkedSend>,
     /// A receive brings nothing, so its session is all of it.
-    receivers: VecDeque<Sid>,
+    receivers: Waiters<Sid>,
     /// Whose notice it is, `ipc_descr` knows.
     registered: Option<Desc>,
 }
@@ -73,9 +80,9 @@ impl Model for Queue {
 
     ghost Value = { Tickets };
 
-    ghost view = { λ q. record { maxmsg = q.maxmsg; msgsize = q.msgsize; tickets = q.tickets.items; senders = q.senders.items; receivers = q.receivers.items; registered = q.registered } };
+    ghost view = { λ q. record { maxmsg = q.maxmsg; msgsize = q.msgsize; tickets = q.contents; senders = q.senders; receivers = q.receivers; registered = q.registered } };
 
-    ghost invariant = { λ q. IsQueue (record { maxmsg = q.maxmsg; msgsize = q.msgsize; tickets = q.tickets.items; senders = q.senders.items; receivers = q.receivers.items; registered = q.registered }) };
+    ghost invariant = { λ q. IsQueue (record { maxmsg = q.maxmsg; msgsize = q.msgsize; tickets = q.contents; senders = q.senders; receivers = q.receivers; registered = q.registered }) };
 }
 
 impl Queue {
@@ -89,9 +96,9 @@ impl Queue {
         Queue {
             maxmsg,
             msgsize,
-            tickets: Vec::new(alloc),
-            senders: VecDeque::new(alloc),
-            receivers: VecDeque::new(alloc),
+            contents: Contents::new(alloc),
+            senders: Waiters::new(alloc),
+            receivers: Waiters::new(alloc),
             registered: None,
         }
     }
@@ -113,18 +120,18 @@ impl Queue {
             place: ticket,
             priority,
         };
-        if let Some(receiver) = self.receivers.pop_front() {
+        if let Some(receiver) = self.receivers.serve() {
             return Ok(SendOutcome::HandedTo(receiver));
         }
         if self.is_full() {
-            self.senders.push_back(ParkedSend {
+            self.senders.park(ParkedSend {
                 ticket,
                 session: who,
             })?;
             return Ok(SendOutcome::Parked);
         }
-        let was_empty = self.tickets.is_empty();
-        self.tickets.push(ticket)?;
+        let was_empty = self.contents.len() == 0;
+        self.contents.push(ticket)?;
         let fired = if was_empty {
             self.registered.take()
         } else {
@@ -138,27 +145,26 @@ impl Queue {
 
     /// `who` receives (POSIX.1-2017, `mq_receive`). The oldest message of the greatest priority
     /// leaves the queue, and then the message of the longest parked send, if there is one, enters
-    /// behind what is left; this takes no memory, and fires no registration. At an empty queue the
-    /// receive parks behind all parked ones. An `Err` leaves the queue as it was.
+    /// behind what is left; where no send is parked this takes no memory. It fires no registration. At
+    /// an empty queue the receive parks behind all parked ones. An `Err` leaves the queue as it was.
     #[tactic(auto, unfolding(crate::specs::Tickets::receive_outcome, crate::specs::Tickets::received))]
     pub fn receive(&mut self, who: Sid) -> Result<ReceiveOutcome, NoMemory>
         ensures outcome { IfOk result (λ outcome. outcome ≡ receive_outcome self.old) }
         ensures ok { OnOk result (self.new ≡ received who self.old) }
         ensures err { OnErr result (self.new ≡ self.old) }
-        ensures without_memory { 0 < length self.old.tickets → IsOk result }
+        ensures without_memory { 0 < length self.old.tickets → length self.old.senders ≡ 0 → IsOk result }
     {
-        let Some(next) = first_of_greatest(&self.tickets) else {
-            self.receivers.push_back(who)?;
+        let Some(place) = self.contents.next() else {
+            self.receivers.park(who)?;
             return Ok(ReceiveOutcome::Parked);
         };
-        remove_ticket(&mut self.tickets, next);
-        match self.senders.pop_front() {
-            Some(sender) => {
-                push_within(&mut self.tickets, sender.ticket);
-                Ok(ReceiveOutcome::TookAndAdmitted(next.place, sender.session))
-            }
-            None => Ok(ReceiveOutcome::Took(next.place)),
-        }
+        let Some(sender) = self.senders.first().copied() else {
+            self.contents.pop();
+            return Ok(ReceiveOutcome::Took(place));
+        };
+        self.contents.pop_and_push(sender.ticket)?;
+        self.senders.serve();
+        Ok(ReceiveOutcome::TookAndAdmitted(place, sender.session))
     }
 
     /// Takes back the longest parked call of the session, and says whether there was one
@@ -169,9 +175,8 @@ impl Queue {
         ensures found { result ≡ is_parked sid self.old }
         ensures rest { self.new ≡ withdrawn sid self.old }
     {
-        let sender = sender_index(&self.senders, sid);
-        let sends = remove_first(&mut self.senders, sender);
-        let receives = remove_session(&mut self.receivers, sid);
+        let sends = self.senders.withdraw(sid);
+        let receives = self.receivers.withdraw(sid);
         sends || receives
     }
 
@@ -213,21 +218,21 @@ impl Queue {
     pub fn receiver(&self) -> Option<Sid>
         ensures { result ≡ first self.now.receivers }
     {
-        self.receivers.front().copied()
+        self.receivers.first().copied()
     }
 
     /// The session whose send has been parked longest; `None` where none is parked.
     pub fn sender(&self) -> Option<Sid>
         ensures { result ≡ option_map (λ sender. sender.session) (first self.now.senders) }
     {
-        self.senders.front().map(|sender| sender.session)
+        self.senders.first().map(|sender| sender.session)
     }
 
     /// The place of the message that a receive would take; `None` where the queue is empty.
     pub fn next(&self) -> Option<u64>
         ensures { result ≡ next_place self.now.tickets }
     {
-        first_of_greatest(&self.tickets).map(|ticket| ticket.place)
+        self.contents.next()
     }
 
     /// How many messages the queue has; parked sends aren't in it.
@@ -238,14 +243,14 @@ impl Queue {
     {
         // Reading it tells that it is below 2^32, as `fits` wants.
         let _most = self.maxmsg;
-        self.tickets.len()
+        self.contents.len()
     }
 
     /// Whether the queue has as many messages as it may. An empty queue is never full.
     pub fn is_full(&self) -> bool
         ensures { result ≡ is_full_of self.now }
     {
-        self.tickets.len() >= self.maxmsg as usize
+        self.contents.len() >= self.maxmsg as usize
     }
 
     /// A receive is parked only where there is no message, and a send only where there is no room,
@@ -256,41 +261,4 @@ impl Queue {
     {
         let _least = self.msgsize;
     }
-}
-
-fn first_of_greatest(tickets: &[Ticket]) -> Option<Ticket>
-    ensures { result ≡ next_ticket tickets.now }
-{
-    let mut first: Option<Ticket> = None;
-    for ticket in tickets {
-        first = match first {
-            Some(found) if found.priority >= ticket.priority => Some(found),
-            _ => Some(*ticket),
-        };
-    }
-    first
-}
-
-/// Takes the ticket out, which leaves room for another.
-fn remove_ticket(tickets: &mut Vec<Ticket>, ticket: Ticket)
-    requires { list_any (is_ticket ticket) tickets.old.items ≡ true }
-    ensures items { tickets.new.items ≡ without_first (is_ticket ticket) tickets.old.items }
-    ensures room { vec_len tickets.new < vec_capacity tickets.new }
-{
-    let Some(index) = ticket_index(tickets, ticket) else {
-        unreachable!();
-    };
-    tickets.remove(index);
-}
-
-fn ticket_index(tickets: &[Ticket], ticket: Ticket) -> Option<usize>
-    ensures { result ≡ position (is_ticket ticket) tickets.now }
-{
-    tickets.iter().position(|found| *found == ticket)
-}
-
-fn sender_index(senders: &VecDeque<ParkedSend>, sid: Sid) -> Option<usize>
-    ensures { result ≡ position (is_sender sid) senders.now.items }
-{
-    senders.iter().position(|sender| sender.session == sid)
 }

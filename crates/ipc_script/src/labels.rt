@@ -1,12 +1,15 @@
 //! Labels: the names of sessions in a script.
 
-ghost use Rattle.std.specs.Prelude.{◌≡◌, [], ◌∷◌, ◌++◌, OnOk, OnErr, IfOk};
+ghost use Rattle.std.specs.Prelude.{◌≡◌, List, [], ◌∷◌, ◌++◌, length, OnOk, OnErr, IfOk};
+ghost use Rattle.ipc_script.specs.LabelMaps.{Follow};
+ghost use Rattle.ipc_script.specs.declared.labels.Started.{Started};
 ghost use Rattle.std.specs.List.{list_all};
 ghost use Rattle.std.specs.Option.{option_map};
 ghost use Rattle.ipc_script.specs.Labels.{is_label_byte, label_form, newest_of, starter_of};
 
-use ipc_terms::Sid;
+use ipc_terms::{Sid, push_within};
 use std::alloc::{AllocError, Global};
+use std::collections::BTreeMap;
 use std::marker::Model;
 
 /// Whether the word is a label: 1 to 16 lower-case ASCII letters or digits.
@@ -66,10 +69,14 @@ pub struct Started {
 }
 
 /// The sessions that were started, the oldest first. A label may start several: its newest is the
-/// one that acts for it, and answers to each go to the label that started it.
+/// one that acts for it, and answers to each go to the label that started it. No look-up scans.
 #[derive(Drop)]
 pub struct Labels {
     started: Vec<Started>,
+    /// By label, the session that it started last.
+    newest: BTreeMap<String, Sid>,
+    /// By session, where it first stands among those started.
+    places: BTreeMap<u64, usize>,
 }
 
 impl Model for Labels {
@@ -78,7 +85,11 @@ impl Model for Labels {
 
     ghost Value = { List Started };
 
+    ghost use Rattle.ipc_script.specs.LabelMaps.{Follow};
+
     ghost view = { λ l. l.started.items };
+
+    ghost invariant = { λ l. Follow l.newest l.places l.started.items };
 }
 
 impl Labels {
@@ -87,6 +98,8 @@ impl Labels {
     {
         Labels {
             started: Vec::new(alloc),
+            newest: BTreeMap::new(alloc),
+            places: BTreeMap::new(alloc),
         }
     }
 
@@ -95,8 +108,14 @@ impl Labels {
         ensures added { OnOk result (self.new ≡ self.old ++ (record { label = label.now; sid = sid } ∷ [])) }
         ensures unchanged { OnErr result (self.new ≡ self.old) }
     {
-        let label = Label::new(alloc, label)?;
-        self.started.push(Started { label, sid })?;
+        let started = Started {
+            label: Label::new(alloc, label)?,
+            sid,
+        };
+        self.started.reserve(1)?;
+        let place = self.started.len();
+        enter(alloc, &mut self.newest, &mut self.places, label, sid, place)?;
+        push_within(&mut self.started, started);
         Ok(())
     }
 
@@ -104,32 +123,42 @@ impl Labels {
     pub fn newest(&self, label: &str) -> Option<Sid>
         ensures { result ≡ newest_of self.now label.now }
     {
-        newest_in(&self.started, label)
+        self.newest.get(label).copied()
     }
 
     /// The label that started the session.
     pub fn starter(&self, sid: Sid) -> Option<&str>
         ensures { option_map (λ s. s.now) result ≡ starter_of self.now sid }
     {
-        starter_in(&self.started, sid)
+        let place = *self.places.get(&sid.0)?;
+        let started = self.started.get(place)?;
+        Some(started.label.as_str())
     }
 }
 
-fn newest_in(started: &[Started], label: &str) -> Option<Sid>
-    ensures { result ≡ newest_of started.now label.now }
+/// Enters into both maps that the label started the session which stands at the place. An `Err`
+/// changes no look-up.
+fn enter(
+    alloc: Global,
+    newest: &mut BTreeMap<String, Sid>,
+    places: &mut BTreeMap<u64, usize>,
+    label: &str,
+    sid: Sid,
+    place: usize,
+) -> Result<(), AllocError>
+    ensures ok { OnOk result ((started : List Started) → length started ≡ place → Follow newest.old places.old started → Follow newest.new places.new (started ++ record { label = label.now; sid = sid } ∷ [])) }
+    ensures err { OnErr result ((started : List Started) → Follow newest.old places.old started → Follow newest.new places.new started) }
 {
-    started
-        .iter()
-        .rev()
-        .find(|s| s.label.as_str() == label)
-        .map(|s| s.sid)
-}
-
-fn starter_in(started: &[Started], sid: Sid) -> Option<&str>
-    ensures { option_map (λ s. s.now) result ≡ starter_of started.now sid }
-{
-    started
-        .iter()
-        .find(|s| s.sid.0 == sid.0)
-        .map(|s| s.label.as_str())
+    let key = String::from_str(alloc, label)?;
+    if places.contains_key(&sid.0) {
+        // A session that was started before stays at its first place.
+        newest.insert(key, sid)?;
+        return Ok(());
+    }
+    places.insert(sid.0, place)?;
+    if let Err(refused) = newest.insert(key, sid) {
+        places.remove(&sid.0);
+        return Err(refused.into());
+    }
+    Ok(())
 }

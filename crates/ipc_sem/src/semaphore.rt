@@ -7,9 +7,9 @@ ghost use Rattle.ipc_terms.specs.Lists.{first};
 ghost use Rattle.ipc_terms.specs.declared.object.TheConstants.{SEM_VALUE_MAX};
 ghost use Rattle.ipc_sem.specs.Counters.{IsCounter, overflows, posted, wait_outcome, waited, tried, withdrawn};
 
-use ipc_terms::{NoMemory, SEM_VALUE_MAX, Sid, remove_session};
+use ipc_terms::{NoMemory, SEM_VALUE_MAX, Sid};
+use ipc_waiters::Waiters;
 use std::alloc::Global;
-use std::collections::VecDeque;
 use std::marker::Model;
 
 /// A post at the greatest value.
@@ -17,7 +17,7 @@ use std::marker::Model;
 pub struct Overflow;
 
 /// What became of a wait.
-#[derive(Clone, Copy, PartialEq, Eq, Debug)]
+#[derive(Clone, Copy, PartialEq, Eq)]
 pub enum WaitOutcome {
     /// It lowered the value by 1.
     Passed,
@@ -30,7 +30,7 @@ pub enum WaitOutcome {
 #[derive(Drop)]
 pub struct Sem {
     value: u32,
-    waiters: VecDeque<Sid>,
+    waiters: Waiters<Sid>,
 }
 
 impl Model for Sem {
@@ -38,9 +38,9 @@ impl Model for Sem {
 
     ghost Value = { Counter };
 
-    ghost view = { λ s. record { value = s.value; waiters = s.waiters.items } };
+    ghost view = { λ s. record { value = s.value; waiters = s.waiters } };
 
-    ghost invariant = { λ s. IsCounter (record { value = s.value; waiters = s.waiters.items }) };
+    ghost invariant = { λ s. IsCounter (record { value = s.value; waiters = s.waiters }) };
 }
 
 impl Sem {
@@ -52,7 +52,7 @@ impl Sem {
     {
         Sem {
             value,
-            waiters: VecDeque::new(alloc),
+            waiters: Waiters::new(alloc),
         }
     }
 
@@ -65,7 +65,7 @@ impl Sem {
         ensures ok { OnOk result (self.new ≡ posted self.old) }
         ensures err { OnErr result (self.new ≡ self.old) }
     {
-        if let Some(waiter) = self.waiters.pop_front() {
+        if let Some(waiter) = self.waiters.serve() {
             return Ok(Some(waiter));
         }
         if self.value == SEM_VALUE_MAX {
@@ -85,7 +85,7 @@ impl Sem {
         ensures without_memory { 0 < self.old.value → IsOk result }
     {
         if self.value == 0 {
-            self.waiters.push_back(sid)?;
+            self.waiters.park(sid)?;
             return Ok(WaitOutcome::Parked);
         }
         self.value -= 1;
@@ -112,7 +112,7 @@ impl Sem {
         ensures found { result ≡ list_any (is_session sid) self.old.waiters }
         ensures rest { self.new ≡ withdrawn sid self.old }
     {
-        remove_session(&mut self.waiters, sid)
+        self.waiters.withdraw(sid)
     }
 
     /// The value, which is 0 while waits are parked (POSIX.1-2017, `sem_getvalue`).
@@ -126,7 +126,7 @@ impl Sem {
     pub fn waiter(&self) -> Option<Sid>
         ensures { result ≡ first self.now.waiters }
     {
-        self.waiters.front().copied()
+        self.waiters.first().copied()
     }
 
     /// The value is in its range, and a wait is parked only where it is 0. Does nothing; a fact of every

@@ -1,8 +1,10 @@
 -- What the calls on queues and semaphores do to the tables, by what becomes of a send, a receive, a post and a wait.
-use Rattle.std.proofs.Common.{◌≡◌, ℕ, ◌<◌, Bool, true, false, List, length, get_or, is_some, cond, Option, Some, None, refl, sym, ap, ◌∙◌}
+use Rattle.std.proofs.Common.{◌≡◌, ℕ, ◌<◌, Bool, true, false, List, length, get_or, is_some, Option, Some, None, refl, sym, ap, ◌∙◌}
 use Rattle.std.specs.Prelude.{option_and_then}
-use Rattle.std.specs.List.{position}
 use Rattle.std.specs.Option.{option_map}
+use Rattle.std.specs.Global.{Vec}
+use Rattle.std.specs.Vec.{with_items}
+use Rattle.std.proofs.lemmas.List.{with_items_is}
 use Rattle.ipc_terms.specs.Lists.{first, changed, changed_first}
 use Rattle.ipc_terms.specs.declared.ids.Sid.{Sid}
 use Rattle.ipc_terms.specs.declared.ids.Desc.{Desc}
@@ -18,11 +20,10 @@ use Rattle.ipc_sem.specs.Counters.{Counter, overflows, posted, wait_outcome, wai
 use Rattle.ipc_tables.specs.declared.rows.Session.{Session}
 use Rattle.ipc_tables.specs.declared.rows.ObjectRow.{ObjectRow}
 use Rattle.ipc_tables.specs.declared.rows.Body.{Body}
-use Rattle.ipc_tables.specs.Objects.{is_number, queue_in, row_at, queue_at, semaphore_at, with_queue, with_semaphore, with_withdrawal}
+use Rattle.ipc_tables.specs.Objects.{is_number, row_at, queue_at, semaphore_at, with_queue, with_semaphore, with_withdrawal}
 use Rattle.ipc_tables.specs.Kept.{Kept, parked_on_at}
 use Rattle.ipc_tables.specs.Steps.{with_parked, parked_by_send, parked_by_receive, parked_by_post, parked_by_wait, waiter_at, after_send, after_receive, after_post, after_wait, after_withdrawal}
 use Rattle.ipc_terms.proofs.Lists.{count_changed}
-use Rattle.ipc_terms.proofs.Changing.{none_found, place_found}
 use Rattle.ipc_terms.proofs.Lists.{stands_there}
 
 -- who is handed a message, and who is let in
@@ -55,22 +56,20 @@ admitted_in None place who e = absurd cc
 admitted_in (Some q) place who e = let same : TookAndAdmitted place who ≡ receive_outcome q = cc in (q, (refl, admitted_is q place who (sym same)))
 
 -- an object that is there stands in the table
-pub no_row : {A : Type 0} (of : Body → Option A) (rows : List ObjectRow) (o : ℕ) → position (is_number o) rows ≡ None → is_some (option_and_then (λ (row : ObjectRow). of row.body) (row_at rows o)) ≡ true → ⊥
-no_row of rows o e k = let none = ap (λ w. is_some (option_and_then (λ (row : ObjectRow). of row.body) w)) (sym (none_found (is_number o) rows e)) ∙ k in cc
+pub no_row : {A : Type 0} (of : Body → Option A) (rows : List ObjectRow) (o : ℕ) → row_at rows o ≡ None → is_some (option_and_then (λ (row : ObjectRow). of row.body) (row_at rows o)) ≡ true → ⊥
+no_row of rows o e k = let none = ap (λ w. is_some (option_and_then (λ (row : ObjectRow). of row.body) w)) (sym e) ∙ k in cc
 
-pub at_row : {A : Type 0} (of : Body → Option A) (rows : List ObjectRow) (o i : ℕ) (row : ObjectRow) → position (is_number o) rows ≡ Some i → row ≡ get_or rows i row → option_and_then (λ (r : ObjectRow). of r.body) (row_at rows o) ≡ of row.body
-at_row of rows o i row e is = ap (option_and_then (λ (r : ObjectRow). of r.body)) (place_found (is_number o) rows i row e is)
+pub at_row : {A : Type 0} (of : Body → Option A) (rows : List ObjectRow) (o : ℕ) (row : ObjectRow) → row_at rows o ≡ Some row → option_and_then (λ (r : ObjectRow). of r.body) (row_at rows o) ≡ of row.body
+at_row of rows o row e = ap (option_and_then (λ (r : ObjectRow). of r.body)) e
 
 -- what has room for a post is a semaphore
 pub some_room : (w : Option Counter) → option_map overflows w ≡ Some false → is_some w ≡ true
 some_room None e = absurd cc
 some_room (Some x) e = refl
 
-pub no_place : (rows : List ObjectRow) (o : ℕ) → position (is_number o) rows ≡ None → is_some (queue_at rows o) ≡ true → ⊥
-no_place rows o e k = no_row queue_in rows o e k
-
-pub at_place : (rows : List ObjectRow) (o i : ℕ) (row : ObjectRow) → position (is_number o) rows ≡ Some i → row ≡ get_or rows i row → queue_at rows o ≡ queue_in row.body
-at_place rows o i row e is = at_row queue_in rows o i row e is
+-- the sessions, once one of them was written
+pub parked_items : (v : Vec Session) (ws : List Session) (object : Option ℕ) (s : ℕ) → ws ≡ changed (with_parked object) v.items s → (with_items v ws).items ≡ changed (with_parked object) v.items s
+parked_items v ws object s e = with_items_is v ws (ap length e ∙ count_changed (with_parked object) v.items s ∙ sym v.ok.0) ∙ e
 
 -- the tables after a send and after a receive, part by part
 pub after_send_is : (t : Kept) (o : ℕ) (ticket : Ticket) (sid : Sid) (ss : List Session) (rows : List ObjectRow) (out : SendOutcome) → Some out ≡ option_map send_outcome (queue_at t.objects o) → ss ≡ parked_by_send o sid (Some out) t.sessions → rows ≡ changed_first (is_number o) (with_queue (sent ticket sid)) t.objects → record t { sessions = ss; objects = rows } ≡ after_send t o ticket sid
@@ -90,8 +89,8 @@ after_wait_is t o sid ss rows out e one two = rw (one, two) (ap (λ w. record t 
 pub parked_row : (xs : List Session) (s : ℕ) (row : Session) (o : ℕ) → s < length xs → row ≡ get_or xs s row → row.parked_on ≡ Some o → parked_on_at xs s ≡ Some o
 parked_row xs s row o lt e k = ap (option_and_then (λ (r : Session). r.parked_on)) (stands_there xs s row lt e) ∙ k
 
-pub after_withdrawal_is : (t : Kept) (sid : Sid) (o : ℕ) (cs : List ObjectRow) → parked_on_at t.sessions sid.0 ≡ Some o → cs ≡ changed_first (is_number o) (with_withdrawal sid) t.objects → record t { sessions = changed (with_parked None) t.sessions sid.0; objects = cs } ≡ after_withdrawal t sid
-after_withdrawal_is t sid o cs e one = rw (e, one) refl
+pub after_withdrawal_is : (t : Kept) (sid : Sid) (o : ℕ) (ss : List Session) (cs : List ObjectRow) → parked_on_at t.sessions sid.0 ≡ Some o → ss ≡ changed (with_parked None) t.sessions sid.0 → cs ≡ changed_first (is_number o) (with_withdrawal sid) t.objects → record t { sessions = ss; objects = cs } ≡ after_withdrawal t sid
+after_withdrawal_is t sid o ss cs parked one two = rw (parked, one, two) refl
 
 pub withdrawal_count : (t : Kept) (sid : Sid) → length (after_withdrawal t sid).sessions ≡ length t.sessions
 withdrawal_count t sid = at (parked_on_at t.sessions sid.0) refl where

@@ -1,23 +1,20 @@
 -- Each user's charge covers what the user's objects take, also once an object has given back what it took.
-use Rattle.std.proofs.Common.{map, find, is_some, ◌≡◌, ℕ, suc, ◌<◌, length, get_or, drop, subst, add-one, ◌+◌, ◌-◌, ◌≤◌, Bool, true, false, not, eqb, cond, filter, List, [], ◌∷◌, Option, Some, None, refl, sym, ap, ◌∙◌, arith}
+use Rattle.std.proofs.Common.{map, find, is_some, ◌≡◌, ℕ, ◌+◌, ◌-◌, ◌≤◌, Bool, true, false, not, eqb, cond, filter, List, [], ◌∷◌, Option, Some, None, refl, sym, ap, ◌∙◌, arith}
 use Rattle.std.specs.Option.{option_map, option_map_or}
 use Rattle.std.proofs.lemmas.Bool.{eqb-true, eq-eqb}
 use Rattle.std.proofs.lemmas.List.Sums.{sum_by-cons}
-use Rattle.std.proofs.Math.Seq.{drop-cons}
 use Rattle.ipc_terms.specs.Lists.{changed_first}
+use Rattle.ipc_terms.specs.declared.ids.Desc.{Desc}
 use Rattle.ipc_terms.specs.declared.ids.Sid.{Sid}
-use Rattle.ipc_terms.specs.declared.ids.Family.{Family}
-use Rattle.ipc_terms.specs.declared.ids.Family.TheVariants.{Mq, Sem}
+use Rattle.ipc_queue.specs.Tickets.{without_registration}
 use Rattle.ipc_descr.specs.declared.charges.Charge.{Charge}
 use Rattle.ipc_descr.specs.Charges.{is_user, charge_of, used_of, with_less, lowered}
-use Rattle.ipc_tables.specs.declared.rows.ObjectRow.{ObjectRow}
-use Rattle.ipc_terms.specs.declared.ids.Desc.{Desc}
-use Rattle.ipc_queue.specs.Tickets.{without_registration}
 use Rattle.ipc_descr.specs.declared.row.Row.{Row}
 use Rattle.ipc_descr.specs.Descriptions.{is_desc}
+use Rattle.ipc_tables.specs.declared.rows.ObjectRow.{ObjectRow}
 use Rattle.ipc_tables.specs.Objects.{is_number, registered_in, with_queue, held_by, with_held, with_withdrawal}
 use Rattle.ipc_tables.specs.Kept.{Kept, parked_on_at}
-use Rattle.ipc_tables.specs.Steps.{after_withdrawal, without_binding}
+use Rattle.ipc_tables.specs.Steps.{after_withdrawal}
 use Rattle.ipc_tables.specs.Charging.{taken_by, taken, Covered, settled}
 
 differ : true ≡ false → ⊥
@@ -38,16 +35,6 @@ charge_changed f same (x ∷ xs) v u = at (eqb x.uid.0 v) refl (eqb x.uid.0 u) r
   at true p true q false r rest = absurd (differ (sym (eq-eqb v u (sym (eqb-true _ _ p) ∙ eqb-true _ _ q)) ∙ r))
   at true p false q true r rest = absurd (differ (sym (eq-eqb x.uid.0 u (eqb-true _ _ p ∙ eqb-true _ _ r)) ∙ q))
   at false p true q true r rest = absurd (differ (sym (eq-eqb x.uid.0 v (eqb-true _ _ q ∙ sym (eqb-true _ _ r))) ∙ p))
-
-used_less : (charges : List Charge) (v bytes u : ℕ) → used_of (with_less charges v bytes) u ≡ cond (eqb v u) (used_of charges u - bytes) (used_of charges u)
-used_less charges v bytes u = ap used_in (charge_changed (lowered bytes) (λ x. refl) charges v u) ∙ at (eqb v u) (charge_of charges u) where
-  used_in : Option Charge → ℕ
-  used_in w = option_map_or (λ (y : Charge). y.used) w 0
-
-  at : (b : Bool) (w : Option Charge) → used_in (cond b (option_map (lowered bytes) w) w) ≡ cond b (used_in w - bytes) (used_in w)
-  at true None = omega arith
-  at true (Some x) = refl
-  at false w = refl
 
 -- each user's charge once the objects that are not kept have given back what they took
 lowered_more : (b : Bool) (w : Option Charge) (bytes rest : ℕ) → option_map (lowered rest) (cond b (option_map (lowered bytes) w) w) ≡ option_map (lowered (cond b bytes 0 + rest)) w
@@ -85,28 +72,6 @@ taken_parted keep u (row ∷ rows) = at (keep row) (taken_parted keep u rows) wh
       let dead = sum_by-cons (taken_by u) row (filter (λ row. not (keep row)) rows) in
       omega arith
 
--- an object's creator is charged with what the object takes
-first_covered : (charges : List Charge) (row : ObjectRow) (rows : List ObjectRow) → Covered charges (row ∷ rows) → row.bytes ≤ used_of charges row.object.creator.0
-first_covered charges row rows covered =
-    let all = covered row.object.creator.0 in
-    let more = sum_by-cons (taken_by row.object.creator.0) row rows in
-    let own : taken_by row.object.creator.0 row ≡ row.bytes = ap (λ b. cond b row.bytes 0) (eq-eqb row.object.creator.0 row.object.creator.0 refl) in
-    omega arith
-
--- the others stay covered, whether it is kept or gives back
-rest_covered : (charges : List Charge) (row : ObjectRow) (rows : List ObjectRow) → Covered charges (row ∷ rows) → Covered charges rows
-rest_covered charges row rows covered u =
-    let all = covered u in
-    let more = sum_by-cons (taken_by u) row rows in
-    omega arith
-
-left_over : (b : Bool) (all used used' bytes rest : ℕ) → all ≡ cond b bytes 0 + rest → all ≤ used → used' ≡ cond b (used - bytes) used → rest ≤ used'
-left_over true all used used' bytes rest more covered less = omega arith
-left_over false all used used' bytes rest more covered less = omega arith
-
-given_back : (charges : List Charge) (row : ObjectRow) (rows : List ObjectRow) → Covered charges (row ∷ rows) → Covered (with_less charges row.object.creator.0 row.bytes) rows
-given_back charges row rows covered u = left_over (eqb row.object.creator.0 u) _ _ _ row.bytes _ (sum_by-cons (taken_by u) row rows) (covered u) (used_less charges row.object.creator.0 row.bytes u)
-
 -- what is taken is as before where a row keeps its object and its bytes
 pub taken_changed : (p : ObjectRow → Bool) (f : ObjectRow → ObjectRow) (u : ℕ) → ((row : ObjectRow) → taken_by u (f row) ≡ taken_by u row) → (rows : List ObjectRow) → taken u (changed_first p f rows) ≡ taken u rows
 taken_changed p f u same [] = refl
@@ -121,34 +86,6 @@ withdrawal_covered t sid covered = at (parked_on_at t.sessions sid.0) refl where
   at : (w : Option ℕ) → parked_on_at t.sessions sid.0 ≡ w → Covered (after_withdrawal t sid).charges (after_withdrawal t sid).objects
   at None e = rw e covered
   at (Some o) e = rw e (λ u. let same = taken_changed (is_number o) (with_withdrawal sid) u (λ row. refl) t.objects in let all = covered u in omega arith)
-
--- and neither does a name that is gone
-pub unbound_covered : (family : Family) (name : List ℕ) (t : Kept) → Covered t.charges t.objects → Covered (without_binding family name t).charges (without_binding family name t).objects
-unbound_covered Mq name t covered = covered
-unbound_covered Sem name t covered = covered
-
--- what has been given back before the object at a place, and that the rest is covered
-pub record HaveSettled (keep : ObjectRow → Bool) (objects : List ObjectRow) (first : List Charge) (i : ℕ) (charges : List Charge) : Type 0 where
-  pub covered : Covered charges (drop i objects)
-  pub settles : settled keep (drop i objects) charges ≡ settled keep objects first
-
-dropped : (objects : List ObjectRow) (i : ℕ) (row : ObjectRow) → i < length objects → row ≡ get_or objects i row → drop i objects ≡ row ∷ drop (i + 1) objects
-dropped objects i row within here = drop-cons objects i row within ∙ ap (λ r. r ∷ drop (suc i) objects) (sym here) ∙ ap (λ n. row ∷ drop n objects) (sym (add-one i))
-
-next_covered : (b : Bool) (charges : List Charge) (row : ObjectRow) (rows : List ObjectRow) → Covered charges (row ∷ rows) → Covered (cond b charges (with_less charges row.object.creator.0 row.bytes)) rows
-next_covered true charges row rows covered = rest_covered charges row rows covered
-next_covered false charges row rows covered = given_back charges row rows covered
-
-pub settled_more : (keep : ObjectRow → Bool) (objects : List ObjectRow) (first : List Charge) (i : ℕ) (charges : List Charge) (row : ObjectRow) → HaveSettled keep objects first i charges → i < length objects → row ≡ get_or objects i row → HaveSettled keep objects first (i + 1) (cond (keep row) charges (with_less charges row.object.creator.0 row.bytes))
-settled_more keep objects first i charges row have within here =
-    let next = dropped objects i row within here in
-    record {
-      covered = next_covered (keep row) charges row (drop (i + 1) objects) (subst (Covered charges) next have.covered);
-      settles = sym (ap (λ rows. settled keep rows charges) next) ∙ have.settles;
-    }
-
-pub settled_covers : (keep : ObjectRow → Bool) (objects : List ObjectRow) (first : List Charge) (i : ℕ) (charges : List Charge) (row : ObjectRow) → HaveSettled keep objects first i charges → i < length objects → row ≡ get_or objects i row → row.bytes ≤ used_of charges row.object.creator.0
-settled_covers keep objects first i charges row have within here = first_covered charges row (drop (i + 1) objects) (subst (Covered charges) (dropped objects i row within here) have.covered)
 
 -- a registration that is gone takes and gives nothing
 same_taken : (rows : List Row) (u : ℕ) (row : ObjectRow) → taken_by u (with_held rows row) ≡ taken_by u row
@@ -168,3 +105,16 @@ taken_held rows u (row ∷ objects) =
     ∙ ap (λ n. n + taken u (map (with_held rows) objects)) (same_taken rows u row)
     ∙ ap (λ n. taken_by u row + n) (taken_held rows u objects)
     ∙ sym (sum_by-cons (taken_by u) row objects)
+
+-- what is left is covered once the others have given back
+used_lowered : (n : ℕ) (w : Option Charge) → option_map_or (λ (y : Charge). y.used) (option_map (lowered n) w) 0 ≡ option_map_or (λ (y : Charge). y.used) w 0 - n
+used_lowered n None = omega arith
+used_lowered n (Some x) = refl
+
+pub settled_covered : (keep : ObjectRow → Bool) (rows : List Row) (objects : List ObjectRow) (charges : List Charge) → Covered charges objects → Covered (settled keep objects charges) (map (with_held rows) (filter keep objects))
+settled_covered keep rows objects charges covered u =
+    let all : taken u objects ≤ used_of charges u = covered u in
+    let parts : taken u objects ≡ taken u (filter keep objects) + taken u (filter (λ row. not (keep row)) objects) = taken_parted keep u objects in
+    let left : taken u (map (with_held rows) (filter keep objects)) ≡ taken u (filter keep objects) = taken_held rows u (filter keep objects) in
+    let used : used_of (settled keep objects charges) u ≡ used_of charges u - taken u (filter (λ row. not (keep row)) objects) = ap (λ w. option_map_or (λ (y : Charge). y.used) w 0) (settled_charge keep objects charges u) ∙ used_lowered (taken u (filter (λ row. not (keep row)) objects)) (charge_of charges u) in
+    omega arith

@@ -1,3 +1,11 @@
 pub mod CallTables
 pub mod CoveredCharges
 pub mod HeldRegistrations
+pub mod Numbering
+pub mod Touching
+pub mod Settling
+pub mod Narrowing
+pub mod StandingLemmas
+pub mod HangingUp
+pub mod RowChanges
+pub mod Releasing

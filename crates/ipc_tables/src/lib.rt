@@ -2,8 +2,7 @@
 //! what stands in them, and descriptions. It knows no user file and no rule.
 #![tactic(auto)]
 
-mod charging;
-mod living;
+mod objects;
 mod rows;
 mod tables;
 

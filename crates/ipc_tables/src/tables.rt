@@ -1,28 +1,28 @@
 //! The tables.
 
-ghost use Rattle.std.specs.Prelude.{count_by, ◌≡◌, ◌+◌, ◌^◌, ◌<◌, [], true, false, length, slice_get, position, is_some, IsSome, Some, None, IfOk, OnOk, OnErr};
+ghost use Rattle.std.specs.Prelude.{count_by, ◌≡◌, ◌+◌, ◌^◌, ◌<◌, [], true, false, find, length, slice_get, is_some, IsSome, Some, None, IfOk, OnOk, OnErr};
 ghost use Rattle.std.specs.Option.{option_copied, option_map};
 ghost use Rattle.ipc_terms.specs.Lists.{changed};
 ghost use Rattle.ipc_terms.specs.Objects.{family_of};
 ghost use Rattle.ipc_terms.specs.declared.ids.Family.TheVariants.{Mq, Sem as SemFamily};
 ghost use Rattle.ipc_names.specs.Directory.{first_directory, object_named};
-ghost use Rattle.ipc_descr.specs.Descriptions.{row_of, is_open};
+ghost use Rattle.ipc_descr.specs.Descriptions.{is_desc, row_of};
 ghost use Rattle.ipc_tables.specs.Charging.{Covered, Affords};
-ghost use Rattle.ipc_tables.specs.Objects.{HasRoom, is_number, is_queue, row_at, queue_at, semaphore_at};
+ghost use Rattle.ipc_tables.specs.Objects.{HasRoom, is_queue, row_at, queue_at, semaphore_at};
 ghost use Rattle.ipc_sem.specs.Counters.{overflows};
-ghost use Rattle.ipc_tables.specs.Kept.{directory_kept, is_alive};
-ghost use Rattle.ipc_tables.specs.Steps.{hung_up, with_parked, with_object, living, with_binding, without_binding, ReceiverStands, SenderStands, WaiterStands, after_post, after_wait, after_try, after_hello, after_umask, after_found, after_created, after_close, after_unlink, after_hangup, after_send, after_receive, after_withdrawal, ended, after_setattr, after_facts, after_directory, after_limit, after_register, after_unregister, with_living, first_tables};
+ghost use Rattle.ipc_tables.specs.Kept.{Kept, directory_kept};
+ghost use Rattle.ipc_tables.specs.Steps.{with_parked, with_object, with_binding, without_binding, ReceiverStands, SenderStands, WaiterStands, after_post, after_wait, after_try, after_hello, after_umask, after_found, after_created, after_close, after_unlink, after_hangup, after_send, after_receive, after_withdrawal, after_setattr, after_facts, after_directory, after_limit, after_register, after_unregister, first_tables};
 
-use crate::charging::{charge, settle};
-use crate::living::{keep_living, keeps};
+use crate::objects::{Objects, bytes_taken};
 use crate::rows::{Body, ObjectRow, Session};
 use ipc_access::Users;
 use ipc_descr::{Charges, Descrs};
 use ipc_names::NameDir;
 use ipc_queue::{Queue, ReceiveOutcome, SendOutcome};
 use ipc_sem::{Sem, WaitOutcome};
-use ipc_terms::{Access, Desc, Facts, Family, Mode, Name, NoMemory, Object, Sid, Uid, push_within};
+use ipc_terms::{Access, Desc, Facts, Family, Kind, Mode, Name, NoMemory, Object, Sid, Uid};
 use std::alloc::Global;
+use std::collections::BTreeMap;
 use std::marker::Model;
 
 /// Who opens a description, and what it gives besides the object.
@@ -41,18 +41,19 @@ pub struct Tables {
     sessions: Vec<Session>,
     queues: NameDir,
     semaphores: NameDir,
-    objects: Vec<ObjectRow>,
-    created: u64,
+    objects: Objects,
     descriptions: Descrs,
-    charges: Charges,
 }
 
 impl Model for Tables {
     ghost use Rattle.ipc_tables.specs.Kept.{Kept};
+    ghost use Rattle.ipc_tables.specs.Standing.{rows_in, IsStanding};
 
     ghost Value = { Kept };
 
-    ghost view = { λ a. record { sessions = a.sessions.items; queues = a.queues; semaphores = a.semaphores; objects = a.objects.items; created = a.created; descriptions = a.descriptions; charges = a.charges } };
+    ghost view = { λ a. record { sessions = a.sessions.items; queues = a.queues; semaphores = a.semaphores; objects = rows_in a.objects; created = a.objects.created; descriptions = a.descriptions; charges = a.objects.charges } };
+
+    ghost invariant = { λ a. IsStanding a.queues a.semaphores a.descriptions.rows a.objects };
 }
 
 /// The mask of a session that has set none: octal 022.
@@ -68,10 +69,14 @@ impl Tables {
             sessions: Vec::new(alloc),
             queues: NameDir::new(alloc, Family::Mq),
             semaphores: NameDir::new(alloc, Family::Sem),
-            objects: Vec::new(alloc),
-            created: 0,
+            objects: Objects {
+                rows: BTreeMap::new(alloc),
+                created: 0,
+                queue_count: 0,
+                astray: false,
+                charges,
+            },
             descriptions: Descrs::new(alloc),
-            charges,
         })
     }
 
@@ -103,7 +108,7 @@ impl Tables {
     pub fn object(&self, number: u64) -> Option<&ObjectRow>
         ensures { option_copied result ≡ row_at self.now.objects number }
     {
-        find_object(&self.objects, number)
+        self.objects.rows.get(&number)
     }
 
     /// The queue that the object is, while it is alive.
@@ -131,14 +136,14 @@ impl Tables {
     pub fn charges(&self) -> &Charges
         ensures { result.now ≡ self.now.charges }
     {
-        &self.charges
+        &self.objects.charges
     }
 
     /// How many queues are alive.
     pub fn queue_count(&self) -> usize
         ensures { result ≡ count_by is_queue self.now.objects }
     {
-        count_queues(&self.objects)
+        self.objects.queue_count
     }
 
     /// Starts a session of the user. An `Err` changes nothing.
@@ -194,10 +199,10 @@ impl Tables {
         ensures err { OnErr result (self.new ≡ self.old) }
     {
         let family = object.kind.family();
-        let number = self.created;
+        let number = self.objects.created;
         self.bind(family, name.try_clone()?, number)?;
         if self.add(alloc, grant, object, facts).is_err() {
-            self.unbind(family, name);
+            unbind(&mut self.queues, &mut self.semaphores, family, name);
             return Err(NoMemory);
         }
         Ok(())
@@ -218,19 +223,29 @@ impl Tables {
         ensures ok { OnOk result (self.new ≡ with_object self.old grant object facts) }
         ensures err { OnErr result (self.new ≡ self.old) }
     {
-        let number = self.created;
-        self.objects.reserve(1)?;
-        self.descriptions
-            .open(grant.session, number, grant.access, grant.nonblock)?;
+        let number = self.objects.created;
+        let bytes = bytes_taken(object.kind);
         let row = ObjectRow {
             number,
             object,
             facts,
-            bytes: charge(&mut self.charges, object),
+            bytes,
             body: Body::new(alloc, object.kind),
         };
-        push_within(&mut self.objects, row);
-        self.created += 1;
+        self.objects.rows.insert(number, row)?;
+        let opened = self
+            .descriptions
+            .open(grant.session, number, grant.access, grant.nonblock);
+        if opened.is_err() {
+            self.objects.rows.remove(&number);
+            return Err(NoMemory);
+        }
+        let objects = &mut self.objects;
+        if let Kind::Queue(_) = object.kind {
+            objects.queue_count += 1;
+            objects.charges.add(object.creator, bytes);
+        }
+        objects.created += 1;
         Ok(())
     }
 
@@ -245,20 +260,6 @@ impl Tables {
             Family::Sem => self.semaphores.bind(name, object)?,
         }
         Ok(())
-    }
-
-    /// Leaves the name of the family unbound.
-    fn unbind(&mut self, family: Family, name: &Name)
-        ensures { self.new ≡ without_binding family name.now self.old }
-    {
-        match family {
-            Family::Mq => {
-                self.queues.unbind(name);
-            }
-            Family::Sem => {
-                self.semaphores.unbind(name);
-            }
-        }
     }
 
     /// The session's message of this priority, whose send stands at the place `ticket`, is handed
@@ -277,14 +278,14 @@ impl Tables {
         ensures ok { OnOk result (self.new ≡ after_send self.old object (record { place = ticket; priority = priority }) sid) }
         ensures err { OnErr result (self.new ≡ self.old) }
     {
-        let Some(index) = find_index(&self.objects, object) else {
+        let Some(row) = self.objects.rows.get_mut(&object) else {
             unreachable!();
         };
-        match self.objects[index].body.send(ticket, priority, sid)? {
+        match row.body.send(ticket, priority, sid)? {
             SendOutcome::Queued => {}
             SendOutcome::QueuedAndNotice(_) => {}
-            SendOutcome::HandedTo(receiver) => self.set_parked(receiver, None),
-            SendOutcome::Parked => self.set_parked(sid, Some(object)),
+            SendOutcome::HandedTo(receiver) => set_parked(&mut self.sessions, receiver, None),
+            SendOutcome::Parked => set_parked(&mut self.sessions, sid, Some(object)),
         }
         Ok(())
     }
@@ -298,13 +299,15 @@ impl Tables {
         ensures ok { OnOk result (self.new ≡ after_receive self.old object sid) }
         ensures err { OnErr result (self.new ≡ self.old) }
     {
-        let Some(index) = find_index(&self.objects, object) else {
+        let Some(row) = self.objects.rows.get_mut(&object) else {
             unreachable!();
         };
-        match self.objects[index].body.receive(sid)? {
+        match row.body.receive(sid)? {
             ReceiveOutcome::Took(_) => {}
-            ReceiveOutcome::TookAndAdmitted(_, sender) => self.set_parked(sender, None),
-            ReceiveOutcome::Parked => self.set_parked(sid, Some(object)),
+            ReceiveOutcome::TookAndAdmitted(_, sender) => {
+                set_parked(&mut self.sessions, sender, None);
+            }
+            ReceiveOutcome::Parked => set_parked(&mut self.sessions, sid, Some(object)),
         }
         Ok(())
     }
@@ -315,11 +318,11 @@ impl Tables {
         requires waiter { WaiterStands self.old object }
         ensures { self.new ≡ after_post self.old object }
     {
-        let Some(index) = find_index(&self.objects, object) else {
+        let Some(row) = self.objects.rows.get_mut(&object) else {
             unreachable!();
         };
-        if let Some(waiter) = self.objects[index].body.post() {
-            self.set_parked(waiter, None);
+        if let Some(waiter) = row.body.post() {
+            set_parked(&mut self.sessions, waiter, None);
         }
     }
 
@@ -330,12 +333,12 @@ impl Tables {
         ensures ok { OnOk result (self.new ≡ after_wait self.old object sid) }
         ensures err { OnErr result (self.new ≡ self.old) }
     {
-        let Some(index) = find_index(&self.objects, object) else {
+        let Some(row) = self.objects.rows.get_mut(&object) else {
             unreachable!();
         };
-        match self.objects[index].body.wait(sid)? {
+        match row.body.wait(sid)? {
             WaitOutcome::Passed => {}
-            WaitOutcome::Parked => self.set_parked(sid, Some(object)),
+            WaitOutcome::Parked => set_parked(&mut self.sessions, sid, Some(object)),
         }
         Ok(())
     }
@@ -344,8 +347,8 @@ impl Tables {
     pub fn try_wait(&mut self, object: u64)
         ensures { self.new ≡ after_try self.old object }
     {
-        if let Some(index) = find_index(&self.objects, object) {
-            self.objects[index].body.try_wait();
+        if let Some(row) = self.objects.rows.get_mut(&object) {
+            row.body.try_wait();
         }
     }
 
@@ -357,27 +360,19 @@ impl Tables {
         let Some(object) = self.sessions[sid.0 as usize].parked_on else {
             return;
         };
-        if let Some(index) = find_index(&self.objects, object) {
-            self.objects[index].body.withdraw(sid);
+        if let Some(row) = self.objects.rows.get_mut(&object) {
+            row.body.withdraw(sid);
         }
-        self.set_parked(sid, None);
-    }
-
-    /// The session's call is parked on this object, or on none.
-    fn set_parked(&mut self, sid: Sid, object: Option<u64>)
-        requires { sid.0 < length self.old.sessions }
-        ensures { self.new ≡ record self.old { sessions = changed (with_parked object) self.old.sessions sid.0 } }
-    {
-        let session = &mut self.sessions[sid.0 as usize];
-        session.parked_on = object;
+        set_parked(&mut self.sessions, sid, None);
     }
 
     /// Registers the description for the notice of the queue, where none is registered.
     pub fn register(&mut self, object: u64, desc: Desc)
         ensures { self.new ≡ after_register self.old object desc }
     {
-        if let Some(index) = find_index(&self.objects, object) {
-            self.objects[index].body.register(desc);
+        self.objects.astray |= !gives(&self.descriptions, desc, object);
+        if let Some(row) = self.objects.rows.get_mut(&object) {
+            row.body.register(desc);
         }
     }
 
@@ -385,8 +380,8 @@ impl Tables {
     pub fn unregister(&mut self, object: u64, desc: Desc)
         ensures { self.new ≡ after_unregister self.old object desc }
     {
-        if let Some(index) = find_index(&self.objects, object) {
-            self.objects[index].body.unregister(desc);
+        if let Some(row) = self.objects.rows.get_mut(&object) {
+            row.body.unregister(desc);
         }
     }
 
@@ -394,8 +389,7 @@ impl Tables {
     pub fn set_facts(&mut self, object: u64, facts: Facts)
         ensures { self.new ≡ after_facts self.old object facts }
     {
-        if let Some(index) = find_index(&self.objects, object) {
-            let row = &mut self.objects[index];
+        if let Some(row) = self.objects.rows.get_mut(&object) {
             row.facts = facts;
         }
     }
@@ -422,7 +416,7 @@ impl Tables {
     pub fn set_limit(&mut self, uid: Uid, bytes: u64)
         ensures { self.new ≡ after_limit self.old uid.0 bytes }
     {
-        self.charges.set_limit(uid, bytes);
+        self.objects.charges.set_limit(uid, bytes);
     }
 
     /// Closes the description, if the session holds it. An object that nothing keeps is gone, and its
@@ -431,8 +425,12 @@ impl Tables {
         requires { Covered self.old.charges self.old.objects }
         ensures { self.new ≡ after_close self.old sid.0 desc.0 }
     {
-        self.descriptions.close(sid, desc);
-        self.remove_dead();
+        // Asked, so that it is known that no two descriptions have one number.
+        let _opened = self.descriptions.opened();
+        let object = self.descriptions.close(sid, desc);
+        self.objects
+            .remove_dead(&self.queues, &self.semaphores, &self.descriptions, object);
+        self.objects.release(&self.descriptions, object);
     }
 
     /// Leaves the name of the family unbound. An object that nothing keeps is gone, and its creator is
@@ -441,8 +439,10 @@ impl Tables {
         requires { Covered self.old.charges self.old.objects }
         ensures { self.new ≡ after_unlink self.old family name.now }
     {
-        self.unbind(family, name);
-        self.remove_dead();
+        let object = unbind(&mut self.queues, &mut self.semaphores, family, name);
+        self.objects
+            .remove_dead(&self.queues, &self.semaphores, &self.descriptions, object);
+        self.objects.release(&self.descriptions, None);
     }
 
     /// Ends the session: withdraws its parked call, and closes what it holds. An object that nothing
@@ -453,48 +453,50 @@ impl Tables {
         ensures { self.new ≡ after_hangup self.old sid }
     {
         self.withdraw(sid);
-        self.end(sid);
-    }
-
-    /// The session is live no more, and what it holds is closed. An object that nothing keeps is gone.
-    fn end(&mut self, sid: Sid)
-        requires session { sid.0 < length self.old.sessions }
-        requires covered { Covered self.old.charges self.old.objects }
-        ensures { self.new ≡ ended self.old sid.0 }
-    {
-        self.mark_ended(sid);
-        self.descriptions.close_all(sid);
-        self.remove_dead();
-    }
-
-    /// Removes the objects that nothing keeps, with what stands in them, and gives their creators back
-    /// what they took.
-    fn remove_dead(&mut self)
-        requires { Covered self.old.charges self.old.objects }
-        ensures { self.new ≡ with_living self.old }
-    {
-        settle(
-            &mut self.charges,
-            &self.objects,
-            &self.queues,
-            &self.semaphores,
-            &self.descriptions,
-        );
-        keep_living(
-            &mut self.objects,
-            &self.queues,
-            &self.semaphores,
-            &self.descriptions,
-        );
-    }
-
-    /// The session is live no more.
-    fn mark_ended(&mut self, sid: Sid)
-        requires { sid.0 < length self.old.sessions }
-        ensures { self.new ≡ record self.old { sessions = changed hung_up self.old.sessions sid.0 } }
-    {
         let session = &mut self.sessions[sid.0 as usize];
         session.is_live = false;
+        self.objects.release(&self.descriptions, None);
+        while let Some(desc) = self.descriptions.first(sid) {
+            self.close(sid, desc);
+        }
+    }
+}
+
+/// The session's call is parked on this object, or on none.
+fn set_parked(sessions: &mut [Session], sid: Sid, object: Option<u64>)
+    requires { sid.0 < length sessions.old }
+    ensures { sessions.new ≡ changed (with_parked object) sessions.old sid.0 }
+{
+    let session = &mut sessions[sid.0 as usize];
+    session.parked_on = object;
+}
+
+/// Whether this description is held, and gives this object.
+fn gives(descriptions: &Descrs, desc: Desc, object: u64) -> bool
+    ensures { result ≡ true → option_map (λ row. row.object) (find (is_desc desc.0) descriptions.now.rows) ≡ Some object }
+{
+    let Some(sid) = descriptions.holder(desc) else {
+        return false;
+    };
+    match descriptions.get(sid, desc) {
+        Some(row) => row.object == object,
+        None => false,
+    }
+}
+
+/// Leaves the name of the family unbound, and says to which object it was bound.
+fn unbind(
+    queues: &mut NameDir,
+    semaphores: &mut NameDir,
+    family: Family,
+    name: &Name,
+) -> Option<u64>
+    ensures object { (t : Kept) → result ≡ object_named (directory_kept family (record t { queues = queues.old; semaphores = semaphores.old })).bindings name.now }
+    ensures rest { (t : Kept) → record t { queues = queues.new; semaphores = semaphores.new } ≡ without_binding family name.now (record t { queues = queues.old; semaphores = semaphores.old }) }
+{
+    match family {
+        Family::Mq => queues.unbind(name),
+        Family::Sem => semaphores.unbind(name),
     }
 }
 
@@ -504,25 +506,4 @@ fn give_facts(directory: &mut NameDir, facts: Facts)
 {
     directory.set_mode(facts.mode);
     directory.set_owner(facts.owner, facts.group);
-}
-
-fn find_object(objects: &[ObjectRow], number: u64) -> Option<&ObjectRow>
-    ensures { option_copied result ≡ row_at objects.now number }
-{
-    objects.iter().find(|row| row.number == number)
-}
-
-fn find_index(objects: &[ObjectRow], number: u64) -> Option<usize>
-    ensures { result ≡ position (is_number number) objects.now }
-{
-    objects.iter().position(|row| row.number == number)
-}
-
-fn count_queues(objects: &[ObjectRow]) -> usize
-    ensures { result ≡ count_by is_queue objects.now }
-{
-    objects
-        .iter()
-        .filter(|row| matches!(row.body, Body::Queue(_)))
-        .count()
 }

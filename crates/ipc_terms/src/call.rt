@@ -14,7 +14,7 @@ use crate::rule::Rule;
 use std::alloc::AllocError;
 
 /// What the caller of an open wants to do with the object (`mq_open`: `O_RDONLY`, `O_WRONLY`, `O_RDWR`).
-#[derive(Clone, Copy, PartialEq, Eq, Debug)]
+#[derive(Clone, Copy, PartialEq, Eq)]
 pub enum Access {
     Read,
     Write,
@@ -22,7 +22,7 @@ pub enum Access {
 }
 
 /// The attributes of a queue (`mq_attr`): at most `maxmsg` messages of at most `msgsize` bytes each.
-#[derive(Clone, Copy, PartialEq, Eq, Debug)]
+#[derive(Clone, Copy, PartialEq, Eq)]
 pub struct Attributes {
     pub maxmsg: u32,
     pub msgsize: u32,
@@ -197,7 +197,7 @@ impl Call {
 }
 
 /// What is answered.
-#[derive(PartialEq, Debug, Drop)]
+#[derive(PartialEq, Drop)]
 pub enum Answer {
     /// To a hello: the new session.
     Started(Sid),

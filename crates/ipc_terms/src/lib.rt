@@ -14,7 +14,6 @@ mod object;
 mod page;
 mod push;
 mod record;
-mod removal;
 mod rule;
 
 pub use binding::Binding;
@@ -30,5 +29,4 @@ pub use object::{Asked, Kind, Object, SEM_VALUE_MAX};
 pub use page::page_of;
 pub use push::push_within;
 pub use record::{Event, Record};
-pub use removal::{remove_first, remove_session};
 pub use rule::{EVERY_RULE, Rule};

@@ -13,7 +13,7 @@ use std::alloc::{AllocError, Global};
 use std::marker::Model;
 
 /// What the audit shows of a record.
-#[derive(Debug, Drop)]
+#[derive(Drop)]
 pub struct Line {
     /// How many records came before it.
     pub place: u64,
@@ -56,7 +56,7 @@ impl PartialEq for Line {
 }
 
 /// Lines of the audit, in order of their places.
-#[derive(Debug, Drop)]
+#[derive(Drop)]
 pub struct Lines {
     lines: Vec<Line>,
 }

@@ -12,7 +12,7 @@ use std::marker::Model;
 
 /// The name of an object as a caller gave it, whether or not it has the form of one; seen as the
 /// list of its bytes.
-#[derive(Debug, Drop)]
+#[derive(Drop)]
 pub struct Name {
     bytes: Bytes,
 }
@@ -79,7 +79,7 @@ impl PartialEq for Name {
 }
 
 /// A list of names.
-#[derive(Debug, Drop)]
+#[derive(Drop)]
 pub struct Names {
     names: Vec<Name>,
 }

@@ -10,14 +10,14 @@ use crate::ids::{Family, Uid};
 pub const SEM_VALUE_MAX: u32 = 2_147_483_647;
 
 /// What an object keeps from its creation on.
-#[derive(Clone, Copy, PartialEq, Eq, Debug)]
+#[derive(Clone, Copy, PartialEq, Eq)]
 pub struct Object {
     pub creator: Uid,
     pub kind: Kind,
 }
 
 /// What an object is, with what its family alone has.
-#[derive(Clone, Copy, PartialEq, Eq, Debug)]
+#[derive(Clone, Copy, PartialEq, Eq)]
 pub enum Kind {
     /// A queue with these attributes (`mq_overview(7)`).
     Queue(Attributes),

@@ -18,6 +18,8 @@ mod made;
 #[cfg(test)]
 mod names_tests;
 #[cfg(test)]
+mod plain_lists_tests;
+#[cfg(test)]
 mod queue_tests;
 #[cfg(test)]
 mod script_tests;
@@ -27,5 +29,11 @@ mod sem_tests;
 mod terms_tests;
 #[cfg(test)]
 mod trail_tests;
+#[cfg(test)]
+mod wire_bodies_tests;
+#[cfg(test)]
+mod wire_made_tests;
+#[cfg(test)]
+mod wire_tests;
 #[cfg(test)]
 mod words_tests;

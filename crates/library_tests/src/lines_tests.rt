@@ -204,18 +204,53 @@ fn answers_have_lines(rt: HostRuntime) -> Result<(), Fail> {
     Ok(())
 }
 
-/// Whether the line of a refusal by the rule ends with the name of its variant.
-fn is_named(alloc: Global, rule: Rule) -> Result<bool, Fail> {
+/// The names of the rules, in the order of their numbers.
+static NAMES: [&str; 31] = [
+    "NoSession",
+    "InCall",
+    "NotInCall",
+    "NameForm",
+    "NameLong",
+    "NotAdmin",
+    "NoUser",
+    "BadDescr",
+    "NotForWrite",
+    "NotForRead",
+    "DirSearch",
+    "DirRead",
+    "Absent",
+    "Present",
+    "ModeDenied",
+    "DirWrite",
+    "Sticky",
+    "NotOwner",
+    "ChownDenied",
+    "AttrRange",
+    "ValueRange",
+    "QueueCount",
+    "ByteLimit",
+    "DescrLimit",
+    "PrioRange",
+    "MessageLong",
+    "BufferShort",
+    "NotifyTaken",
+    "WouldBlock",
+    "Overflow",
+    "BadKey",
+];
+
+/// Whether the line of a refusal by the rule ends with the name.
+fn is_named(alloc: Global, rule: Rule, name: &str) -> Result<bool, Fail> {
     let line = line_of_answer(alloc, &Answer::Refused(rule))?;
-    let name = format!(in alloc; " {rule:?}")?;
-    Ok(line.as_str().ends_with(name.as_str()))
+    let ending = format!(in alloc; " {name}")?;
+    Ok(line.as_str().ends_with(ending.as_str()))
 }
 
 #[test]
-fn rules_have_the_names_of_their_variants(rt: HostRuntime) -> Result<(), Fail> {
-    for rule in EVERY_RULE {
-        if !is_named(rt.alloc(), rule)? {
-            return Err(Fail::new(format_args!("{rule:?} has another name")));
+fn rules_are_printed_by_their_names(rt: HostRuntime) -> Result<(), Fail> {
+    for (rule, name) in EVERY_RULE.iter().zip(NAMES.iter()) {
+        if !is_named(rt.alloc(), *rule, name)? {
+            return Err(Fail::new(format_args!("{name} is printed otherwise")));
         }
     }
     Ok(())

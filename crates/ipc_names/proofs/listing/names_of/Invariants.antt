@@ -1,6 +1,5 @@
-use Rattle.std.proofs.Common.{◌≡◌, take}
-use Rattle.ipc_names.specs.Directory.{bound_names}
+use Rattle.std.proofs.Common.{◌≡◌, take, map}
 use Rattle.ipc_names.proofs.listing.names_of.Given as goal
 
-abbrev pub invariant-loop-binding : goal.invariant-loop-binding
-invariant-loop-binding l = l.names.items ≡ bound_names (take l.binding-index l.bindings)
+abbrev pub invariant-loop-key : goal.invariant-loop-key
+invariant-loop-key l = l.names.items ≡ map (λ key. key.items) (take l.key-index l.keys)

@@ -1,24 +1,27 @@
-use Rattle.std.proofs.Common.{◌∙◌, sym, ap, List}
-use Rattle.std.specs.Prelude.{position}
+use Rattle.std.proofs.Common.{ℕ, refl, sym, ap, ◌∙◌}
+use Rattle.std.specs.BTreeMap.{BTreeMap}
+use Rattle.std.specs.Option.{option_copied_mut}
 use Rattle.ipc_sem.specs.Counters.{tried}
+use Rattle.ipc_tables.specs.Objects.{with_semaphore}
+use Rattle.ipc_tables.specs.contracts.tables.Tables.{the_view}
 use Rattle.ipc_tables.specs.declared.rows.ObjectRow.{ObjectRow}
-use Rattle.ipc_tables.specs.Objects.{is_number, with_semaphore}
-use Rattle.ipc_tables.specs.Kept.{Kept}
-use Rattle.ipc_terms.proofs.Changing.{place_changed, none_changed}
+use Rattle.ipc_tables.proofs.StandingLemmas.{tame_semaphore, changed_stands, same_stands}
+use Rattle.ipc_tables.proofs.RowChanges.{with_objects, sets_body, rows_changed, rows_unchanged}
 use Rattle.ipc_tables.proofs.tables.Tables.try_wait.Goals as goal
+use Rattle.ipc_tables.proofs.tables.Tables.try_wait.Goals.{in-Some, in_default}
 
--- the tables with other objects
-abbrev with_objects : Kept → List ObjectRow → Kept
-with_objects t xs = record t { objects = xs }
-
-pub returns-in-Some : goal.returns-in-Some
-returns-in-Some c =
+pub invariant_of-self : goal.invariant_of-self
+invariant_of-self c =
     let inside = c.self.inside in
-    let place = ap (position (is_number c.args.object)) (sym c.deref.ensures.value) ∙ sym c.find_index.ensures ∙ c.in-Some.is in
-    rw (← c.self.view_is, c.try_wait.ensures) (ap (with_objects (record { sessions = inside.sessions.items; queues = inside.queues; semaphores = inside.semaphores; objects = inside.objects.items; created = inside.created; descriptions = inside.descriptions; charges = inside.charges })) (place_changed (is_number c.args.object) (with_semaphore tried) inside.objects.items c.in-Some.index c.index_mut.result.now place c.index_mut.ensures.value))
+    elim c.match-get_mut.branch [
+      | in-Some w ↦ rw w.self-inside-is (changed_stands inside.queues inside.semaphores inside.descriptions.rows c.args.object w.in-Some.row.now (with_semaphore tried w.in-Some.row.now) inside.objects _ (tame_semaphore tried w.in-Some.row.now) (sets_body c.args.object w.in-Some.row.now w.try_wait.new.self _ inside.objects.rows.entries (c.get_mut.follows.lender (record w.in-Some.row.now { body = w.try_wait.new.self })).entries (sym c.get_mut.ensures.value ∙ ap option_copied_mut w.in-Some.is) (c.get_mut.follows.holds (record w.in-Some.row.now { body = w.try_wait.new.self })).0 w.try_wait.ensures) refl refl refl c.self.invariant)
+      | in_default w ↦ rw w.self-inside-is (same_stands inside.queues inside.semaphores inside.descriptions.rows inside.objects _ (ap (λ (m : BTreeMap ℕ ObjectRow). m.entries) c.get_mut.follows.holds-at-none) refl refl refl c.self.invariant)
+    ]
 
-pub returns-in_default : goal.returns-in_default
-returns-in_default c =
+pub returns : goal.returns
+returns c =
     let inside = c.self.inside in
-    let place = ap (position (is_number c.args.object)) (sym c.deref.ensures.value) ∙ sym c.find_index.ensures ∙ c.in_default.is in
-    rw (← c.self.view_is) (ap (with_objects (record { sessions = inside.sessions.items; queues = inside.queues; semaphores = inside.semaphores; objects = inside.objects.items; created = inside.created; descriptions = inside.descriptions; charges = inside.charges })) (sym (none_changed (is_number c.args.object) (with_semaphore tried) inside.objects.items place)))
+    rw (← c.self.view_is) (elim c.match-get_mut.branch [
+      | in-Some w ↦ rw w.self-inside-is (ap (with_objects (the_view inside)) (rows_changed c.args.object (with_semaphore tried) w.in-Some.row.now inside.objects _ c.self.invariant.counted (sets_body c.args.object w.in-Some.row.now w.try_wait.new.self _ inside.objects.rows.entries (c.get_mut.follows.lender (record w.in-Some.row.now { body = w.try_wait.new.self })).entries (sym c.get_mut.ensures.value ∙ ap option_copied_mut w.in-Some.is) (c.get_mut.follows.holds (record w.in-Some.row.now { body = w.try_wait.new.self })).0 w.try_wait.ensures)))
+      | in_default w ↦ rw w.self-inside-is (ap (with_objects (the_view inside)) (rows_unchanged c.args.object (with_semaphore tried) inside.objects _ c.self.invariant.counted (sym c.get_mut.ensures.value ∙ ap option_copied_mut w.in_default.is) (ap (λ (m : BTreeMap ℕ ObjectRow). m.entries) c.get_mut.follows.holds-at-none)))
+    ])

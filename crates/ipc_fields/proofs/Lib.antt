@@ -1,0 +1,7 @@
+pub mod FrontLemmas
+pub mod FieldLemmas
+pub mod FramingLemmas
+pub mod FormatLemmas
+pub mod Joins
+pub mod Many
+pub mod TermLemmas

@@ -1,0 +1,5 @@
+pub mod Field
+pub mod Format
+pub mod Frame
+pub mod Given
+pub mod Terms

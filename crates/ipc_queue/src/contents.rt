@@ -1,0 +1,115 @@
+//! The messages of a queue.
+
+ghost use Rattle.std.specs.Prelude.{◌≡◌, ◌<◌, ◌^◌, [], ◌∷◌, ◌++◌, length, OnOk, OnErr};
+ghost use Rattle.ipc_queue.specs.Tickets.{next_place, without_next};
+
+use crate::queue::Ticket;
+use ipc_terms::NoMemory;
+use ipc_waiters::Buckets;
+use std::alloc::Global;
+use std::marker::Model;
+use std::snapshot::Snapshot;
+
+/// What became of the messages. Proofs alone read it; nothing of it is kept at run time.
+#[derive(Drop)]
+enum Past {
+    /// None entered yet.
+    Nothing,
+    /// After all else this one entered.
+    Entered(Ticket, Snapshot<Snapshot<Past>>),
+    /// After all else the oldest one of the greatest priority left.
+    Left(Snapshot<Snapshot<Past>>),
+}
+
+/// Messages in order of entry, of which the oldest one of the greatest priority comes out first. Their places
+/// stand in buckets by priority, so each call takes as long as to find a bucket. The order of entry over all
+/// priorities is kept by nothing at run time; proofs read it from the past.
+#[derive(Drop)]
+pub struct Contents {
+    buckets: Buckets,
+    count: usize,
+    past: Snapshot<Past>,
+}
+
+impl Model for Contents {
+    ghost use Rattle.std.specs.Prelude.{◌≡◌, List, length};
+    ghost use Rattle.ipc_waiters.specs.Buckets.{Holds};
+    ghost use Rattle.ipc_queue.specs.declared.queue.Ticket.{Ticket};
+
+    ghost Value = { List Ticket };
+
+    ghost use Rattle.ipc_queue.specs.Contents.{present, places_of};
+
+    ghost view = { λ c. present c.past.value };
+
+    ghost invariant = { λ c. Holds c.buckets (λ priority. places_of priority (present c.past.value)) × (c.count ≡ length (present c.past.value)) };
+}
+
+impl Contents {
+    /// No messages. Takes no memory.
+    pub fn new(alloc: Global) -> Self
+        ensures { result ≡ [] }
+    {
+        Contents {
+            buckets: Buckets::new(alloc),
+            count: 0,
+            past: Snapshot::of(&Past::Nothing),
+        }
+    }
+
+    /// How many there are.
+    pub fn len(&self) -> usize
+        ensures { result ≡ length self.now }
+    {
+        self.count
+    }
+
+    /// The place of the one that comes out next.
+    pub fn next(&self) -> Option<u64>
+        ensures { result ≡ next_place self.now }
+    {
+        let (_, place) = self.buckets.greatest()?;
+        Some(place)
+    }
+
+    /// A message enters behind all others. An `Err` leaves all as it was.
+    pub fn push(&mut self, ticket: Ticket) -> Result<(), NoMemory>
+        requires { length self.old < 2 ^ 32 }
+        ensures ok { OnOk result (self.new ≡ self.old ++ ticket ∷ []) }
+        ensures err { OnErr result (self.new ≡ self.old) }
+    {
+        self.buckets.enter(ticket.priority as u64, ticket.place)?;
+        self.count += 1;
+        self.past = Snapshot::of(&Past::Entered(ticket, Snapshot::of(&self.past)));
+        Ok(())
+    }
+
+    /// The next one leaves. Takes no memory.
+    pub fn pop(&mut self) -> Option<u64>
+        ensures next { result ≡ next_place self.old }
+        ensures rest { self.new ≡ without_next self.old }
+    {
+        let (priority, place) = self.buckets.greatest()?;
+        self.buckets.leave(priority);
+        self.count -= 1;
+        self.past = Snapshot::of(&Past::Left(Snapshot::of(&self.past)));
+        Some(place)
+    }
+
+    /// The next one leaves, and then another enters behind what is left. An `Err` leaves all as it was.
+    pub fn pop_and_push(&mut self, ticket: Ticket) -> Result<(), NoMemory>
+        requires { 0 < length self.old }
+        ensures ok { OnOk result (self.new ≡ without_next self.old ++ ticket ∷ []) }
+        ensures err { OnErr result (self.new ≡ self.old) }
+    {
+        let Some((priority, _)) = self.buckets.greatest() else {
+            unreachable!();
+        };
+        // It enters first, since that alone can fail; the next one is still the first of its bucket.
+        self.buckets.enter(ticket.priority as u64, ticket.place)?;
+        self.buckets.leave(priority);
+        let left = Snapshot::of(&Past::Left(Snapshot::of(&self.past)));
+        self.past = Snapshot::of(&Past::Entered(ticket, Snapshot::of(&left)));
+        Ok(())
+    }
+}

@@ -1,0 +1,456 @@
+-- What holds of the tables between calls, after each kind of change.
+use Rattle.std.proofs.Common.{◌≡◌, Bool, true, false, cond, not, ℕ, ◌+◌, ◌==◌, ◌||◌, List, [], ◌∷◌, ◌++◌, Option, Some, None, refl, sym, ap, ◌∙◌, find, filter, map, is_some, length, count_by, if◌then◌else◌}
+use Rattle.std.specs.List.{AllByRecursion, list_any}
+use Rattle.std.specs.Option.{option_map, option_and_then}
+use Rattle.std.specs.Map.{lookup, set_value, values_of}
+use Rattle.std.specs.BTreeMap.{is_at, insert_entry}
+use Rattle.std.specs.Ordering.{nat_cmp}
+use Rattle.std.proofs.lemmas.Bool.{or_left, or_right, eq-eqb}
+use Rattle.std.proofs.lemmas.List.Sums.{sum_by_push}
+use Rattle.ipc_terms.specs.Lists.{changed_first}
+use Rattle.ipc_terms.specs.declared.binding.Binding.{Binding}
+use Rattle.ipc_terms.specs.declared.facts.Facts.{Facts}
+use Rattle.ipc_terms.specs.declared.ids.Desc.{Desc}
+use Rattle.ipc_terms.specs.declared.ids.Sid.{Sid}
+use Rattle.ipc_terms.specs.Names.{same_name}
+use Rattle.ipc_names.specs.Directory.{Directory, object_named, names_object}
+use Rattle.ipc_queue.specs.declared.queue.Ticket.{Ticket}
+use Rattle.ipc_queue.specs.declared.queue.ParkedSend.{ParkedSend}
+use Rattle.ipc_queue.specs.Tickets.{Tickets, is_full_of, with_sender, with_ticket, sent, sent_to, received, received_by, admitted, withdrawn, without_registration, with_registration, next_ticket, without_next}
+use Rattle.ipc_sem.specs.Counters.{Counter}
+use Rattle.ipc_descr.specs.declared.row.Row.{Row}
+use Rattle.ipc_descr.specs.Descriptions.{is_desc, is_to, is_open, with_nonblock}
+use Rattle.ipc_tables.specs.declared.objects.Objects.{Objects}
+use Rattle.ipc_tables.specs.declared.rows.Body.{Body}
+use Rattle.ipc_tables.specs.declared.rows.Body.TheVariants.{Queue as QueueBody, Semaphore as SemaphoreBody}
+use Rattle.ipc_tables.specs.declared.rows.ObjectRow.{ObjectRow}
+use Rattle.ipc_tables.specs.Objects.{is_queue, queue_in, registered_in, with_body, with_counter, with_queue, with_semaphore, with_facts, with_withdrawal, without_call, held_by, with_held}
+use Rattle.ipc_tables.specs.Kept.{is_alive, is_kept}
+use Rattle.ipc_tables.specs.Standing.{rows_in, IsCounted, BoundOnce, IsOwn, IsStanding}
+use Rattle.ipc_tables.proofs.Numbering.{found_number, set_numbered, set_all, set_count, inserted_last, numbered_last, values_last}
+use Rattle.ipc_tables.proofs.Touching.{all_mapped, all_filtered, names_equal}
+use Rattle.ipc_tables.proofs.Narrowing.{released_none, released}
+
+-- ---- a row changes
+
+-- the row keeps its number, what it is, and, if it has a registration, that one
+pub record Tame (next row : ObjectRow) : Type 0 where
+  pub number : next.number ≡ row.number
+  pub kind : is_queue next ≡ is_queue row
+  pub registered : (desc : Desc) → registered_in next.body ≡ Some desc → registered_in row.body ≡ Some desc
+
+-- what one row of the map is set to
+pub record Sets (o : ℕ) (row next : ObjectRow) (entries after : List (ℕ × ObjectRow)) : Type 0 where
+  pub there : lookup (is_at (nat_cmp o)) entries ≡ Some row
+  pub sets : after ≡ set_value (is_at (nat_cmp o)) entries next
+
+pub counted_still : (o : ℕ) (row next : ObjectRow) (objects after : Objects) → next.number ≡ row.number → is_queue next ≡ is_queue row → Sets o row next objects.rows.entries after.rows.entries → after.created ≡ objects.created → after.queue_count ≡ objects.queue_count → IsCounted objects → IsCounted after
+counted_still o row next objects after number kind set created count is = record {
+  numbered = rw (set.sets, created) (set_numbered (is_at (nat_cmp o)) 0 objects.created row next objects.rows.entries set.there number is.numbered);
+  counted = rw (set.sets) (count ∙ is.counted ∙ sym (set_count (is_at (nat_cmp o)) row next objects.rows.entries set.there kind));
+}
+
+-- so all stands as it did
+pub changed_stands : (queues semaphores : Directory) (rows : List Row) (o : ℕ) (row next : ObjectRow) (objects after : Objects) → Tame next row → Sets o row next objects.rows.entries after.rows.entries → after.created ≡ objects.created → after.queue_count ≡ objects.queue_count → after.astray ≡ objects.astray → IsStanding queues semaphores rows objects → IsStanding queues semaphores rows after
+changed_stands queues semaphores rows o row next objects after tame set created count astray is = record {
+  counted = counted_still o row next objects after tame.number tame.kind set created count is.counted;
+  queue_names = is.queue_names;
+  semaphore_names = is.semaphore_names;
+  kept = rw (set.sets) (set_all (λ r. is_kept queues semaphores rows r ≡ true) (is_at (nat_cmp o)) row next objects.rows.entries set.there (λ k. ap (is_alive queues semaphores rows) tame.number ∙ k) is.kept);
+  own = λ tidy. rw (set.sets) (set_all (IsOwn rows) (is_at (nat_cmp o)) row next objects.rows.entries set.there (λ own desc e. own desc (tame.registered desc e) ∙ ap Some (sym tame.number)) (is.own (sym astray ∙ tidy)));
+}
+
+-- a queue that changes: its registration stays, or is gone
+tame_body : (change : Tickets → Tickets) (body : Body) → ((q : Tickets) (desc : Desc) → (change q).registered ≡ Some desc → q.registered ≡ Some desc) → (desc : Desc) → registered_in (with_body change body) ≡ Some desc → registered_in body ≡ Some desc
+tame_body change (QueueBody q) stays desc e = stays q desc e
+tame_body change (SemaphoreBody q) stays desc e = e
+
+kind_body : (change : Tickets → Tickets) (body : Body) → is_some (queue_in (with_body change body)) ≡ is_some (queue_in body)
+kind_body change (QueueBody q) = refl
+kind_body change (SemaphoreBody q) = refl
+
+pub tame_queue : (change : Tickets → Tickets) (row : ObjectRow) → ((q : Tickets) (desc : Desc) → (change q).registered ≡ Some desc → q.registered ≡ Some desc) → Tame (with_queue change row) row
+tame_queue change row stays = record { number = refl; kind = kind_body change row.body; registered = tame_body change row.body stays }
+
+tame_counter : (change : Counter → Counter) (body : Body) (desc : Desc) → registered_in (with_counter change body) ≡ Some desc → registered_in body ≡ Some desc
+tame_counter change (QueueBody q) desc e = e
+tame_counter change (SemaphoreBody q) desc e = e
+
+kind_counter : (change : Counter → Counter) (body : Body) → is_some (queue_in (with_counter change body)) ≡ is_some (queue_in body)
+kind_counter change (QueueBody q) = refl
+kind_counter change (SemaphoreBody q) = refl
+
+-- a semaphore that changes
+pub tame_semaphore : (change : Counter → Counter) (row : ObjectRow) → Tame (with_semaphore change row) row
+tame_semaphore change row = record { number = refl; kind = kind_counter change row.body; registered = tame_counter change row.body }
+
+pub tame_facts : (facts : Facts) (row : ObjectRow) → Tame (with_facts facts row) row
+tame_facts facts row = record { number = refl; kind = refl; registered = λ desc e. e }
+
+-- a send
+sent_by_tests : (ticket : Ticket) (who : Sid) (q : Tickets) (desc : Desc) (full none : Bool) → (if full then with_sender (record { ticket = ticket; session = who }) q else with_ticket ticket (record q { registered = if none then None else q.registered })).registered ≡ Some desc → q.registered ≡ Some desc
+sent_by_tests ticket who q desc true none e = e
+sent_by_tests ticket who q desc false true e = cc
+sent_by_tests ticket who q desc false false e = e
+
+sent_by : (ticket : Ticket) (who : Sid) (q : Tickets) (desc : Desc) (receivers : List Sid) → (sent_to ticket who q receivers).registered ≡ Some desc → q.registered ≡ Some desc
+sent_by ticket who q desc [] e = sent_by_tests ticket who q desc (is_full_of q) (length q.tickets == 0) e
+sent_by ticket who q desc (receiver ∷ others) e = e
+
+sent_registered : (ticket : Ticket) (who : Sid) (q : Tickets) (desc : Desc) → (sent ticket who q).registered ≡ Some desc → q.registered ≡ Some desc
+unfolding sent
+sent_registered ticket who q desc e = sent_by ticket who q desc q.receivers e
+
+pub tame_send : (ticket : Ticket) (who : Sid) (row : ObjectRow) → Tame (with_queue (sent ticket who) row) row
+tame_send ticket who row = tame_queue (sent ticket who) row (sent_registered ticket who)
+
+-- a receive
+admitted_registered : (q : Tickets) (senders : List ParkedSend) → (admitted q senders).registered ≡ q.registered
+admitted_registered q [] = refl
+admitted_registered q (sender ∷ others) = refl
+
+received_by_next : (who : Sid) (q : Tickets) (next : Option Ticket) → (received_by who q next).registered ≡ q.registered
+received_by_next who q None = refl
+received_by_next who q (Some next) = admitted_registered (record q { tickets = without_next q.tickets }) q.senders
+
+received_registered : (who : Sid) (q : Tickets) (desc : Desc) → (received who q).registered ≡ Some desc → q.registered ≡ Some desc
+unfolding received
+received_registered who q desc e = sym (received_by_next who q (next_ticket q.tickets)) ∙ e
+
+pub tame_receive : (who : Sid) (row : ObjectRow) → Tame (with_queue (received who) row) row
+tame_receive who row = tame_queue (received who) row (received_registered who)
+
+-- a withdrawal
+withdrawn_registered : (who : Sid) (q : Tickets) (desc : Desc) → (withdrawn who q).registered ≡ Some desc → q.registered ≡ Some desc
+unfolding withdrawn
+withdrawn_registered who q desc e = e
+
+withdrawn_body : (who : Sid) (body : Body) (desc : Desc) → registered_in (without_call who body) ≡ Some desc → registered_in body ≡ Some desc
+withdrawn_body who (QueueBody q) desc e = withdrawn_registered who q desc e
+withdrawn_body who (SemaphoreBody q) desc e = e
+
+withdrawn_kind : (who : Sid) (body : Body) → is_some (queue_in (without_call who body)) ≡ is_some (queue_in body)
+withdrawn_kind who (QueueBody q) = refl
+withdrawn_kind who (SemaphoreBody q) = refl
+
+pub tame_withdrawal : (who : Sid) (row : ObjectRow) → Tame (with_withdrawal who row) row
+tame_withdrawal who row = record { number = refl; kind = withdrawn_kind who row.body; registered = withdrawn_body who row.body }
+
+-- a registration less
+abbrev left_of : Bool → Desc → Option Desc
+left_of true other = None
+left_of false other = Some other
+
+taken_back : (q : Tickets) (other : Desc) (b : Bool) → (if b then record q { registered = None } else record q { registered = Some other }).registered ≡ left_of b other
+taken_back q other true = refl
+taken_back q other false = refl
+
+unregistered_is : (gone : Desc) (q : Tickets) (w : Option Desc) → q.registered ≡ w → (without_registration gone q).registered ≡ option_and_then (λ other. left_of (other.0 == gone.0) other) w
+unfolding without_registration
+unregistered_is gone q None is = rw is refl
+unregistered_is gone q (Some other) is = rw is (taken_back q other (other.0 == gone.0))
+
+left_by_test : (b : Bool) (other desc : Desc) → left_of b other ≡ Some desc → Some other ≡ Some desc
+left_by_test true other desc e = cc
+left_by_test false other desc e = e
+
+left_some : (gone : Desc) (w : Option Desc) (desc : Desc) → option_and_then (λ other. left_of (other.0 == gone.0) other) w ≡ Some desc → w ≡ Some desc
+left_some gone None desc e = cc
+left_some gone (Some other) desc e = left_by_test (other.0 == gone.0) other desc e
+
+unregistered_registered : (gone : Desc) (q : Tickets) (desc : Desc) → (without_registration gone q).registered ≡ Some desc → q.registered ≡ Some desc
+unregistered_registered gone q desc e = left_some gone q.registered desc (sym (unregistered_is gone q q.registered refl) ∙ e)
+
+pub tame_unregistered : (gone : Desc) (row : ObjectRow) → Tame (with_queue (without_registration gone) row) row
+tame_unregistered gone row = tame_queue (without_registration gone) row (unregistered_registered gone)
+
+-- ---- a registration more
+
+abbrev first_of : Option Desc → Desc → Desc
+first_of None desc = desc
+first_of (Some other) desc = other
+
+registered_is : (desc : Desc) (q : Tickets) (w : Option Desc) → q.registered ≡ w → (with_registration desc q).registered ≡ Some (first_of w desc)
+unfolding with_registration
+registered_is desc q None is = rw is refl
+registered_is desc q (Some other) is = rw is refl
+
+-- what holds of the registration that was there, and of the new one, holds of the one that is there
+own_first : (Own : Desc → Type 0) (desc d : Desc) (w : Option Desc) → ((other : Desc) → w ≡ Some other → Own other) → Own desc → Some (first_of w desc) ≡ Some d → Own d
+own_first Own desc d None own new e = let same : desc ≡ d = cc in rw (← same) new
+own_first Own desc d (Some other) own new e = let same : other ≡ d = cc in rw (← same) (own other refl)
+
+own_body : (Own : Desc → Type 0) (desc : Desc) (body : Body) → ((other : Desc) → registered_in body ≡ Some other → Own other) → Own desc → (d : Desc) → registered_in (with_body (with_registration desc) body) ≡ Some d → Own d
+own_body Own desc (QueueBody q) own new d e = own_first Own desc d q.registered own new (sym (registered_is desc q q.registered refl) ∙ e)
+own_body Own desc (SemaphoreBody q) own new d e = cc
+
+or_false : (a b : Bool) → (a || b) ≡ false → (a ≡ false) × (b ≡ false)
+or_false true b e = cc
+or_false false b e = (refl, e)
+
+not_false : (b : Bool) → not b ≡ false → b ≡ true
+not_false true e = refl
+not_false false e = cc
+
+-- a registration may be astray from now on
+pub astray_stands : (queues semaphores : Directory) (rows : List Row) (gives : Bool) (objects after : Objects) → after.rows.entries ≡ objects.rows.entries → after.created ≡ objects.created → after.queue_count ≡ objects.queue_count → after.astray ≡ (objects.astray || not gives) → IsStanding queues semaphores rows objects → IsStanding queues semaphores rows after
+astray_stands queues semaphores rows gives objects after same created count astray is = record {
+  counted = record { numbered = rw (same, created) is.counted.numbered; counted = rw same (count ∙ is.counted.counted) };
+  queue_names = is.queue_names;
+  semaphore_names = is.semaphore_names;
+  kept = rw same is.kept;
+  own = λ tidy. rw same (is.own (or_false objects.astray (not gives) (sym astray ∙ tidy)).0);
+}
+
+pub registered_stands : (queues semaphores : Directory) (rows : List Row) (gives : Bool) (o : ℕ) (desc : Desc) (row : ObjectRow) (objects after : Objects) → (gives ≡ true → option_map (λ r. r.object) (find (is_desc desc.0) rows) ≡ Some o) → Sets o row (with_queue (with_registration desc) row) objects.rows.entries after.rows.entries → after.created ≡ objects.created → after.queue_count ≡ objects.queue_count → after.astray ≡ (objects.astray || not gives) → IsStanding queues semaphores rows objects → IsStanding queues semaphores rows after
+registered_stands queues semaphores rows gives o desc row objects after given set created count astray is = record {
+  counted = counted_still o row (with_queue (with_registration desc) row) objects after refl (kind_body (with_registration desc) row.body) set created count is.counted;
+  queue_names = is.queue_names;
+  semaphore_names = is.semaphore_names;
+  kept = rw (set.sets) (set_all (λ r. is_kept queues semaphores rows r ≡ true) (is_at (nat_cmp o)) row (with_queue (with_registration desc) row) objects.rows.entries set.there (λ k. k) is.kept);
+  own = λ tidy.
+      let parts = or_false objects.astray (not gives) (sym astray ∙ tidy) in
+      let number : row.number ≡ o = found_number o 0 objects.created row objects.rows.entries is.counted.numbered set.there in
+      let new = given (not_false gives parts.1) ∙ ap Some (sym number) in
+      rw (set.sets) (set_all (IsOwn rows) (is_at (nat_cmp o)) row (with_queue (with_registration desc) row) objects.rows.entries set.there (λ own d e. own_body (λ x. option_map (λ r. r.object) (find (is_desc x.0) rows) ≡ Some row.number) desc row.body own new d e) (is.own parts.0));
+}
+
+-- ---- a description or a name more
+
+any_by : (a b c : Bool) → (a || b) ≡ true → (b ≡ true → c ≡ true) → (a || c) ≡ true
+any_by true b c e f = refl
+any_by false b c e f = f e
+
+any_more : {X : Type 0} (q : X → Bool) (xs : List X) (x : X) → list_any q xs ≡ true → list_any q (xs ++ x ∷ []) ≡ true
+any_more q [] x e = cc
+any_more q (y ∷ ys) x e = any_by (q y) (list_any q ys) (list_any q (ys ++ x ∷ [])) e (any_more q ys x)
+
+pub any_last : {X : Type 0} (q : X → Bool) (xs : List X) (x : X) → q x ≡ true → list_any q (xs ++ x ∷ []) ≡ true
+any_last q [] x e = or_left (q x) false e
+any_last q (y ∷ ys) x e = or_right (q y) (list_any q (ys ++ x ∷ [])) (any_last q ys x e)
+
+more_by_test : {X Y : Type 0} (f : X → Y) (y : Y) (b : Bool) (first : X) (found found' : Option X) → option_map f (cond b (Some first) found) ≡ Some y → (option_map f found ≡ Some y → option_map f found' ≡ Some y) → option_map f (cond b (Some first) found') ≡ Some y
+more_by_test f y true first found found' e rest = e
+more_by_test f y false first found found' e rest = rest e
+
+found_more : {X Y : Type 0} (f : X → Y) (q : X → Bool) (xs : List X) (x : X) (y : Y) → option_map f (find q xs) ≡ Some y → option_map f (find q (xs ++ x ∷ [])) ≡ Some y
+found_more f q [] x y e = cc
+found_more f q (first ∷ xs) x y e = more_by_test f y (q first) first (find q xs) (find q (xs ++ x ∷ [])) e (found_more f q xs x y)
+
+-- the descriptions that there are now give what was given
+pub record Wider (rows more : List Row) : Type 0 where
+  pub opens : (o : ℕ) → is_open rows o ≡ true → is_open more o ≡ true
+  pub gives : (d o : ℕ) → option_map (λ r. r.object) (find (is_desc d) rows) ≡ Some o → option_map (λ r. r.object) (find (is_desc d) more) ≡ Some o
+
+pub wider_opened : (rows : List Row) (row : Row) → Wider rows (rows ++ row ∷ [])
+wider_opened rows row = record { opens = λ o e. any_more (is_to o) rows row e; gives = λ d o e. found_more (λ r. r.object) (is_desc d) rows row o e }
+
+-- a description that is set gives what it gave
+open_by_test : (d o : ℕ) (to : Bool) (row : Row) (rows : List Row) (b : Bool) → is_open (changed_first (is_desc d) (with_nonblock to) rows) o ≡ is_open rows o → list_any (is_to o) (cond b (with_nonblock to row ∷ rows) (row ∷ changed_first (is_desc d) (with_nonblock to) rows)) ≡ is_open (row ∷ rows) o
+open_by_test d o to row rows true rest = refl
+open_by_test d o to row rows false rest = ap (λ c. is_to o row || c) rest
+
+open_set : (d o : ℕ) (to : Bool) (rows : List Row) → is_open (changed_first (is_desc d) (with_nonblock to) rows) o ≡ is_open rows o
+open_set d o to [] = refl
+open_set d o to (row ∷ rows) = open_by_test d o to row rows (is_desc d row) (open_set d o to rows)
+
+gives_same : (to c : Bool) (row : Row) (found : Option Row) → option_map (λ r. r.object) (cond c (Some (with_nonblock to row)) found) ≡ option_map (λ r. r.object) (cond c (Some row) found)
+gives_same to true row found = refl
+gives_same to false row found = refl
+
+gives_other : (c : Bool) (row : Row) (found found' : Option Row) → option_map (λ r. r.object) found' ≡ option_map (λ r. r.object) found → option_map (λ r. r.object) (cond c (Some row) found') ≡ option_map (λ r. r.object) (cond c (Some row) found)
+gives_other true row found found' e = refl
+gives_other false row found found' e = e
+
+gives_by_test : (d e : ℕ) (to : Bool) (row : Row) (rows : List Row) (b : Bool) → option_map (λ r. r.object) (find (is_desc e) (changed_first (is_desc d) (with_nonblock to) rows)) ≡ option_map (λ r. r.object) (find (is_desc e) rows) → option_map (λ r. r.object) (find (is_desc e) (cond b (with_nonblock to row ∷ rows) (row ∷ changed_first (is_desc d) (with_nonblock to) rows))) ≡ option_map (λ r. r.object) (find (is_desc e) (row ∷ rows))
+gives_by_test d e to row rows true rest = gives_same to (is_desc e row) row (find (is_desc e) rows)
+gives_by_test d e to row rows false rest = gives_other (is_desc e row) row (find (is_desc e) rows) (find (is_desc e) (changed_first (is_desc d) (with_nonblock to) rows)) rest
+
+gives_set : (d e : ℕ) (to : Bool) (rows : List Row) → option_map (λ r. r.object) (find (is_desc e) (changed_first (is_desc d) (with_nonblock to) rows)) ≡ option_map (λ r. r.object) (find (is_desc e) rows)
+gives_set d e to [] = refl
+gives_set d e to (row ∷ rows) = gives_by_test d e to row rows (is_desc d row) (gives_set d e to rows)
+
+pub wider_set : (d : ℕ) (to : Bool) (rows : List Row) → Wider rows (changed_first (is_desc d) (with_nonblock to) rows)
+wider_set d to rows = record { opens = λ o e. open_set d o to rows ∙ e; gives = λ e o k. gives_set d e to rows ∙ k }
+
+alive_by : (a b c d : Bool) → (c ≡ true → d ≡ true) → (a || b || c) ≡ true → (a || b || d) ≡ true
+alive_by true b c d f e = refl
+alive_by false true c d f e = refl
+alive_by false false c d f e = f e
+
+named_by : (a b c d e : Bool) → (a ≡ true → d ≡ true) → (b ≡ true → e ≡ true) → (a || b || c) ≡ true → (d || e || c) ≡ true
+named_by true b c d e f g k = let is : d ≡ true = f refl in rw is refl
+named_by false true c d e f g k = let is : e ≡ true = g refl in rw is (either d)
+  where
+    either : (d : Bool) → (d || true || c) ≡ true
+    either true = refl
+    either false = refl
+named_by false false c d e f g k = let is : c ≡ true = k in rw is (either d e)
+  where
+    either : (d e : Bool) → (d || e || true) ≡ true
+    either true e = refl
+    either false true = refl
+    either false false = refl
+
+pub wider_stands : (queues semaphores : Directory) (rows more : List Row) (objects : Objects) → Wider rows more → IsStanding queues semaphores rows objects → IsStanding queues semaphores more objects
+wider_stands queues semaphores rows more objects wider is = record {
+  counted = is.counted;
+  queue_names = is.queue_names;
+  semaphore_names = is.semaphore_names;
+  kept = all_mapped (λ row. is_kept queues semaphores rows row ≡ true) (λ row. is_kept queues semaphores more row ≡ true) (rows_in objects) (λ row e. alive_by (names_object queues.bindings row.number) (names_object semaphores.bindings row.number) (is_open rows row.number) (is_open more row.number) (wider.opens row.number) e) is.kept;
+  own = λ tidy. all_mapped (IsOwn rows) (IsOwn more) (rows_in objects) (λ row own desc e. wider.gives desc.0 row.number (own desc e)) (is.own tidy);
+}
+
+-- one name more
+names_apart : (a b : List ℕ) → same_name a b ≡ false → same_name b a ≡ false
+names_apart a b e = at (same_name b a) refl where
+  at : (c : Bool) → same_name b a ≡ c → c ≡ false
+  at true k = let same : b ≡ a = names_equal b a k in sym (rw same at k) ∙ (rw same at e)
+  at false k = refl
+
+none_by_test : (name : List ℕ) (o : ℕ) (b : Bool) (first : Binding) (found found' : Option Binding) → option_map (λ (x : Binding). x.object) (cond b (Some first) found) ≡ None → (option_map (λ (x : Binding). x.object) found ≡ None → option_map (λ (x : Binding). x.object) found' ≡ None) → option_map (λ (x : Binding). x.object) (cond b (Some first) found') ≡ None
+none_by_test name o true first found found' e rest = cc
+none_by_test name o false first found found' e rest = rest e
+
+unbound_last : (name other : List ℕ) (o : ℕ) (bindings : List Binding) → same_name name other ≡ false → object_named bindings other ≡ None → object_named (bindings ++ record { name = name; object = o } ∷ []) other ≡ None
+unbound_last name other o [] apart e = rw apart refl
+unbound_last name other o (first ∷ bindings) apart e = none_by_test other o (same_name first.name other) first (find (λ x. same_name x.name other) bindings) (find (λ x. same_name x.name other) (bindings ++ record { name = name; object = o } ∷ [])) e (unbound_last name other o bindings apart)
+
+head_apart : (b : Bool) (first : Binding) (found : Option Binding) → option_map (λ (x : Binding). x.object) (cond b (Some first) found) ≡ None → b ≡ false
+head_apart true first found e = cc
+head_apart false first found e = refl
+
+tail_unbound : (b : Bool) (first : Binding) (found : Option Binding) → option_map (λ (x : Binding). x.object) (cond b (Some first) found) ≡ None → option_map (λ (x : Binding). x.object) found ≡ None
+tail_unbound true first found e = cc
+tail_unbound false first found e = e
+
+pub once_bound : (name : List ℕ) (o : ℕ) (bindings : List Binding) → BoundOnce bindings → object_named bindings name ≡ None → BoundOnce (bindings ++ record { name = name; object = o } ∷ [])
+once_bound name o [] once e = (refl, tt)
+once_bound name o (first ∷ bindings) once e =
+    let apart = head_apart (same_name first.name name) first (find (λ x. same_name x.name name) bindings) e in
+    let later = tail_unbound (same_name first.name name) first (find (λ x. same_name x.name name) bindings) e in
+    (unbound_last name first.name o bindings (names_apart first.name name apart) once.0, once_bound name o bindings once.1 later)
+
+-- the directories that there are now name what was named
+pub record Names (directory more : Directory) : Type 0 where
+  pub once : BoundOnce more.bindings
+  pub names : (o : ℕ) → names_object directory.bindings o ≡ true → names_object more.bindings o ≡ true
+
+pub names_bound : (name : List ℕ) (o : ℕ) (directory : Directory) → BoundOnce directory.bindings → object_named directory.bindings name ≡ None → Names directory (record directory { bindings = directory.bindings ++ record { name = name; object = o } ∷ [] })
+names_bound name o directory once e = record { once = once_bound name o directory.bindings once e; names = λ n k. any_more (λ b. b.object == n) directory.bindings (record { name = name; object = o }) k }
+
+pub names_same : (directory : Directory) → BoundOnce directory.bindings → Names directory directory
+names_same directory once = record { once = once; names = λ n k. k }
+
+pub named_stands : (queues semaphores queues' semaphores' : Directory) (rows : List Row) (objects : Objects) → Names queues queues' → Names semaphores semaphores' → IsStanding queues semaphores rows objects → IsStanding queues' semaphores' rows objects
+named_stands queues semaphores queues' semaphores' rows objects one two is = record {
+  counted = is.counted;
+  queue_names = one.once;
+  semaphore_names = two.once;
+  kept = all_mapped (λ row. is_kept queues semaphores rows row ≡ true) (λ row. is_kept queues' semaphores' rows row ≡ true) (rows_in objects) (λ row e. named_by (names_object queues.bindings row.number) (names_object semaphores.bindings row.number) (is_open rows row.number) (names_object queues'.bindings row.number) (names_object semaphores'.bindings row.number) (one.names row.number) (two.names row.number) e) is.kept;
+  own = is.own;
+}
+
+-- ---- an object more
+
+-- the same rows, in another map
+pub same_stands : (queues semaphores : Directory) (rows : List Row) (objects after : Objects) → after.rows.entries ≡ objects.rows.entries → after.created ≡ objects.created → after.queue_count ≡ objects.queue_count → after.astray ≡ objects.astray → IsStanding queues semaphores rows objects → IsStanding queues semaphores rows after
+same_stands queues semaphores rows objects after same created count astray is = record {
+  counted = record { numbered = rw (same, created) is.counted.numbered; counted = rw same (count ∙ is.counted.counted) };
+  queue_names = is.queue_names;
+  semaphore_names = is.semaphore_names;
+  kept = rw same is.kept;
+  own = λ tidy. rw same (is.own (sym astray ∙ tidy));
+}
+
+all_last : {X : Type 0} (P : X → Type 0) (xs : List X) (x : X) → AllByRecursion P xs → P x → AllByRecursion P (xs ++ x ∷ [])
+all_last P [] x all here = (here, tt)
+all_last P (y ∷ ys) x all here = (all.0, all_last P ys x all.1 here)
+
+-- what is added
+pub record Adds (new : ObjectRow) (row : Row) (objects after : Objects) : Type 0 where
+  pub number : new.number ≡ objects.created
+  pub unregistered : registered_in new.body ≡ None
+  pub gives : row.object ≡ objects.created
+  pub entries : after.rows.entries ≡ insert_entry nat_cmp objects.rows.entries objects.created new
+  pub created : after.created ≡ objects.created + 1
+  pub count : after.queue_count ≡ objects.queue_count + cond (is_queue new) 1 0
+  pub astray : after.astray ≡ objects.astray
+
+pub added_rows : (new : ObjectRow) (row : Row) (objects after : Objects) → Adds new row objects after → IsCounted objects → rows_in after ≡ rows_in objects ++ new ∷ []
+added_rows new row objects after adds is = ap values_of (adds.entries ∙ inserted_last 0 objects.created new objects.rows.entries is.numbered) ∙ values_last objects.created new objects.rows.entries
+
+added_counted : (new : ObjectRow) (row : Row) (objects after : Objects) → Adds new row objects after → IsCounted objects → IsCounted after
+added_counted new row objects after adds is =
+    let last = adds.entries ∙ inserted_last 0 objects.created new objects.rows.entries is.numbered in
+    record {
+      numbered = rw (adds.created, last) (numbered_last 0 objects.created new objects.rows.entries is.numbered adds.number);
+      counted = adds.count ∙ ap (λ n. n + cond (is_queue new) 1 0) is.counted ∙ sym (sum_by_push (λ r. cond (is_queue r) 1 0) (rows_in objects) new) ∙ ap (count_by is_queue) (sym (added_rows new row objects after adds is));
+    }
+
+pub added_stands : (queues semaphores : Directory) (rows : List Row) (new : ObjectRow) (row : Row) (objects after : Objects) → Adds new row objects after → IsStanding queues semaphores rows objects → IsStanding queues semaphores (rows ++ row ∷ []) after
+added_stands queues semaphores rows new row objects after adds is =
+    let wider = wider_stands queues semaphores rows (rows ++ row ∷ []) objects (wider_opened rows row) is in
+    let more = added_rows new row objects after adds is.counted in
+    let opened : is_open (rows ++ row ∷ []) new.number ≡ true = any_last (is_to new.number) rows row (eq-eqb row.object new.number (adds.gives ∙ sym adds.number)) in
+    record {
+      counted = added_counted new row objects after adds is.counted;
+      queue_names = is.queue_names;
+      semaphore_names = is.semaphore_names;
+      kept = rw more (all_last (λ r. is_kept queues semaphores (rows ++ row ∷ []) r ≡ true) (rows_in objects) new wider.kept (or_right (names_object queues.bindings new.number || names_object semaphores.bindings new.number) (is_open (rows ++ row ∷ []) new.number) opened));
+      own = λ tidy. rw more (all_last (IsOwn (rows ++ row ∷ [])) (rows_in objects) new (wider.own (sym adds.astray ∙ tidy)) (λ desc e. let no : ◌≡◌ {A = Option Desc} None (Some desc) = sym adds.unregistered ∙ e in cc));
+    }
+
+-- the tables are as they were, in other fields
+pub back_stands : (queues semaphores queues' semaphores' : Directory) (rows rows' : List Row) (objects objects' : Objects) → queues' ≡ queues → semaphores' ≡ semaphores → rows' ≡ rows → rows_in objects' ≡ rows_in objects → IsStanding queues semaphores rows objects → IsCounted objects' → (objects'.astray ≡ false → AllByRecursion (IsOwn rows') (rows_in objects')) → IsStanding queues' semaphores' rows' objects'
+back_stands queues semaphores queues' semaphores' rows rows' objects objects' one two three four is counted own = record {
+  counted = counted;
+  queue_names = rw one is.queue_names;
+  semaphore_names = rw two is.semaphore_names;
+  kept = rw (one, two, three, four) is.kept;
+  own = own;
+}
+
+-- ---- what a call ends is gone
+
+filter_passes_by_test : (keep : ObjectRow → Bool) (row : ObjectRow) (rest : List ObjectRow) (b : Bool) → keep row ≡ b → AllByRecursion (λ r. keep r ≡ true) rest → AllByRecursion (λ r. keep r ≡ true) (cond b (row ∷ rest) rest)
+filter_passes_by_test keep row rest true is all = (is, all)
+filter_passes_by_test keep row rest false is all = all
+
+filter_passes : (keep : ObjectRow → Bool) (rows : List ObjectRow) → AllByRecursion (λ r. keep r ≡ true) (filter keep rows)
+filter_passes keep [] = tt
+filter_passes keep (row ∷ rows) = filter_passes_by_test keep row (filter keep rows) (keep row) refl (filter_passes keep rows)
+
+all_of_map : {X Y : Type 0} (P : Y → Type 0) (f : X → Y) (xs : List X) → AllByRecursion (λ x. P (f x)) xs → AllByRecursion P (map f xs)
+all_of_map P f [] all = tt
+all_of_map P f (x ∷ xs) all = (all.0, all_of_map P f xs all.1)
+
+-- what is registered once what is held no longer was released is held
+pub held_registered : (rows : List Row) (row : ObjectRow) (desc : Desc) (w : Option Desc) → registered_in row.body ≡ w → registered_in (held_by rows row w).body ≡ Some desc → (registered_in row.body ≡ Some desc) × (is_some (find (is_desc desc.0) rows) ≡ true)
+held_registered rows row desc None is e = absurd (let no : ◌≡◌ {A = Option Desc} None (Some desc) = sym is ∙ e in cc)
+held_registered rows row desc (Some other) is e = at (is_some (find (is_desc other.0) rows)) refl e where
+  at : (b : Bool) → is_some (find (is_desc other.0) rows) ≡ b → registered_in (cond b row (with_queue (without_registration other) row)).body ≡ Some desc → (registered_in row.body ≡ Some desc) × (is_some (find (is_desc desc.0) rows) ≡ true)
+  at true there k = let same : other ≡ desc = let both : ◌≡◌ {A = Option Desc} (Some other) (Some desc) = sym is ∙ k in cc in (k, rw same at there)
+  at false there k = absurd (let no : ◌≡◌ {A = Option Desc} None (Some desc) = sym (released_none other row.body is) ∙ k in cc)
+
+found_object : (w v : Option Row) (n : ℕ) → is_some w ≡ true → ((r : Row) → w ≡ Some r → v ≡ Some r) → option_map (λ (r : Row). r.object) v ≡ Some n → option_map (λ (r : Row). r.object) w ≡ Some n
+found_object None v n held same e = cc
+found_object (Some r) v n held same e = ap (option_map (λ (x : Row). x.object)) (sym (same r refl)) ∙ e
+
+-- of some descriptions these are left, each under its number
+abbrev pub FoundBefore : List Row → List Row → Type 0
+FoundBefore less more = (d : ℕ) (row : Row) → find (is_desc d) less ≡ Some row → find (is_desc d) more ≡ Some row
+
+own_released : (less more : List Row) (row : ObjectRow) → FoundBefore less more → IsOwn more row → IsOwn less (with_held less row)
+own_released less more row before own desc e =
+    let is = held_registered less row desc (registered_in row.body) refl e in
+    found_object (find (is_desc desc.0) less) (find (is_desc desc.0) more) row.number is.1 (before desc.0) (own desc is.0) ∙ ap Some (sym (released less row).number)
+
+pub settled_stands : (queues semaphores : Directory) (less more : List Row) (objects after : Objects) → BoundOnce queues.bindings → BoundOnce semaphores.bindings → FoundBefore less more → IsCounted after → rows_in after ≡ map (with_held less) (filter (is_kept queues semaphores less) (rows_in objects)) → after.astray ≡ objects.astray → (objects.astray ≡ false → AllByRecursion (IsOwn more) (rows_in objects)) → IsStanding queues semaphores less after
+settled_stands queues semaphores less more objects after queue_names semaphore_names before counted same astray own = record {
+  counted = counted;
+  queue_names = queue_names;
+  semaphore_names = semaphore_names;
+  kept = rw same (all_of_map (λ row. is_kept queues semaphores less row ≡ true) (with_held less) (filter (is_kept queues semaphores less) (rows_in objects)) (all_mapped (λ row. is_kept queues semaphores less row ≡ true) (λ row. is_kept queues semaphores less (with_held less row) ≡ true) (filter (is_kept queues semaphores less) (rows_in objects)) (λ row e. ap (is_alive queues semaphores less) (released less row).number ∙ e) (filter_passes (is_kept queues semaphores less) (rows_in objects))));
+  own = λ tidy. rw same (all_of_map (IsOwn less) (with_held less) (filter (is_kept queues semaphores less) (rows_in objects)) (all_mapped (IsOwn more) (λ row. IsOwn less (with_held less row)) (filter (is_kept queues semaphores less) (rows_in objects)) (λ row own. own_released less more row before own) (all_filtered (IsOwn more) (is_kept queues semaphores less) (rows_in objects) (own (sym astray ∙ tidy)))));
+}

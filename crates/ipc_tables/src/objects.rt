@@ -1,0 +1,120 @@
+//! The objects that are alive, and which of them a call ends.
+
+ghost use Rattle.std.specs.Prelude.{◌≡◌, false, map, filter};
+ghost use Rattle.ipc_tables.specs.Objects.{HasRoom, bytes_taken, with_held};
+ghost use Rattle.ipc_tables.specs.Kept.{is_alive, is_kept};
+ghost use Rattle.ipc_tables.specs.Charging.{Covered, settled};
+ghost use Rattle.ipc_tables.specs.Standing.{rows_in, IsCounted, OthersKept, OthersHeld};
+
+use crate::rows::ObjectRow;
+use ipc_descr::{Charges, Descrs, bytes_of};
+use ipc_names::NameDir;
+use ipc_terms::Kind;
+use std::collections::BTreeMap;
+
+/// The objects that are alive, by their numbers, and what their creators are charged with.
+#[derive(Drop)]
+pub struct Objects {
+    pub rows: BTreeMap<u64, ObjectRow>,
+    /// How many were ever created: the number of the next.
+    pub created: u64,
+    /// How many of those that are alive are queues.
+    pub queue_count: usize,
+    /// Whether a registration may be of a description that doesn't give its queue. Only such a one
+    /// may be held no longer while no description of its queue was closed.
+    pub astray: bool,
+    /// How many bytes each user's queues take, and how many they may.
+    pub charges: Charges,
+}
+
+impl Objects {
+    /// Removes the object that was touched if nothing keeps it, and gives its creator back what it took.
+    pub fn remove_dead(
+        &mut self,
+        queues: &NameDir,
+        semaphores: &NameDir,
+        descriptions: &Descrs,
+        touched: Option<u64>,
+    )
+        requires counted { IsCounted self.old }
+        requires others { OthersKept touched (is_kept queues.now semaphores.now descriptions.now.rows) (rows_in self.old) }
+        requires covered { Covered self.old.charges (rows_in self.old) }
+        ensures counted { IsCounted self.new }
+        ensures rows { rows_in self.new ≡ filter (is_kept queues.now semaphores.now descriptions.now.rows) (rows_in self.old) }
+        ensures charges { self.new.charges ≡ settled (is_kept queues.now semaphores.now descriptions.now.rows) (rows_in self.old) self.old.charges }
+        ensures created { self.new.created ≡ self.old.created }
+        ensures astray { self.new.astray ≡ self.old.astray }
+    {
+        let Some(object) = touched else {
+            return;
+        };
+        if is_alive(queues, semaphores, descriptions, object) {
+            return;
+        }
+        let Some(row) = self.rows.remove(&object) else {
+            return;
+        };
+        self.queue_count -= usize::from(row.body.queue().is_some());
+        self.charges.give_back(row.object.creator, row.bytes);
+    }
+
+    /// Takes the registration of the object that was touched back if its description is held no longer;
+    /// and so those of all objects, should one be astray.
+    pub fn release(&mut self, descriptions: &Descrs, touched: Option<u64>)
+        requires counted { IsCounted self.old }
+        requires others { self.old.astray ≡ false → OthersHeld touched descriptions.now.rows (rows_in self.old) }
+        ensures counted { IsCounted self.new }
+        ensures rows { rows_in self.new ≡ map (with_held descriptions.now.rows) (rows_in self.old) }
+        ensures charges { self.new.charges ≡ self.old.charges }
+        ensures created { self.new.created ≡ self.old.created }
+        ensures astray { self.new.astray ≡ self.old.astray }
+    {
+        if self.astray {
+            release_all(&mut self.rows, descriptions);
+        } else if let Some(object) = touched {
+            if let Some(row) = self.rows.get_mut(&object) {
+                release_row(row, descriptions);
+            }
+        }
+    }
+}
+
+/// Takes the registrations back whose descriptions are held no longer.
+fn release_all(rows: &mut BTreeMap<u64, ObjectRow>, descriptions: &Descrs)
+    ensures { rows.new.entries ≡ map (λ entry. (entry.0, with_held descriptions.now.rows entry.1)) rows.old.entries }
+{
+    rows.retain(|_, row| {
+        release_row(row, descriptions);
+        true
+    });
+}
+
+/// Takes the registration back if its description is held no longer.
+fn release_row(row: &mut ObjectRow, descriptions: &Descrs)
+    ensures { row.new ≡ with_held descriptions.now.rows row.old }
+{
+    let Some(desc) = row.body.registered() else {
+        return;
+    };
+    if descriptions.holder(desc).is_none() {
+        row.body.unregister(desc);
+    }
+}
+
+/// Whether the object has a name, or a description gives it.
+fn is_alive(queues: &NameDir, semaphores: &NameDir, descriptions: &Descrs, object: u64) -> bool
+    ensures { result ≡ is_alive queues.now semaphores.now descriptions.now.rows object }
+{
+    queues.names_object(object) || semaphores.names_object(object) || descriptions.uses(object) > 0
+}
+
+/// How many bytes an object of the kind takes of its creator's.
+pub fn bytes_taken(kind: Kind) -> u64
+    requires { HasRoom kind }
+    ensures { result ≡ bytes_taken kind }
+{
+    match kind {
+        Kind::Queue(attributes) => bytes_of(attributes.maxmsg, attributes.msgsize),
+        Kind::Semaphore(_) => 0,
+    }
+}

@@ -1,0 +1,76 @@
+//! Numbers in buckets.
+
+ghost use Rattle.std.specs.Prelude.{◌≡◌, ◌==◌, ℕ, List, [], None, if◌then◌else◌, OnOk, OnErr};
+ghost use Rattle.std.specs.Option.{unwrap_or};
+ghost use Rattle.ipc_terms.specs.Lists.{first};
+ghost use Rattle.ipc_waiters.specs.Buckets.{bucket_at, with_last, without_front, Holds, IsFirstOfGreatest};
+
+use ipc_terms::NoMemory;
+use std::alloc::Global;
+use std::collections::{BTreeMap, VecDeque};
+
+/// Numbers under keys: each key that has numbers has a bucket, in which they stand in order of entry.
+/// Each call takes as long as to find a bucket.
+#[derive(Drop)]
+pub struct Buckets {
+    alloc: Global,
+    buckets: BTreeMap<u64, VecDeque<u64>>,
+}
+
+impl Buckets {
+    /// No numbers. Takes no memory.
+    pub fn new(alloc: Global) -> Self
+        ensures { (key : ℕ) → bucket_at result key ≡ None }
+    {
+        Buckets {
+            alloc,
+            buckets: BTreeMap::new(alloc),
+        }
+    }
+
+    /// The number enters at the end of the key's bucket, which is made where there is none. An `Err`
+    /// leaves all as it was.
+    pub fn enter(&mut self, key: u64, number: u64) -> Result<(), NoMemory>
+        ensures ok { OnOk result ((q : ℕ) → bucket_at self.new q ≡ (if q == key then with_last number (bucket_at self.old q) else bucket_at self.old q)) }
+        ensures err { OnErr result ((q : ℕ) → bucket_at self.new q ≡ bucket_at self.old q) }
+    {
+        match self.buckets.get_mut(&key) {
+            Some(bucket) => bucket.push_back(number)?,
+            None => {
+                let mut bucket = VecDeque::new(self.alloc);
+                bucket.push_back(number)?;
+                self.buckets.insert(key, bucket)?;
+            }
+        }
+        Ok(())
+    }
+
+    /// The first number leaves the key's bucket, and an empty bucket goes. Takes no memory.
+    pub fn leave(&mut self, key: u64)
+        ensures { (q : ℕ) → bucket_at self.new q ≡ (if q == key then without_front (bucket_at self.old q) else bucket_at self.old q) }
+    {
+        let Some(bucket) = self.buckets.get_mut(&key) else {
+            return;
+        };
+        bucket.pop_front();
+        if bucket.is_empty() {
+            self.buckets.remove(&key);
+        }
+    }
+
+    /// The first number of the key's bucket; `None` where it has none.
+    pub fn first_of(&self, key: u64) -> Option<u64>
+        ensures { result ≡ first (unwrap_or (bucket_at self.now key) []) }
+    {
+        self.buckets.get(&key)?.front().copied()
+    }
+
+    /// The greatest key that has numbers, and the first of them; `None` where no key has any.
+    pub fn greatest(&self) -> Option<(u64, u64)>
+        ensures { (numbers : ℕ → List ℕ) → Holds self.now numbers → IsFirstOfGreatest numbers result }
+    {
+        let (key, bucket) = self.buckets.last_key_value()?;
+        let number = bucket.front()?;
+        Some((*key, *number))
+    }
+}

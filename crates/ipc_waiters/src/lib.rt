@@ -1,0 +1,8 @@
+//! What waits, in order of arrival: calls by session, and numbers in buckets by key.
+#![tactic(auto)]
+
+mod buckets;
+mod waiters;
+
+pub use buckets::Buckets;
+pub use waiters::{Waiters, Waiting};

@@ -1,0 +1,5 @@
+pub mod RequestLemmas
+pub mod AnswerLemmas
+pub mod SpellingLemmas
+pub mod CutLemmas
+pub mod OrderLemmas

@@ -1,0 +1,7 @@
+use Rattle.std.proofs.Common.{◌≡◌, drop, Some}
+use Rattle.ipc_fields.specs.Field.{◌⊕◌, text, all_spelled}
+use Rattle.ipc_wire.proofs.answer_writing.put_each_name.Given as goal
+
+-- what is written and what is to come are all
+abbrev pub invariant-loop-name : goal.invariant-loop-name
+invariant-loop-name l = (Some l.out.items ⊕ all_spelled text (drop l.name-index l.names)) ≡ (Some l.fn.out.items ⊕ all_spelled text l.names)

@@ -1,0 +1,132 @@
+//! A stream of frames, in whatever pieces it comes.
+
+ghost use Rattle.std.specs.Prelude.{◌≡◌, ℕ, List, [], ◌++◌, length, drop, Some, option_map, IsSome, IsNone, IfOk, IsOkAnd, OnErr, ◌≤◌, vec_len};
+ghost use Rattle.ipc_fields.specs.Given.{Gives};
+ghost use Rattle.ipc_wire.specs.Streams.{front, cut, Feeds, new_stream, still_first};
+
+use crate::request::Request;
+use crate::request_reading::request_of;
+use ipc_fields::{ReadFault, WireFault, body_of};
+use ipc_terms::NoMemory;
+use std::alloc::Global;
+use std::marker::Model;
+
+/// The request in front, as soon as its frame is whole, and what follows it.
+fn front_of(alloc: Global, first: bool, bytes: &[u8]) -> Result<Option<(Request, &[u8])>, ReadFault>
+    ensures { Gives (option_map (λ x. (x.0, x.1.now))) result (front first bytes.now) }
+{
+    match body_of(bytes)? {
+        None => Ok(None),
+        Some((body, rest)) => {
+            let request = request_of(alloc, first, body)?;
+            Ok(Some((request, rest)))
+        }
+    }
+}
+
+/// The requests of the whole frames in front, the bytes behind them, and the fault that stands there.
+fn cut_of(
+    alloc: Global,
+    mut first: bool,
+    bytes: &[u8],
+) -> Result<(Vec<Request>, &[u8], Option<WireFault>), NoMemory>
+    ensures { IfOk result (λ x. cut first bytes.now ≡ record { requests = x.0.items; rest = x.1.now; fault = x.2 }) }
+{
+    let mut requests = Vec::new(alloc);
+    let mut rest = bytes;
+    'frames: loop {
+        match front_of(alloc, first, rest) {
+            Ok(Some((request, after))) => {
+                requests.push(request)?;
+                first = false;
+                rest = after;
+            }
+            Ok(None) => return Ok((requests, rest, None)),
+            Err(ReadFault::Wire(fault)) => return Ok((requests, rest, Some(fault))),
+            Err(ReadFault::NoMemory) => return Err(NoMemory),
+        }
+    }
+}
+
+/// Whether the next request is still the first.
+fn still_first(first: bool, requests: &[Request]) -> bool
+    ensures { result ≡ still_first first requests.now }
+{
+    first && requests.is_empty()
+}
+
+fn remove_front(bytes: &mut Vec<u8>, n: usize)
+    requires { n ≤ vec_len bytes.old }
+    ensures { bytes.new.items ≡ drop n bytes.old.items }
+{
+    // A drain of nothing would still move every byte.
+    if n > 0 {
+        drop(bytes.drain(..n));
+    }
+}
+
+/// A stream of requests. Contracts see what it keeps of the stream, whether a hello is still to come,
+/// and the fault that ended it.
+#[derive(Drop)]
+pub struct Frames {
+    kept: Vec<u8>,
+    first: bool,
+    fault: Option<WireFault>,
+}
+
+impl Model for Frames {
+    ghost use Rattle.ipc_wire.specs.Streams.{Stream};
+
+    ghost Value = { Stream };
+
+    ghost view = { λ f. record { kept = f.kept.items; first = f.first; fault = f.fault } };
+}
+
+impl Frames {
+    /// A stream of which nothing has come.
+    pub fn new(alloc: Global) -> Frames
+        ensures { result ≡ new_stream }
+    {
+        Frames {
+            kept: Vec::new(alloc),
+            first: true,
+            fault: None,
+        }
+    }
+
+    /// The fault that ended the stream, if one did.
+    pub fn fault(&self) -> Option<WireFault>
+        ensures { result ≡ self.now.fault }
+    {
+        self.fault
+    }
+
+    /// Takes the next piece of the stream, and gives the requests of the frames that are whole now, up to a
+    /// fault. An `Err` changes nothing. A byte costs a constant on average, however the stream is cut, and
+    /// what is kept grows as the bytes come, never by the length that a frame announces.
+    pub fn feed(&mut self, alloc: Global, piece: &[u8]) -> Result<Vec<Request>, NoMemory>
+        // Behind a fault nothing is read.
+        ensures over { IsSome self.old.fault → IsOkAnd result (λ requests. (requests.items ≡ []) × (self.new ≡ self.old)) }
+        ensures cut { IsNone self.old.fault → IfOk result (λ requests. Feeds self.old piece.now requests.items self.new) }
+        ensures err { OnErr result (self.new ≡ self.old) }
+    {
+        if self.fault.is_some() {
+            return Ok(Vec::new(alloc));
+        }
+        let kept_before = self.kept.len();
+        self.kept.extend_from_slice(piece)?;
+        match cut_of(alloc, self.first, &self.kept) {
+            Ok((requests, rest, fault)) => {
+                let taken = self.kept.len() - rest.len();
+                remove_front(&mut self.kept, taken);
+                self.first = still_first(self.first, &requests);
+                self.fault = fault;
+                Ok(requests)
+            }
+            Err(NoMemory) => {
+                self.kept.truncate(kept_before);
+                Err(NoMemory)
+            }
+        }
+    }
+}

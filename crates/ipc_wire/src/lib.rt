@@ -1,0 +1,18 @@
+//! Requests and answers as frames of bytes, and streams of them.
+#![tactic(auto)]
+
+mod answer_reading;
+mod answer_writing;
+mod frames;
+pub mod laws;
+mod opcodes;
+mod request;
+mod request_reading;
+mod request_writing;
+
+pub use answer_reading::read_answer;
+pub use answer_writing::write_answer;
+pub use frames::Frames;
+pub use ipc_fields::{MAX_BODY, ReadFault, WireFault, WriteFault};
+pub use request::Request;
+pub use request_writing::write_request;

@@ -1,0 +1,177 @@
+//! Writing requests.
+
+ghost use Rattle.std.specs.Prelude.{◌≡◌, List, length, Some, None, IfOk, IsErrOf};
+ghost use Rattle.ipc_fields.specs.Field.{◌⊗◌, u16, u32, u64, boolean, optional, only, then_rest};
+ghost use Rattle.ipc_fields.specs.Given.{Puts};
+ghost use Rattle.ipc_fields.specs.Terms.{desc_field, family_field, mode_field, uid_field, gid_field, target_field};
+ghost use Rattle.ipc_wire.specs.Requests.{queue_open_field, semaphore_open_field, request_fields, request_body};
+ghost use Rattle.ipc_wire.specs.Streams.{spell};
+
+use crate::request::Request;
+use crate::request_reading::{QUEUE_FLAGS, SEMAPHORE_FLAGS};
+use ipc_fields::{
+    WriteFault, framed, put_access, put_bool, put_family, put_flags, put_optional_attributes,
+    put_optional_gid, put_optional_uid, put_target, put_text, put_u16, put_u32, put_u64,
+};
+use ipc_terms::{Bytes, Call, Desc, Family, Gid, Mode, QueueOpen, SemaphoreOpen, Target, Uid};
+use std::alloc::Global;
+
+#[tactic(auto, using(ipc_fields::proofs::Joins::joins), unfolding(crate::specs::Requests::queue_open_field))]
+fn put_queue_open(out: &mut Vec<u8>, asked: &QueueOpen) -> Result<(), WriteFault>
+    ensures { Puts out.old.items out.new.items result (queue_open_field.spell asked.now) }
+{
+    put_text(out, asked.name.as_slice())?;
+    put_access(out, asked.access)?;
+    put_flags(out, QUEUE_FLAGS, asked.flags)?;
+    put_u16(out, asked.mode.0)?;
+    put_optional_attributes(out, asked.attributes)
+}
+
+#[tactic(auto, using(ipc_fields::proofs::Joins::joins), unfolding(crate::specs::Requests::semaphore_open_field))]
+fn put_semaphore_open(out: &mut Vec<u8>, asked: &SemaphoreOpen) -> Result<(), WriteFault>
+    ensures { Puts out.old.items out.new.items result (semaphore_open_field.spell asked.now) }
+{
+    put_text(out, asked.name.as_slice())?;
+    put_flags(out, SEMAPHORE_FLAGS, asked.flags)?;
+    put_u16(out, asked.mode.0)?;
+    put_u32(out, asked.value)
+}
+
+#[tactic(auto, using(ipc_fields::proofs::Joins::joins))]
+fn put_send(out: &mut Vec<u8>, desc: Desc, priority: u32, bytes: &Bytes) -> Result<(), WriteFault>
+    ensures { Puts out.old.items out.new.items result ((then_rest (desc_field ⊗ u32)).spell ((desc, priority), bytes.now)) }
+{
+    put_u64(out, desc.0)?;
+    put_u32(out, priority)?;
+    out.extend_from_slice(bytes.as_slice())?;
+    Ok(())
+}
+
+#[tactic(auto, using(ipc_fields::proofs::Joins::joins))]
+fn put_receive(out: &mut Vec<u8>, desc: Desc, length: u32) -> Result<(), WriteFault>
+    ensures { Puts out.old.items out.new.items result ((only (desc_field ⊗ u32)).spell (desc, length)) }
+{
+    put_u64(out, desc.0)?;
+    put_u32(out, length)
+}
+
+#[tactic(auto, using(ipc_fields::proofs::Joins::joins))]
+fn put_described_flag(out: &mut Vec<u8>, desc: Desc, flag: bool) -> Result<(), WriteFault>
+    ensures { Puts out.old.items out.new.items result ((only (desc_field ⊗ boolean)).spell (desc, flag)) }
+{
+    put_u64(out, desc.0)?;
+    put_bool(out, flag)
+}
+
+#[tactic(auto, using(ipc_fields::proofs::Joins::joins))]
+fn put_listing(out: &mut Vec<u8>, family: Family, start: u32, count: u16) -> Result<(), WriteFault>
+    ensures { Puts out.old.items out.new.items result ((only (family_field ⊗ u32 ⊗ u16)).spell (family, (start, count))) }
+{
+    put_family(out, family)?;
+    put_u32(out, start)?;
+    put_u16(out, count)
+}
+
+#[tactic(auto, using(ipc_fields::proofs::Joins::joins))]
+fn put_chmod(out: &mut Vec<u8>, mode: Mode, target: &Target) -> Result<(), WriteFault>
+    ensures { Puts out.old.items out.new.items result ((only (mode_field ⊗ target_field)).spell (mode, target.now)) }
+{
+    put_u16(out, mode.0)?;
+    put_target(out, target)
+}
+
+#[tactic(auto, using(ipc_fields::proofs::Joins::joins))]
+fn put_chown(
+    out: &mut Vec<u8>,
+    owner: Option<Uid>,
+    group: Option<Gid>,
+    target: &Target,
+) -> Result<(), WriteFault>
+    ensures { Puts out.old.items out.new.items result ((only (optional uid_field ⊗ optional gid_field ⊗ target_field)).spell (owner, (group, target.now))) }
+{
+    put_optional_uid(out, owner)?;
+    put_optional_gid(out, group)?;
+    put_target(out, target)
+}
+
+#[tactic(auto, using(ipc_fields::proofs::Joins::joins))]
+fn put_set_limit(out: &mut Vec<u8>, uid: Uid, limit: u64) -> Result<(), WriteFault>
+    ensures { Puts out.old.items out.new.items result ((only (uid_field ⊗ u64)).spell (uid, limit)) }
+{
+    put_u32(out, uid.0)?;
+    put_u64(out, limit)
+}
+
+#[tactic(auto, using(ipc_fields::proofs::Joins::joins))]
+fn put_audit(out: &mut Vec<u8>, start: u64, count: u16) -> Result<(), WriteFault>
+    ensures { Puts out.old.items out.new.items result ((only (u64 ⊗ u16)).spell (start, count)) }
+{
+    put_u64(out, start)?;
+    put_u16(out, count)
+}
+
+#[tactic(auto, using(ipc_fields::proofs::Joins::joins), unfolding(crate::specs::Requests::request_with))]
+fn put_fields(out: &mut Vec<u8>, request: &Request) -> Result<(), WriteFault>
+    ensures { Puts out.old.items out.new.items result (request_fields request.now) }
+{
+    let call = match request {
+        Request::Hello(key) => return put_text(out, key.as_slice()),
+        Request::Do(call) => call,
+    };
+    match call {
+        Call::Umask(mask) => put_u16(out, mask.0),
+        Call::MqOpen(asked) => put_queue_open(out, asked),
+        Call::MqUnlink(name) | Call::SemUnlink(name) => put_text(out, name.as_slice()),
+        Call::MqClose(desc)
+        | Call::MqGetattr(desc)
+        | Call::SemClose(desc)
+        | Call::SemPost(desc)
+        | Call::SemWait(desc)
+        | Call::SemTryWait(desc)
+        | Call::SemGetvalue(desc) => put_u64(out, desc.0),
+        Call::MqSend {
+            desc,
+            priority,
+            bytes,
+        } => put_send(out, *desc, *priority, bytes),
+        Call::MqReceive { desc, length } => put_receive(out, *desc, *length),
+        Call::MqSetattr { desc, nonblock } => put_described_flag(out, *desc, *nonblock),
+        Call::MqNotify { desc, on } => put_described_flag(out, *desc, *on),
+        Call::SemOpen(asked) => put_semaphore_open(out, asked),
+        Call::ListNames {
+            family,
+            start,
+            count,
+        } => put_listing(out, *family, *start, *count),
+        Call::StatName(target) => put_target(out, target),
+        Call::Chmod { mode, target } => put_chmod(out, *mode, target),
+        Call::Chown {
+            owner,
+            group,
+            target,
+        } => put_chown(out, *owner, *group, target),
+        Call::SetLimit { uid, bytes } => put_set_limit(out, *uid, *bytes),
+        Call::Interrupt => Ok(()),
+        Call::Audit { start, count } => put_audit(out, *start, *count),
+    }
+}
+
+#[tactic(auto, using(ipc_fields::proofs::Joins::joins), unfolding(crate::specs::Requests::request_body))]
+fn put_request(out: &mut Vec<u8>, request: &Request) -> Result<(), WriteFault>
+    ensures { Puts out.old.items out.new.items result (request_body request.now) }
+{
+    out.push(request.op().byte())?;
+    put_fields(out, request)
+}
+
+/// The one frame of a request. Flags that mean nothing to the call are left out. `TooLong` where a text
+/// has more than 65,535 bytes, or the body more than `MAX_BODY`.
+#[tactic(auto, unfolding(ipc_fields::specs::Frame::framed))]
+pub fn write_request(alloc: Global, request: &Request) -> Result<Vec<u8>, WriteFault>
+    ensures spelled { IfOk result (λ bytes. spell request.now ≡ Some bytes.items) }
+    ensures too_long { IsErrOf result WriteFault.TooLong → spell request.now ≡ None }
+{
+    let mut body = Vec::new(alloc);
+    put_request(&mut body, request)?;
+    framed(alloc, &body)
+}
