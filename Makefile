@@ -15,6 +15,7 @@ build:
 install: build
 	install -D -m 755 $(PROGRAM) $(DESTDIR)$(PREFIX)/bin/mqserve
 
-# The whole gate, from nothing. Its last line is 'N passed, M failed'.
+# The whole gate, from nothing. Its last line is 'N passed, M failed'. Each proof gets one job: a second one costs more
+# processor time than it saves while other proofs wait.
 test:
-	@rt ci
+	@RT_JOBS=$${RT_JOBS:-$$(nproc)} rt ci
