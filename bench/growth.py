@@ -149,7 +149,7 @@ def microseconds(n, script, without, runs):
 
 COLOURS = ("#1b9e77", "#d95f02", "#7570b3", "#e7298a", "#66a61e", "#e6ab02", "#a6761d", "#666666")
 
-LEFT, TOP, WIDTH, HEIGHT, KEYS = 70, 20, 420, 320, 270
+LEFT, TOP, WIDTH, HEIGHT, KEYS = 70, 40, 420, 320, 270
 
 
 def plot(curves):
@@ -175,7 +175,7 @@ def plot(curves):
     for index, size in enumerate(SIZES):
         lines.append(f'<text x="{across(index):.1f}" y="{TOP + HEIGHT + 20}" text-anchor="middle">{size:,}</text>')
     lines.append(f'<text x="{LEFT + WIDTH / 2}" y="{TOP + HEIGHT + 45}" text-anchor="middle">number</text>')
-    lines.append(f'<text x="{LEFT}" y="{TOP - 6}" text-anchor="middle">microseconds a step</text>')
+    lines.append(f'<text x="{LEFT}" y="{TOP - 18}" text-anchor="middle">microseconds a step</text>')
     for (name, costs), colour, row in zip(curves, COLOURS, range(len(curves))):
         points = " ".join(f"{across(index):.1f},{up(cost):.1f}" for index, cost in enumerate(costs))
         y = TOP + 10 + 20 * row
