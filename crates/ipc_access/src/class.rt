@@ -4,55 +4,13 @@ ghost use Rattle.std.specs.Prelude.{◌≡◌, ◌==◌};
 ghost use Rattle.std.specs.List.{list_any};
 ghost use Rattle.ipc_access.specs.Class.{class, class_bits, granted, belongs_to};
 
-use ipc_terms::{Gid, Mode, Uid};
-use std::marker::Model;
+use ipc_terms::{Gid, Items, Mode, Uid};
 
-/// The supplementary groups of a user, in the order of the user file; seen as their list.
-#[derive(Drop)]
-pub struct Groups {
-    ids: Vec<Gid>,
-}
+/// The supplementary groups of a user, in the order of the user file.
+pub type Groups = Items<Gid>;
 
-impl Model for Groups {
-    ghost use Rattle.std.specs.Prelude.{List};
-    ghost use Rattle.ipc_terms.specs.declared.ids.Gid.{Gid};
-
-    ghost Value = { List Gid };
-
-    ghost view = { λ a. a.ids.items };
-}
-
-impl Groups {
-    /// These groups. Takes no memory.
-    pub fn new(ids: Vec<Gid>) -> Self
-        ensures { result ≡ ids.items }
-    {
-        Self { ids }
-    }
-
-    pub fn as_slice(&self) -> &[Gid]
-        ensures { result.now ≡ self.now }
-    {
-        self.ids.as_slice()
-    }
-
-    /// The groups, given back. Takes no memory.
-    pub fn into_vec(self) -> Vec<Gid>
-        ensures { result.items ≡ self }
-    {
-        let Groups { ids } = self;
-        ids
-    }
-
-    /// Whether the group is one of them.
-    pub fn has(&self, group: Gid) -> bool
-        ensures { result ≡ list_any (λ g. g.0 == group.0) self.now }
-    {
-        any_is(&self.ids, group)
-    }
-}
-
-fn any_is(ids: &[Gid], group: Gid) -> bool
+/// Whether the group is one of them.
+fn is_among(ids: &[Gid], group: Gid) -> bool
     ensures { result ≡ list_any (λ g. g.0 == group.0) ids.now }
 {
     ids.iter().any(|g| g.0 == group.0)
@@ -73,7 +31,7 @@ impl Cred {
     pub fn is_in(&self, group: Gid) -> bool
         ensures { result ≡ belongs_to self.now group }
     {
-        self.gid.0 == group.0 || self.groups.has(group)
+        self.gid.0 == group.0 || is_among(self.groups.as_slice(), group)
     }
 
     /// User 0 passes every rule on modes.

@@ -1,3 +1,4 @@
 pub mod Answering
 pub mod BoxSteps
+pub mod BoxTables
 pub mod Noticing

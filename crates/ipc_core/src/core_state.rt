@@ -2,7 +2,7 @@
 
 ghost use Rattle.std.specs.Prelude.{◌≡◌, ◌≤◌, ◌++◌, [], IfOk, IfErr, OnOk, OnErr, length, map, take, MatchOption};
 ghost use Rattle.ipc_terms.specs.Lists.{changed};
-ghost use Rattle.ipc_outboxes.specs.Boxes.{box_at, taken};
+ghost use Rattle.ipc_core.specs.Boxes.{box_at, taken};
 ghost use Rattle.ipc_policy.specs.History.{listed};
 ghost use Rattle.ipc_policy.specs.Verdict.{verdict, answers, Legal, all_answers};
 ghost use Rattle.ipc_core.specs.Outboxes.{BoxesAgree, told_list, after_step, after_steps};
@@ -10,8 +10,8 @@ ghost use Rattle.ipc_state.specs.Ranges.{first_bad};
 
 use crate::answer::{Posted, Told, answers_to, session_of};
 use crate::fault::CoreFault;
+use crate::outboxes::Outboxes;
 use crate::posting::{make_room, put_all, starts};
-use ipc_outboxes::Outboxes;
 use ipc_policy::Config;
 use ipc_rules::decide;
 use ipc_state::{State, first_bad};

@@ -6,6 +6,7 @@ mod answer;
 mod core_state;
 mod fault;
 pub mod laws;
+mod outboxes;
 mod posting;
 
 pub use answer::Posted;

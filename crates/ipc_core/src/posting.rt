@@ -3,11 +3,11 @@
 ghost use Rattle.std.specs.Prelude.{◌≡◌, ℕ, ◌||◌, true, Some, OnOk};
 ghost use Rattle.ipc_policy.specs.History.{listed};
 ghost use Rattle.ipc_policy.specs.Sessions.{live};
-ghost use Rattle.ipc_outboxes.specs.Boxes.{HasRoom};
+ghost use Rattle.ipc_core.specs.Boxes.{HasRoom};
 ghost use Rattle.ipc_core.specs.Outboxes.{HasRooms, told_list, starts, with_box, posted};
 
 use crate::answer::Told;
-use ipc_outboxes::Outboxes;
+use crate::outboxes::Outboxes;
 use ipc_state::State;
 use ipc_terms::{Answer, Event, NoMemory, Rule, Sid};
 

@@ -1,15 +1,11 @@
--- How often each object is held, and by which descriptions each session holds something.
-use Rattle.std.specs.Prelude.{◌≡◌, Bool, ℕ, ◌+◌, List, [], Option, Some, None, unwrap_or, map, filter, count_by, if◌then◌else◌}
+-- By which descriptions each session holds something.
+use Rattle.std.specs.Prelude.{◌≡◌, Bool, ℕ, ◌+◌, List, [], Option, Some, None, map, filter, count_by, if◌then◌else◌}
 use Rattle.std.specs.Ordering.{nat_cmp}
 use Rattle.std.specs.BTreeMap.{BTreeMap}
 use Rattle.std.specs.BTreeMap as tree
 use Rattle.std.specs.BTreeSet.{BTreeSet}
 use Rattle.ipc_descr.specs.declared.row.Row.{Row}
 use Rattle.ipc_descr.specs.Descriptions.{number, is_of, without_desc}
-
--- the count at a key; nothing there is none
-abbrev pub count_of : BTreeMap ℕ ℕ → ℕ → ℕ
-count_of counts key = unwrap_or (tree.get nat_cmp counts key) 0
 
 -- what is in the set, if there is one
 abbrev pub in_set : Option (BTreeSet ℕ) → List ℕ

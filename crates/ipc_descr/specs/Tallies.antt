@@ -1,9 +1,10 @@
 -- What is kept beside the rows so that no question goes through them.
 use Rattle.std.specs.Prelude.{◌≡◌, ℕ, List, count_by}
+use Rattle.ipc_terms.specs.Counting.{count_of}
 use Rattle.ipc_descr.specs.declared.row.Row.{Row}
 use Rattle.ipc_descr.specs.declared.tallies.Tallies.{Tallies}
 use Rattle.ipc_descr.specs.Descriptions.{is_to}
-use Rattle.ipc_descr.specs.Counting.{count_of, numbers_of, numbers_held}
+use Rattle.ipc_descr.specs.Counting.{numbers_of, numbers_held}
 
 -- session by session the set has the numbers of the rows, and object by object the count has the rows
 pub record Agrees (tallies : Tallies) (rows : List Row) : Type 0 where

@@ -3,7 +3,6 @@
 #![tactic(auto)]
 
 mod charges;
-mod counts;
 mod descriptions;
 mod row;
 mod sets;

@@ -12,7 +12,8 @@ use Rattle.std.proofs.lemmas.List.Sums.{count_by-le-length}
 use Rattle.ipc_terms.specs.declared.binding.Binding.{Binding}
 use Rattle.ipc_terms.proofs.Lists.{counted, counted_is, count_push}
 use Rattle.ipc_names.specs.Directory.{object_named, without_name, names_object, bound_names}
-use Rattle.ipc_names.specs.Counting.{bindings_of, is_to, count_of, Counts}
+use Rattle.ipc_terms.specs.Counting.{count_of}
+use Rattle.ipc_names.specs.Counting.{bindings_of, is_to, Counts}
 
 -- ---- one object
 

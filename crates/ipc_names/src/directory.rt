@@ -4,10 +4,10 @@ ghost use Rattle.std.specs.Prelude.{◌≡◌, [], ◌∷◌, ◌++◌, None, On
 ghost use Rattle.ipc_terms.specs.Pages.{page};
 ghost use Rattle.ipc_names.specs.Directory.{first_directory, object_named, without_name, names_object, bound_names};
 
-use crate::{counts, listing};
+use crate::listing;
 use indexmap::IndexMap;
 use ipc_access::DirFacts;
-use ipc_terms::{Family, Gid, Mode, Name, Names, NoMemory, Uid, page_of};
+use ipc_terms::{Family, Gid, Mode, Name, Names, NoMemory, Uid, counts, page_of};
 use std::alloc::Global;
 use std::collections::BTreeMap;
 use std::marker::Model;

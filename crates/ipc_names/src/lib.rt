@@ -1,7 +1,6 @@
 //! Names of objects, and the directory of a family.
 #![tactic(auto)]
 
-mod counts;
 mod directory;
 mod form;
 mod listing;

@@ -200,7 +200,7 @@ impl Tables {
     {
         let family = object.kind.family();
         let number = self.objects.created;
-        self.bind(family, name.try_clone()?, number)?;
+        self.bind(family, name.clone()?, number)?;
         if self.add(alloc, grant, object, facts).is_err() {
             unbind(&mut self.queues, &mut self.semaphores, family, name);
             return Err(NoMemory);

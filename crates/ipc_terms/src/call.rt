@@ -5,13 +5,13 @@ ghost use Rattle.std.specs.Option.{option_copied};
 ghost use Rattle.ipc_terms.specs.Lines.{op_of, name_of};
 
 use crate::bytes::Bytes;
+use crate::errors::NoMemory;
 use crate::facts::Facts;
 use crate::flags::OpenFlags;
 use crate::ids::{Desc, Family, Gid, Mode, Sid, Target, Uid};
 use crate::line::Lines;
 use crate::name::{Name, Names};
 use crate::rule::Rule;
-use std::alloc::AllocError;
 
 /// What the caller of an open wants to do with the object (`mq_open`: `O_RDONLY`, `O_WRONLY`, `O_RDWR`).
 #[derive(Clone, Copy, PartialEq, Eq)]
@@ -197,7 +197,7 @@ impl Call {
 }
 
 /// What is answered.
-#[derive(PartialEq, Drop)]
+#[derive(Clone, PartialEq, Drop)]
 pub enum Answer {
     /// To a hello: the new session.
     Started(Sid),
@@ -239,35 +239,10 @@ pub enum Answer {
 }
 
 impl Answer {
-    pub fn try_clone(&self) -> Result<Answer, AllocError>
+    /// An equal answer.
+    pub fn copy(&self) -> Result<Answer, NoMemory>
         ensures { IfOk result (λ copy. copy ≡ self.now) }
     {
-        Ok(match self {
-            Answer::Started(sid) => Answer::Started(*sid),
-            Answer::Done => Answer::Done,
-            Answer::Opened(desc) => Answer::Opened(*desc),
-            Answer::Mask(mask) => Answer::Mask(*mask),
-            Answer::Sent => Answer::Sent,
-            Answer::Received { priority, bytes } => Answer::Received {
-                priority: *priority,
-                bytes: bytes.try_clone()?,
-            },
-            Answer::Attrs {
-                nonblock,
-                attributes,
-                messages,
-            } => Answer::Attrs {
-                nonblock: *nonblock,
-                attributes: *attributes,
-                messages: *messages,
-            },
-            Answer::Value(value) => Answer::Value(*value),
-            Answer::Names(names) => Answer::Names(names.try_clone()?),
-            Answer::Stat(facts) => Answer::Stat(*facts),
-            Answer::Records(lines) => Answer::Records(lines.try_clone()?),
-            Answer::Notice(desc) => Answer::Notice(*desc),
-            Answer::Refused(rule) => Answer::Refused(*rule),
-            Answer::Interrupted => Answer::Interrupted,
-        })
+        Ok(self.clone()?)
     }
 }

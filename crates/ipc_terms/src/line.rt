@@ -1,16 +1,15 @@
 //! Lines of the audit.
 
-ghost use Rattle.std.specs.Prelude.{◌≡◌, List, IfOk};
-ghost use Rattle.std.specs.Cmp.Lexicographic.{pointwise, lists_per};
+ghost use Rattle.std.specs.Prelude.{◌≡◌};
 ghost use Rattle.std.specs.Cmp.Rules.{comparing};
 ghost use Rattle.std.proofs.Common.{rules};
 ghost use Rattle.ipc_terms.specs.Lines.{same_line};
 ghost use Rattle.ipc_terms.specs.declared.line.Line.{Line};
 
 use crate::ids::Sid;
+use crate::items::Items;
 use crate::name::Name;
-use std::alloc::{AllocError, Global};
-use std::marker::Model;
+use std::alloc::AllocError;
 
 /// What the audit shows of a record.
 #[derive(Drop)]
@@ -27,16 +26,16 @@ pub struct Line {
     pub name: Name,
 }
 
-impl Line {
-    fn try_clone(&self) -> Result<Line, AllocError>
-        ensures { IfOk result (λ copy. copy ≡ self.now) }
-    {
+impl Clone for Line {
+    ghost is_clone = { λ line copy. copy ≡ line };
+
+    fn clone(&self) -> Result<Line, AllocError> {
         Ok(Line {
             place: self.place,
             sid: self.sid,
             op: self.op,
             rule: self.rule,
-            name: self.name.try_clone()?,
+            name: self.name.clone()?,
         })
     }
 }
@@ -56,64 +55,4 @@ impl PartialEq for Line {
 }
 
 /// Lines of the audit, in order of their places.
-#[derive(Drop)]
-pub struct Lines {
-    lines: Vec<Line>,
-}
-
-impl Model for Lines {
-    ghost Value = { List Line };
-
-    ghost view = { λ l. l.lines.items };
-}
-
-impl Lines {
-    /// These lines. Takes no memory.
-    pub fn new(lines: Vec<Line>) -> Self
-        ensures { result ≡ lines.items }
-    {
-        Lines { lines }
-    }
-
-    pub fn as_slice(&self) -> &[Line]
-        ensures { result.now ≡ self.now }
-    {
-        &self.lines
-    }
-
-    /// The lines, given back. Takes no memory.
-    pub fn into_vec(self) -> Vec<Line>
-        ensures { result.items ≡ self }
-    {
-        let Lines { lines } = self;
-        lines
-    }
-
-    pub fn try_clone(&self) -> Result<Lines, AllocError>
-        ensures { IfOk result (λ copy. copy ≡ self.now) }
-    {
-        Ok(Lines {
-            lines: copies_of(*self.lines.allocator(), &self.lines)?,
-        })
-    }
-}
-
-fn copies_of(alloc: Global, lines: &[Line]) -> Result<Vec<Line>, AllocError>
-    ensures { IfOk result (λ copies. copies.items ≡ lines.now) }
-{
-    let mut copies = Vec::with_capacity(alloc, lines.len())?;
-    for line in lines {
-        copies.push(line.try_clone()?)?;
-    }
-    Ok(copies)
-}
-
-impl PartialEq for Lines {
-    ghost eq = { pointwise same_line };
-
-    ghost laws = { lists_per (Prim.search (comparing, rules)) };
-
-    fn eq(&self, other: &Lines) -> bool {
-        self.lines.as_slice() == other.lines.as_slice()
-    }
-}
+pub type Lines = Items<Line>;

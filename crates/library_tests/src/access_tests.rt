@@ -109,13 +109,11 @@ fn an_owner_gives_to_its_own_groups_alone(rt: HostRuntime) -> Result<(), Fail> {
     Ok(())
 }
 
-/// Whether the user, of group 1001 and the list of 50 and 51, is in these three and not in 52, and its
-/// own group is in no list.
+/// Whether the user, of group 1001, has the list of 50 and 51, and is in these three and not in 52.
 fn is_bob(bob: &Cred) -> bool {
     let is_member = bob.is_in(Gid(1001)) && bob.is_in(Gid(51)) && !bob.is_in(Gid(52));
-    let is_listed = bob.groups.has(Gid(51)) && !bob.groups.has(Gid(1001));
     let has_groups = bob.groups.as_slice() == [Gid(50), Gid(51)].as_slice();
-    is_member && is_listed && has_groups && bob.gid == Gid(1001) && bob.limit == 819_200
+    is_member && has_groups && bob.gid == Gid(1001) && bob.limit == 819_200
 }
 
 #[test]

@@ -177,67 +177,89 @@ fn are_counted(descrs: &Descrs, lists: &Lists, session: u64) -> bool {
     descrs.count(Sid(session)) == held && descrs.uses(QUEUE) == lists.held.len()
 }
 
-/// Makes the step, and says whether all agree on it.
-fn agree(
-    alloc: Global,
-    (core, descrs, lists): (&mut Core, &mut Descrs, &mut Lists),
-    (session, asked): (u64, Asked),
-) -> Result<bool, Fail> {
-    let wanted = lists.step(session, &asked)?;
-    follow(descrs, session, &wanted, &asked)?;
-    let call = call_of(alloc, &asked)?;
-    let answers = core.step(
-        alloc,
-        Event::Do {
-            sid: Sid(session),
-            call,
-        },
-    )?;
-    core.take(Sid(session));
-    Ok(match answers.as_slice() {
-        [(to, answer)] => {
-            to.0 == session && is_wanted(answer, &wanted) && are_counted(descrs, lists, session)
+/// The core, the descriptions by themselves, and the lists.
+#[derive(Drop)]
+struct Compared {
+    core: Core,
+    descrs: Descrs,
+    lists: Lists,
+}
+
+impl Compared {
+    /// A core with three sessions of one user, no descriptions, and empty lists.
+    fn new(alloc: Global) -> Result<Compared, Fail> {
+        Ok(Compared {
+            core: core_of_three(alloc)?,
+            descrs: Descrs::new(alloc),
+            lists: Lists {
+                held: Vec::new(alloc),
+                messages: Vec::new(alloc),
+                opens: 0,
+            },
+        })
+    }
+
+    /// Makes the step, and says whether all agree on it.
+    fn agree(&mut self, alloc: Global, session: u64, asked: &Asked) -> Result<bool, Fail> {
+        let wanted = self.lists.step(session, asked)?;
+        follow(&mut self.descrs, session, &wanted, asked)?;
+        let call = call_of(alloc, asked)?;
+        let answers = self.core.step(
+            alloc,
+            Event::Do {
+                sid: Sid(session),
+                call,
+            },
+        )?;
+        self.core.take(Sid(session));
+        Ok(match answers.as_slice() {
+            [(to, answer)] => {
+                to.0 == session
+                    && is_wanted(answer, &wanted)
+                    && are_counted(&self.descrs, &self.lists, session)
+            }
+            _ => false,
+        })
+    }
+
+    /// The first event on which they disagree, if there is one.
+    fn first_disagreement(&mut self, alloc: Global) -> Result<Option<u32>, Fail> {
+        let mut random: u64 = 1;
+        for number in 0..EVENTS {
+            random = random
+                .wrapping_mul(6_364_136_223_846_793_005)
+                .wrapping_add(1_442_695_040_888_963_407);
+            let (session, asked) = self.lists.asked(random, number);
+            if !self.agree(alloc, session, &asked)? {
+                return Ok(Some(number));
+            }
         }
-        _ => false,
-    })
+        Ok(None)
+    }
 }
 
 /// A core with three sessions of one user.
 fn core_of_three(alloc: Global) -> Result<Core, Fail> {
-    let config = Config {
-        users: Users::read(alloc, b"ann:ka1:1000:1000::\n")?,
-        limits: Limits::STANDARD,
-    };
-    let mut core = Core::new(alloc, config)?;
-    for _ in 0..SESSIONS {
-        core.step(
-            alloc,
-            Event::Hello {
-                found: Some(Uid(1000)),
-            },
-        )?;
-    }
+    let users = Users::read(alloc, b"ann:ka1:1000:1000::\n")?;
+    let limits = Limits::STANDARD;
+    let mut core = Core::new(alloc, Config { users, limits })?;
+    start_sessions(&mut core, alloc)?;
     Ok(core)
+}
+
+fn start_sessions(core: &mut Core, alloc: Global) -> Result<(), Fail> {
+    for _ in 0..SESSIONS {
+        let found = Some(Uid(1000));
+        core.step(alloc, Event::Hello { found })?;
+    }
+    Ok(())
 }
 
 #[test]
 fn many_events_are_answered_as_plain_lists_say(rt: HostRuntime) -> Result<(), Fail> {
-    let mut core = core_of_three(rt.alloc())?;
-    let mut descrs = Descrs::new(rt.alloc());
-    let mut lists = Lists {
-        held: Vec::new(rt.alloc()),
-        messages: Vec::new(rt.alloc()),
-        opens: 0,
-    };
-    let mut random: u64 = 1;
-    for number in 0..EVENTS {
-        random = random
-            .wrapping_mul(6_364_136_223_846_793_005)
-            .wrapping_add(1_442_695_040_888_963_407);
-        let asked = lists.asked(random, number);
-        if !agree(rt.alloc(), (&mut core, &mut descrs, &mut lists), asked)? {
-            return Err(Fail::new(format_args!("event {number} is answered otherwise")));
-        }
+    let mut compared = Compared::new(rt.alloc())?;
+    match compared.first_disagreement(rt.alloc())? {
+        Some(number) => Err(Fail::new(format_args!("event {number} is answered otherwise"))),
+        None => Ok(()),
     }
-    Ok(())
 }

@@ -9,14 +9,14 @@ use std::test::Fail;
 /// Whether a copy of the bytes is equal to them, and they come back as they went in.
 fn keeps_bytes(alloc: Global, text: &str) -> Result<bool, NoMemory> {
     let bytes = Bytes::new(Vec::from_slice(alloc, text.as_bytes())?);
-    let copy = bytes.try_clone()?;
+    let copy = bytes.clone()?;
     Ok(bytes == copy && bytes.as_slice() == copy.into_vec().as_slice())
 }
 
 /// Whether a copy of the name is equal to it, and its bytes come back as they went in.
 fn keeps_name(alloc: Global, text: &str) -> Result<bool, NoMemory> {
     let made = name(alloc, text.as_bytes())?;
-    let copy = made.try_clone()?;
+    let copy = made.clone()?;
     Ok(made.is(&copy) && made.as_slice() == copy.into_bytes().as_slice())
 }
 
