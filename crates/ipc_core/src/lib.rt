@@ -6,8 +6,10 @@ mod answer;
 mod core_state;
 mod fault;
 pub mod laws;
+mod message;
 mod outboxes;
 mod posting;
+mod questions;
 
 pub use answer::Posted;
 pub use core_state::Core;

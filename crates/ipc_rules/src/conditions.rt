@@ -10,6 +10,7 @@ ghost use Rattle.ipc_policy.specs.Charges.{bytes_of};
 ghost use Rattle.ipc_terms.specs.declared.object.TheConstants.{SEM_VALUE_MAX};
 ghost use Rattle.ipc_policy.specs.Rules.{there_is, is_not_admin, above_limit, is_of_family, denied, denied_at, removal_denied, change_denied, reads_only, writes_only, bits_wanted, out_of_range};
 
+use crate::questions::{charged, limit};
 use ipc_access::{Cred, grants, may_chmod, may_chown, may_remove};
 use ipc_descr::checked_bytes_of;
 use ipc_policy::{Config, HARD_MSG_MAX, HARD_MSGSIZE_MAX, Held, kind_of};
@@ -202,8 +203,8 @@ pub fn is_above_limit(state: &State, who: Option<&Cred>, given: Option<Attribute
     let (Some(who), Some(given)) = (who, given) else {
         return false;
     };
-    match state.limit(who.uid) {
-        Some(most) => takes_more(most, state.charged(who.uid), given),
+    match limit(state, who.uid) {
+        Some(most) => takes_more(most, charged(state, who.uid), given),
         None => false,
     }
 }

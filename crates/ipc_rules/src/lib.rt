@@ -2,6 +2,7 @@
 #![tactic(auto)]
 
 mod conditions;
+mod questions;
 mod rules;
 
 pub use rules::{decide, forbids};

@@ -10,6 +10,9 @@ use crate::conditions::{
     is_denied, is_denied_at, is_known, is_not_admin, is_of_family, is_out_of_range, is_read_only,
     is_removal_denied, is_too_great, is_too_long, is_too_short, is_write_only, queue_made,
 };
+use crate::questions::{
+    cred, directory, held, held_count, is_bound, is_parked, is_registered, queues_alive,
+};
 use ipc_names::{has_form, is_long};
 use ipc_policy::{
     DESCRIPTIONS_MAX, LIMIT_MAX, MQ_PRIO_MAX, Opening, description_of, naming_of, opening_of,
@@ -90,7 +93,7 @@ fn in_call(state: &State, event: &Event) -> bool
             call: Call::Interrupt,
             ..
         } => false,
-        Event::Do { sid, .. } => state.is_parked(*sid),
+        Event::Do { sid, .. } => is_parked(state, *sid),
         _ => false,
     }
 }
@@ -104,7 +107,7 @@ fn not_in_call(state: &State, event: &Event) -> bool
         Event::Do {
             sid,
             call: Call::Interrupt,
-        } => !state.is_parked(*sid),
+        } => !is_parked(state, *sid),
         _ => false,
     }
 }
@@ -140,7 +143,7 @@ fn not_admin(state: &State, event: &Event) -> bool
         Event::Do {
             sid,
             call: Call::SetLimit { .. } | Call::Audit { .. },
-        } => is_not_admin(state.cred(*sid)),
+        } => is_not_admin(cred(state, *sid)),
         _ => false,
     }
 }
@@ -183,7 +186,7 @@ fn not_for_write(state: &State, event: &Event) -> bool
         Event::Do {
             sid,
             call: Call::MqSend { desc, .. },
-        } => is_read_only(state.held(*sid, *desc)),
+        } => is_read_only(held(state, *sid, *desc)),
         _ => false,
     }
 }
@@ -197,7 +200,7 @@ fn not_for_read(state: &State, event: &Event) -> bool
         Event::Do {
             sid,
             call: Call::MqReceive { desc, .. },
-        } => is_write_only(state.held(*sid, *desc)),
+        } => is_write_only(held(state, *sid, *desc)),
         _ => false,
     }
 }
@@ -208,7 +211,7 @@ fn dir_search(state: &State, event: &Event) -> bool
     ensures { result ≡ dir_search state.now.config state.now.history event.now }
 {
     match naming_of(event) {
-        Some(what) => is_denied(state.cred(what.session), state.directory(what.family), 1),
+        Some(what) => is_denied(cred(state, what.session), directory(state, what.family), 1),
         None => false,
     }
 }
@@ -222,7 +225,7 @@ fn dir_read(state: &State, event: &Event) -> bool
         Event::Do {
             sid,
             call: Call::ListNames { family, .. },
-        } => { is_denied(state.cred(*sid), state.directory(*family), 4) }
+        } => { is_denied(cred(state, *sid), directory(state, *family), 4) }
         _ => false,
     }
 }
@@ -233,10 +236,10 @@ fn absent(state: &State, event: &Event) -> bool
     ensures { result ≡ absent state.now.config state.now.history event.now }
 {
     if let Some(asked) = opening_of(event) {
-        return !asked.flags.creates() && !state.is_bound(asked.family, asked.name);
+        return !asked.flags.creates() && !is_bound(state, asked.family, asked.name);
     }
     match naming_of(event) {
-        Some(what) => !state.is_bound(what.family, what.name),
+        Some(what) => !is_bound(state, what.family, what.name),
         None => false,
     }
 }
@@ -250,7 +253,7 @@ fn present(state: &State, event: &Event) -> bool
         Some(asked) => {
             asked.flags.creates()
                 && asked.flags.is_exclusive()
-                && state.is_bound(asked.family, asked.name)
+                && is_bound(state, asked.family, asked.name)
         }
         None => false,
     }
@@ -263,7 +266,7 @@ fn mode_denied(state: &State, event: &Event) -> bool
 {
     match opening_of(event) {
         Some(asked) => is_denied_at(
-            state.cred(asked.session),
+            cred(state, asked.session),
             state.facts_bound(asked.family, asked.name),
             bits_of(asked.access),
         ),
@@ -278,10 +281,14 @@ fn dir_write(state: &State, event: &Event) -> bool
 {
     if let Some(asked) = opening_of(event) {
         return is_creating(state, &asked)
-            && is_denied(state.cred(asked.session), state.directory(asked.family), 2);
+            && is_denied(
+                cred(state, asked.session),
+                directory(state, asked.family),
+                2,
+            );
     }
     match unlinking_of(event) {
-        Some(what) => is_denied(state.cred(what.session), state.directory(what.family), 2),
+        Some(what) => is_denied(cred(state, what.session), directory(state, what.family), 2),
         None => false,
     }
 }
@@ -294,8 +301,8 @@ fn sticky(state: &State, event: &Event) -> bool
 {
     match unlinking_of(event) {
         Some(what) => is_removal_denied(
-            state.cred(what.session),
-            state.directory(what.family),
+            cred(state, what.session),
+            directory(state, what.family),
             state.facts_bound(what.family, what.name),
         ),
         None => false,
@@ -311,7 +318,7 @@ fn not_owner(state: &State, event: &Event) -> bool
         Event::Do {
             sid,
             call: Call::Chmod { target, .. },
-        } => is_chmod_denied(state.cred(*sid), state.facts_meant(target)),
+        } => is_chmod_denied(cred(state, *sid), state.facts_meant(target)),
         _ => false,
     }
 }
@@ -330,7 +337,7 @@ fn chown_denied(state: &State, event: &Event) -> bool
                 group,
                 target,
             },
-        } => is_chown_denied(state.cred(*sid), state.facts_meant(target), *owner, *group),
+        } => is_chown_denied(cred(state, *sid), state.facts_meant(target), *owner, *group),
         _ => false,
     }
 }
@@ -344,7 +351,7 @@ fn attr_range(state: &State, event: &Event) -> bool
         Some(asked) => {
             let given = attributes_asked(asked.kind);
             is_creating(state, &asked)
-                && is_out_of_range(state.config(), state.cred(asked.session), given)
+                && is_out_of_range(state.config(), cred(state, asked.session), given)
         }
         None => false,
     }
@@ -379,8 +386,8 @@ fn queue_count(state: &State, event: &Event) -> bool
     };
     is_creating(state, &asked)
         && queue_made(state.config(), asked.kind).is_some()
-        && is_not_admin(state.cred(asked.session))
-        && state.config().limits.queues_max as usize <= state.queue_count()
+        && is_not_admin(cred(state, asked.session))
+        && state.config().limits.queues_max as usize <= queues_alive(state)
 }
 
 /// A creating open of a queue, and the caller's queues and the new one take more bytes together than
@@ -395,7 +402,7 @@ fn byte_limit(state: &State, event: &Event) -> bool
     is_creating(state, &asked)
         && is_above_limit(
             state,
-            state.cred(asked.session),
+            cred(state, asked.session),
             queue_made(state.config(), asked.kind),
         )
 }
@@ -406,7 +413,7 @@ fn descr_limit(state: &State, event: &Event) -> bool
     ensures { result ≡ descr_limit state.now.config state.now.history event.now }
 {
     match opening_of(event) {
-        Some(asked) => state.held_count(asked.session) >= DESCRIPTIONS_MAX,
+        Some(asked) => held_count(state, asked.session) >= DESCRIPTIONS_MAX,
         None => false,
     }
 }
@@ -467,7 +474,7 @@ fn notify_taken(state: &State, event: &Event) -> bool
         Event::Do {
             sid,
             call: Call::MqNotify { desc, on },
-        } => *on && state.is_registered(*sid, *desc),
+        } => *on && is_registered(state, *sid, *desc),
         _ => false,
     }
 }
@@ -520,5 +527,5 @@ fn bad_key(state: &State, event: &Event) -> bool
 fn is_creating(state: &State, asked: &Opening) -> bool
     ensures { result ≡ creating state.now.history asked.now }
 {
-    asked.flags.creates() && !state.is_bound(asked.family, asked.name)
+    asked.flags.creates() && !is_bound(state, asked.family, asked.name)
 }

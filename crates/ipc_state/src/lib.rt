@@ -6,9 +6,7 @@ mod accept;
 mod changing;
 mod limits;
 mod looking;
-mod message;
 mod states;
 
 pub use limits::{Field, first_bad};
-pub use message::Message;
 pub use states::State;

@@ -1,17 +1,13 @@
 //! What is looked up in the tables.
 
-ghost use Rattle.std.specs.Prelude.{◌≡◌, ◌==◌, length, slice_get, is_some, option_and_then};
+ghost use Rattle.std.specs.Prelude.{◌≡◌, ◌==◌, length, option_and_then};
 ghost use Rattle.std.specs.Option.{option_map, option_copied};
-ghost use Rattle.ipc_access.specs.Users.{cred_of};
 ghost use Rattle.ipc_descr.specs.Descriptions.{row_of};
 ghost use Rattle.ipc_queue.specs.Tickets.{is_full_of};
 ghost use Rattle.ipc_tables.specs.Objects.{row_at, facts_at, queue_at, semaphore_at};
-ghost use Rattle.ipc_tables.specs.Kept.{live_at, parked_on_at};
+ghost use Rattle.ipc_tables.specs.Kept.{live_at};
 ghost use Rattle.ipc_policy.specs.History.{there_is};
-ghost use Rattle.ipc_state.specs.Agrees.{held_in};
 
-use ipc_access::Cred;
-use ipc_policy::{Config, Held};
 use ipc_queue::Queue;
 use ipc_sem::Sem;
 use ipc_tables::Tables;
@@ -26,42 +22,11 @@ pub fn is_live(tables: &Tables, sid: Sid) -> bool
     }
 }
 
-/// Whether the session's call is parked.
-pub fn is_parked(tables: &Tables, sid: Sid) -> bool
-    ensures { result ≡ is_some (parked_on_at tables.now.sessions sid.0) }
-{
-    match tables.session(sid) {
-        Some(session) => session.parked_on.is_some(),
-        None => false,
-    }
-}
-
-/// Who the session's user is.
-pub fn cred<'a>(config: &'a Config, tables: &Tables, sid: Sid) -> Option<&'a Cred>
-    ensures { option_copied result ≡ option_and_then (λ row. cred_of config.now.users row.user) (slice_get tables.now.sessions sid.0) }
-{
-    match tables.session(sid) {
-        Some(session) => config.users.cred(session.user),
-        None => None,
-    }
-}
-
 /// The number of the object that the session has by the description.
 pub fn object_number(tables: &Tables, sid: Sid, desc: Desc) -> Option<u64>
     ensures { result ≡ option_map (λ row. row.object) (row_of tables.now.descriptions.rows sid.0 desc.0) }
 {
     tables.descriptions().get(sid, desc).map(|row| row.object)
-}
-
-/// What the session holds by the description.
-pub fn held(tables: &Tables, sid: Sid, desc: Desc) -> Option<Held>
-    ensures { result ≡ option_map held_in (row_of tables.now.descriptions.rows sid.0 desc.0) }
-{
-    tables.descriptions().get(sid, desc).map(|row| Held {
-        session: row.session,
-        object: row.object,
-        access: row.access,
-    })
 }
 
 /// Whether the session holds the description, and its calls are refused where they would wait.

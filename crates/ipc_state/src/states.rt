@@ -1,42 +1,33 @@
 //! The state of a server: what it is asked is answered in the policy's words.
 
-ghost use Rattle.std.specs.Prelude.{◌≡◌, length, is_some, option_and_then, IsTrue, IsSome, None, [], IfOk, OnOk, OnErr};
+ghost use Rattle.std.specs.Prelude.{◌≡◌, option_and_then, IsSome, None, [], IfOk, OnOk, OnErr};
 ghost use Rattle.std.specs.Option.{option_map, option_copied};
-ghost use Rattle.ipc_terms.specs.Lists.{first};
-ghost use Rattle.ipc_terms.specs.Pages.{page};
-ghost use Rattle.ipc_policy.specs.Sessions.{hellos, live, cred, mask};
-ghost use Rattle.ipc_policy.specs.Names.{is_bound, bound};
+ghost use Rattle.ipc_policy.specs.Sessions.{live};
+ghost use Rattle.ipc_policy.specs.Names.{bound};
 ghost use Rattle.ipc_policy.specs.Objects.{facts, directory, facts_meant};
-ghost use Rattle.ipc_policy.specs.Descriptions.{opens, holds, held_count, is_nonblock};
-ghost use Rattle.ipc_policy.specs.Life.{names};
-ghost use Rattle.ipc_policy.specs.Queues.{next};
-ghost use Rattle.ipc_policy.specs.Parking.{parked};
+ghost use Rattle.ipc_policy.specs.Descriptions.{holds, is_nonblock};
 ghost use Rattle.ipc_policy.specs.Registrations.{registered};
-ghost use Rattle.ipc_policy.specs.Charges.{queues_alive, limit, charged};
 ghost use Rattle.ipc_policy.specs.Rules.{there_is, object_held, is_full, is_empty, is_zero, is_greatest};
 ghost use Rattle.ipc_policy.specs.Verdict.{verdict, Legal};
 ghost use Rattle.ipc_state.specs.Ranges.{first_bad};
-ghost use Rattle.ipc_state.specs.Past.{brought, queue_by, semaphore_by, value_by, with_event};
-ghost use Rattle.ipc_state.specs.Agrees.{queue_meant, semaphore_meant};
+ghost use Rattle.ipc_state.specs.Past.{with_event};
+ghost use Rattle.ipc_state.specs.Agrees.{IsCore, queue_meant, semaphore_meant};
 
 use crate::accept::change;
 use crate::looking;
-use crate::message::Message;
-use ipc_access::Cred;
-use ipc_policy::{Config, Held, Registration};
+use ipc_policy::{Config, Registration};
 use ipc_queue::Queue;
 use ipc_sem::Sem;
 use ipc_tables::Tables;
 use ipc_terms::{
-    Desc, Event, Facts, Family, Mode, Name, Names, NoMemory, Object, Record, Rule, SEM_VALUE_MAX,
-    Sid, Target, Uid,
+    Desc, Event, Facts, Family, Name, NoMemory, Object, Record, Rule, SEM_VALUE_MAX, Sid, Target,
 };
 use ipc_trail::Trail;
 use std::alloc::Global;
 use std::marker::Model;
 
 /// The configuration, every event so far with its verdict, and the tables, which say the same so
-/// that nobody need look back over the trail. No question takes memory but `names`.
+/// that nobody need look back over the trail. No question takes memory.
 #[derive(Drop)]
 pub struct State {
     config: Config,
@@ -91,11 +82,11 @@ impl State {
         &self.config
     }
 
-    /// How many sessions were started: the number of the next one.
-    pub fn session_count(&self) -> u64
-        ensures { result ≡ hellos self.now.history }
+    /// The tables, which say the same as the history.
+    pub fn tables(&self) -> &Tables
+        ensures { IsCore self.now.config self.now.history result.now }
     {
-        self.tables.session_count() as u64
+        &self.tables
     }
 
     /// Whether the session is live.
@@ -105,62 +96,15 @@ impl State {
         looking::is_live(&self.tables, sid)
     }
 
-    /// The mask of a session that is live.
-    pub fn mask(&self, sid: Sid) -> Mode
-        requires { IsTrue (live self.now.history sid.0) }
-        ensures { result ≡ record { 0 = mask self.now.history sid.0 } }
-    {
-        let Some(session) = self.tables.session(sid) else {
-            unreachable!();
-        };
-        session.mask
-    }
-
-    /// Whether the session's call is parked.
-    pub fn is_parked(&self, sid: Sid) -> bool
-        ensures { result ≡ is_some (parked self.now.config self.now.history sid.0) }
-    {
-        looking::is_parked(&self.tables, sid)
-    }
-
-    /// Who the session's user is.
-    pub fn cred(&self, sid: Sid) -> Option<&Cred>
-        ensures { option_copied result ≡ cred self.now.config self.now.history sid.0 }
-    {
-        looking::cred(&self.config, &self.tables, sid)
-    }
-
     /// The object to which the name is bound.
-    pub fn bound(&self, family: Family, name: &Name) -> Option<u64>
+    fn bound(&self, family: Family, name: &Name) -> Option<u64>
         ensures { result ≡ bound self.now.history family name.now }
     {
         self.tables.names(family).get(name)
     }
 
-    /// Whether the name is bound.
-    pub fn is_bound(&self, family: Family, name: &Name) -> bool
-        ensures { result ≡ is_bound self.now.history family name.now }
-    {
-        self.bound(family, name).is_some()
-    }
-
-    /// A page of the names that are bound, in the order in which they were created: from the position
-    /// `start` on, counted from 0, at most `count` and at most 1,000.
-    pub fn names(
-        &self,
-        alloc: Global,
-        family: Family,
-        start: u32,
-        count: u16,
-    ) -> Result<Names, NoMemory>
-        ensures { IfOk result (λ listed. listed ≡ page start count (names self.now.history family)) }
-    {
-        let listed = self.tables.names(family).list(alloc, start, count)?;
-        Ok(listed)
-    }
-
     /// The owner, group and mode of the family's directory.
-    pub fn directory(&self, family: Family) -> Facts
+    fn directory(&self, family: Family) -> Facts
         ensures { result ≡ directory self.now.history family }
     {
         self.tables.names(family).facts()
@@ -183,20 +127,6 @@ impl State {
         }
     }
 
-    /// How many descriptions were opened: the number of the next one.
-    pub fn opened(&self) -> u64
-        ensures { result ≡ opens self.now.history }
-    {
-        self.tables.descriptions().opened()
-    }
-
-    /// What the session holds by the description.
-    pub fn held(&self, sid: Sid, desc: Desc) -> Option<Held>
-        ensures { result ≡ holds self.now.history sid.0 desc.0 }
-    {
-        looking::held(&self.tables, sid, desc)
-    }
-
     /// The object that the session has by the description.
     pub fn object_held(&self, sid: Sid, desc: Desc) -> Option<Object>
         ensures { result ≡ object_held self.now.config self.now.history sid.0 desc.0 }
@@ -205,13 +135,6 @@ impl State {
             &self.tables,
             looking::object_number(&self.tables, sid, desc),
         )
-    }
-
-    /// How many descriptions the session holds.
-    pub fn held_count(&self, sid: Sid) -> usize
-        ensures { result ≡ held_count self.now.history sid.0 }
-    {
-        self.tables.descriptions().count(sid)
     }
 
     /// Whether the session's calls by the description are refused where they would wait.
@@ -236,44 +159,6 @@ impl State {
         looking::is_empty(self.queue_held(sid, desc))
     }
 
-    /// How many messages the queue has that the session has by the description.
-    pub fn messages_held(&self, sid: Sid, desc: Desc) -> Option<u32>
-        ensures { result ≡ option_map (λ q. length q.contents) (queue_by self.now.config self.now.history sid.0 desc.0) }
-    {
-        let queue = self.queue_held(sid, desc)?;
-        Some(queue.len() as u32)
-    }
-
-    /// The message that the session's receive by the description would get at once.
-    pub fn next_held(&self, sid: Sid, desc: Desc) -> Option<Message<'_>>
-        ensures { result ≡ option_and_then (λ q. option_map brought (next q.contents)) (queue_by self.now.config self.now.history sid.0 desc.0) }
-    {
-        let queue = self.queue_held(sid, desc)?;
-        let place = queue.next()?;
-        Some(Message {
-            priority: self.trail.prio_at(place),
-            bytes: self.trail.bytes_at(place),
-        })
-    }
-
-    /// The session whose receive has been parked longest on the queue that the session has by the
-    /// description.
-    pub fn receiver_held(&self, sid: Sid, desc: Desc) -> Option<Sid>
-        ensures { result ≡ option_and_then (λ q. option_map (λ w. record { 0 = w.session }) (first q.receivers)) (queue_by self.now.config self.now.history sid.0 desc.0) }
-    {
-        let queue = self.queue_held(sid, desc)?;
-        queue.receiver()
-    }
-
-    /// The session whose send has been parked longest on the queue that the session has by the
-    /// description.
-    pub fn sender_held(&self, sid: Sid, desc: Desc) -> Option<Sid>
-        ensures { result ≡ option_and_then (λ q. option_map (λ m. record { 0 = m.session }) (first q.senders)) (queue_by self.now.config self.now.history sid.0 desc.0) }
-    {
-        let queue = self.queue_held(sid, desc)?;
-        queue.sender()
-    }
-
     /// Which session, by which description, is registered for the notice of the queue that the session
     /// has by the description.
     pub fn registration_held(&self, sid: Sid, desc: Desc) -> Option<Registration>
@@ -283,13 +168,6 @@ impl State {
         let desc = self.queue_held(sid, desc)?.registered()?;
         let session = descriptions.holder(desc)?;
         Some(Registration { session, desc })
-    }
-
-    /// Whether one is registered for the notice of the queue that the session has by the description.
-    pub fn is_registered(&self, sid: Sid, desc: Desc) -> bool
-        ensures { result ≡ there_is (λ x. is_some (registered self.now.config self.now.history x.object)) (holds self.now.history sid.0 desc.0) }
-    {
-        self.registration_held(sid, desc).is_some()
     }
 
     /// Whether the session has a semaphore by the description, and its value is 0.
@@ -306,25 +184,8 @@ impl State {
         looking::has_value(self.semaphore_held(sid, desc), SEM_VALUE_MAX)
     }
 
-    /// The value of the semaphore that the session has by the description.
-    pub fn value_held(&self, sid: Sid, desc: Desc) -> Option<u32>
-        ensures { result ≡ value_by self.now.config self.now.history sid.0 desc.0 }
-    {
-        let semaphore = self.semaphore_held(sid, desc)?;
-        Some(semaphore.value())
-    }
-
-    /// The session whose wait has been parked longest on the semaphore that the session has by the
-    /// description.
-    pub fn waiter_held(&self, sid: Sid, desc: Desc) -> Option<Sid>
-        ensures { result ≡ option_and_then (λ q. option_map (λ w. record { 0 = w.session }) (first q.waiters)) (semaphore_by self.now.config self.now.history sid.0 desc.0) }
-    {
-        let semaphore = self.semaphore_held(sid, desc)?;
-        semaphore.waiter()
-    }
-
     /// The semaphore that the session has by the description, in a history that is legal.
-    fn semaphore_held(&self, sid: Sid, desc: Desc) -> Option<&Sem>
+    pub fn semaphore_held(&self, sid: Sid, desc: Desc) -> Option<&Sem>
         ensures legal { Legal self.now.config self.now.history }
         ensures found { option_copied result ≡ option_and_then (semaphore_meant self.now.config self.now.history) (option_map (λ x. x.object) (holds self.now.history sid.0 desc.0)) }
     {
@@ -335,36 +196,13 @@ impl State {
     }
 
     /// The queue that the session has by the description.
-    fn queue_held(&self, sid: Sid, desc: Desc) -> Option<&Queue>
+    pub fn queue_held(&self, sid: Sid, desc: Desc) -> Option<&Queue>
         ensures { option_copied result ≡ option_and_then (queue_meant self.now.config self.now.history) (option_map (λ x. x.object) (holds self.now.history sid.0 desc.0)) }
     {
         looking::queue(
             &self.tables,
             looking::object_number(&self.tables, sid, desc),
         )
-    }
-
-    /// How many queues are alive.
-    pub fn queue_count(&self) -> usize
-        ensures { result ≡ queues_alive self.now.config self.now.history }
-    {
-        self.tables.queue_count()
-    }
-
-    /// How many bytes the queues of the user may take, if it is a user of the file
-    /// (`getrlimit(2)`, `RLIMIT_MSGQUEUE`).
-    pub fn limit(&self, uid: Uid) -> Option<u64>
-        ensures { result ≡ limit self.now.config self.now.history uid }
-    {
-        self.config.users.cred(uid)?;
-        Some(self.tables.charges().limit(uid))
-    }
-
-    /// How many bytes the queues that the user created take, full or empty.
-    pub fn charged(&self, uid: Uid) -> u64
-        ensures { result ≡ charged self.now.config self.now.history uid }
-    {
-        self.tables.charges().used(uid)
     }
 
     /// Records the event with its verdict, and does what is accepted. An `Err` changes nothing, and

@@ -1,0 +1,17 @@
+use Rattle.std.proofs.Common.{sym, ap, ◌∙◌}
+use Rattle.std.specs.Prelude.{option_and_then}
+use Rattle.std.specs.Option.{option_copied}
+use Rattle.ipc_terms.specs.Lists.{first}
+use Rattle.ipc_queue.specs.Tickets.{Tickets}
+use Rattle.ipc_state.proofs.HeldQueues.{held_receiver}
+use Rattle.ipc_core.proofs.questions.receiver_held.Goals as goal
+
+pub returns-in_err-queue : goal.returns-in_err-queue
+returns-in_err-queue c =
+    let queue = sym (ap option_copied c.in_err-queue.was) ∙ c.queue_held.ensures in
+    c.from_residual.ensures ∙ ap (option_and_then (λ (q : Tickets). first q.receivers)) queue ∙ held_receiver _ _ c.args.sid.0 c.args.desc.0
+
+pub returns : goal.returns
+returns c =
+    let queue = sym (ap option_copied c.in_ok-queue.was) ∙ c.queue_held.ensures in
+    c.receiver.ensures ∙ ap (option_and_then (λ (q : Tickets). first q.receivers)) queue ∙ held_receiver _ _ c.args.sid.0 c.args.desc.0
