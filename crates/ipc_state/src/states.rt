@@ -4,7 +4,7 @@ ghost use Rattle.std.specs.Prelude.{◌≡◌, option_and_then, IsSome, None, []
 ghost use Rattle.std.specs.Option.{option_map, option_copied};
 ghost use Rattle.ipc_policy.specs.Sessions.{live};
 ghost use Rattle.ipc_policy.specs.Names.{bound};
-ghost use Rattle.ipc_policy.specs.Objects.{facts, directory, facts_meant};
+ghost use Rattle.ipc_policy.specs.Objects.{facts, facts_meant};
 ghost use Rattle.ipc_policy.specs.Descriptions.{holds, is_nonblock};
 ghost use Rattle.ipc_policy.specs.Registrations.{registered};
 ghost use Rattle.ipc_policy.specs.Rules.{there_is, object_held, is_full, is_empty, is_zero, is_greatest};
@@ -103,13 +103,6 @@ impl State {
         self.tables.names(family).get(name)
     }
 
-    /// The owner, group and mode of the family's directory.
-    fn directory(&self, family: Family) -> Facts
-        ensures { result ≡ directory self.now.history family }
-    {
-        self.tables.names(family).facts()
-    }
-
     /// The owner, group and mode of the object to which the name is bound.
     pub fn facts_bound(&self, family: Family, name: &Name) -> Option<Facts>
         ensures { result ≡ option_and_then (facts self.now.config self.now.history) (bound self.now.history family name.now) }
@@ -122,7 +115,7 @@ impl State {
         ensures { result ≡ facts_meant self.now.config self.now.history target.now }
     {
         match target {
-            Target::Dir(family) => Some(self.directory(*family)),
+            Target::Dir(family) => Some(self.tables.names(*family).facts()),
             Target::Name(family, name) => self.facts_bound(*family, name),
         }
     }

@@ -1,0 +1,8 @@
+use Rattle.std.proofs.Common.{rules, tests}
+use Rattle.ipc_trail.proofs.trail.Trail.receipt.Goals as goal
+
+pub returns-in-Some : goal.returns-in-Some
+returns-in-Some c = search (tests, rules)
+
+pub returns-in-None : goal.returns-in-None
+returns-in-None c = search (tests, rules)
