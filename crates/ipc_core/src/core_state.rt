@@ -40,6 +40,22 @@ impl Model for Core {
     ghost invariant = { λ a. BoxesAgree a.state.config a.state.history a.outboxes.untaken };
 }
 
+/// What the event is answered where this is the verdict on it, and copies of it in a list.
+fn told_with_copies(
+    state: &State,
+    alloc: Global,
+    event: &Event,
+    rule: Option<Rule>,
+) -> Result<(Told, Vec<(Sid, Answer)>), NoMemory>
+    requires { rule ≡ verdict state.now.config state.now.history event.now }
+    ensures told { IfOk result (λ pair. told_list pair.0 ≡ answers state.now.config state.now.history event.now) }
+    ensures given { IfOk result (λ pair. pair.1.items ≡ answers state.now.config state.now.history event.now) }
+{
+    let told = answers_to(state, alloc, event, rule)?;
+    let given = told.copies(alloc)?;
+    Ok((told, given))
+}
+
 impl Core {
     /// A core with an empty trail, or the first limit that is out of its range, in the order
     /// `msg_max`, `msgsize_max`, `queues_max`. An `Err` drops the configuration.
@@ -127,8 +143,7 @@ impl Core {
         ensures err { OnErr result (self.new ≡ self.old) }
     {
         let rule = decide(&self.state, &event);
-        let told = answers_to(&self.state, alloc, &event, rule)?;
-        let given = told.copies(alloc)?;
+        let (told, given) = told_with_copies(&self.state, alloc, &event, rule)?;
         self.commit(alloc, event, rule, told)?;
         Ok(given)
     }

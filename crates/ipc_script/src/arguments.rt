@@ -42,6 +42,18 @@ pub fn limits_of_words<'a, S: AsStr>(
     ensures { IfOk result (λ limits. limits_asked (map S.text words.now) ≡ Ok limits) }
 {
     let mut program = program(alloc, help)?;
+    limits_read(alloc, &mut program, words)
+}
+
+/// The limits that the words ask for, as the program reads them.
+fn limits_read<'a, S: AsStr>(
+    alloc: Global,
+    program: &mut Command<'a>,
+    words: &'a [S],
+) -> Result<Limits, ProgramFault>
+    requires { app_of program.now ≡ app_of_program }
+    ensures { IfOk result (λ limits. limits_asked (map S.text words.entry.now) ≡ Ok limits) }
+{
     let found = program.try_get_matches_from_mut(words)?;
     match limits_found(&found) {
         Ok(limits) => Ok(limits),

@@ -1,6 +1,6 @@
 //! Labels: the names of sessions in a script.
 
-ghost use Rattle.std.specs.Prelude.{◌≡◌, List, [], ◌∷◌, ◌++◌, length, OnOk, OnErr, IfOk};
+ghost use Rattle.std.specs.Prelude.{◌≡◌, List, [], ◌∷◌, ◌++◌, length, OnOk, OnErr};
 ghost use Rattle.ipc_script.specs.LabelMaps.{Follow};
 ghost use Rattle.ipc_script.specs.declared.labels.Started.{Started};
 ghost use Rattle.std.specs.List.{list_all};
@@ -22,13 +22,9 @@ pub fn is_label(word: &str) -> bool
 fn has_label_bytes(bytes: &[u8]) -> bool
     ensures { result ≡ list_all is_label_byte bytes.now }
 {
-    bytes.iter().all(|b| is_label_byte(*b))
-}
-
-fn is_label_byte(byte: u8) -> bool
-    ensures { result ≡ is_label_byte byte }
-{
-    matches!(byte, b'a'..=b'z' | b'0'..=b'9')
+    bytes
+        .iter()
+        .all(|byte| matches!(*byte, b'a'..=b'z' | b'0'..=b'9'))
 }
 
 /// A label, seen as its bytes.
@@ -46,15 +42,7 @@ impl Model for Label {
 }
 
 impl Label {
-    pub fn new(alloc: Global, text: &str) -> Result<Label, AllocError>
-        ensures { IfOk result (λ label. label ≡ text.now) }
-    {
-        Ok(Label {
-            text: String::from_str(alloc, text)?,
-        })
-    }
-
-    pub fn as_str(&self) -> &str
+    fn as_str(&self) -> &str
         ensures { result.now ≡ self.now }
     {
         self.text.as_str()
@@ -108,8 +96,9 @@ impl Labels {
         ensures added { OnOk result (self.new ≡ self.old ++ (record { label = label.now; sid = sid } ∷ [])) }
         ensures unchanged { OnErr result (self.new ≡ self.old) }
     {
+        let text = String::from_str(alloc, label)?;
         let started = Started {
-            label: Label::new(alloc, label)?,
+            label: Label { text },
             sid,
         };
         self.started.reserve(1)?;

@@ -185,7 +185,8 @@ impl<W: Write + Drop> Script<W> {
         ensures { IfOk result (λ event. AsksFor self.now.core.config.users
             (unwrap_or (newest_of self.now.labels label.now) Sid.NOBODY) (map (λ w. w.now) words.now) event) }
     {
-        let sid = self.session_of(label);
+        // The session that the label started last, live or not, and nobody where it never started one.
+        let sid = self.labels.newest(label).unwrap_or(Sid::NOBODY);
         match words {
             ["hello", key] => Ok(Event::Hello {
                 found: self.core.config().users.find(key.as_bytes()),
@@ -197,14 +198,6 @@ impl<W: Write + Drop> Script<W> {
                 call: call_of_words(self.alloc, words)?,
             }),
         }
-    }
-
-    /// The session that acts for the label: the one that it started last, live or not, and nobody
-    /// where it never started one.
-    fn session_of(&self, label: &str) -> Sid
-        ensures { result ≡ unwrap_or (newest_of self.now.labels label.now) Sid.NOBODY }
-    {
-        self.labels.newest(label).unwrap_or(Sid::NOBODY)
     }
 
     /// Makes the step, and writes its answers, the caller's first. What is written isn't kept for the

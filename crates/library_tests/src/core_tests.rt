@@ -1,27 +1,17 @@
 //! The core's calls: what is posted, what stands in outboxes, and what a run gives.
 
-use crate::made::{name, send};
+use crate::made::{act, config, core_of, open, receive, send};
 use bitflags::Flags;
-use ipc_access::Users;
-use ipc_core::{Config, Core, CoreFault, Field, Limits, laws};
-use ipc_terms::{
-    Access, Answer, Call, Desc, Event, Mode, NoMemory, OpenFlags, QueueOpen, Rule, Sid, Uid,
-};
+use ipc_core::{Core, CoreFault, Field, Limits, laws};
+use ipc_terms::{Answer, Call, Event, Mode, NoMemory, OpenFlags, Rule, Sid, Uid};
 use std::alloc::Global;
 use std::test::Fail;
 
 const FILE: &[u8] = b"root:r00t:0:0::\nann:ka1:1000:1000:50:\nbob:kb1:1001:1001:50,51:\n";
 
-fn config(alloc: Global, limits: Limits) -> Result<Config, Fail> {
-    Ok(Config {
-        users: Users::read(alloc, FILE)?,
-        limits,
-    })
-}
-
 /// What happens, as plain data. A queue is opened for both, and created for all where it isn't there.
 enum Asked {
-    Hello(Option<u32>),
+    Hello(Option<Uid>),
     Umask(u64, u16),
     Create(u64, &'static [u8]),
     Send(u64, u64, u32, &'static [u8]),
@@ -30,41 +20,15 @@ enum Asked {
     Hangup(u64),
 }
 
-fn create(alloc: Global, text: &[u8]) -> Result<Call, NoMemory> {
-    Ok(Call::MqOpen(QueueOpen {
-        name: name(alloc, text)?,
-        access: Access::Both,
-        flags: OpenFlags::CREATE,
-        mode: Mode(0o666),
-        attributes: None,
-    }))
-}
-
-fn receive(desc: u64) -> Call {
-    Call::MqReceive {
-        desc: Desc(desc),
-        length: 8192,
-    }
-}
-
-fn made(sid: &u64, call: Call) -> Event {
-    Event::Do {
-        sid: Sid(*sid),
-        call,
-    }
-}
-
 fn event(alloc: Global, asked: &Asked) -> Result<Event, NoMemory> {
     Ok(match asked {
-        Hello(user) => Event::Hello {
-            found: user.map(Uid),
-        },
+        Hello(found) => Event::Hello { found: *found },
         Hangup(sid) => Event::Hangup { sid: Sid(*sid) },
-        Umask(sid, mask) => made(sid, Call::Umask(Mode(*mask))),
-        Create(sid, name) => made(sid, create(alloc, name)?),
-        Send(sid, desc, priority, bytes) => made(sid, send(alloc, *desc, *priority, bytes)?),
-        Receive(sid, desc) => made(sid, receive(*desc)),
-        Interrupt(sid) => made(sid, Call::Interrupt),
+        Umask(sid, mask) => act(*sid, Call::Umask(Mode(*mask))),
+        Create(sid, name) => act(*sid, open(alloc, name, OpenFlags::CREATE, 0o666)?),
+        Send(sid, desc, priority, bytes) => act(*sid, send(alloc, *desc, *priority, bytes)?),
+        Receive(sid, desc) => act(*sid, receive(*desc)),
+        Interrupt(sid) => act(*sid, Call::Interrupt),
     })
 }
 
@@ -108,7 +72,7 @@ fn posts(
 }
 
 /// A start, a refusal and the mask before.
-static RUN: [Asked; 3] = [Hello(Some(1000)), Hello(None), Umask(0, 0)];
+static RUN: [Asked; 3] = [Hello(Some(Uid(1000))), Hello(None), Umask(0, 0)];
 
 fn events(alloc: Global, asked: &[Asked]) -> Result<Vec<Event>, NoMemory> {
     let mut events = Vec::new(alloc);
@@ -153,7 +117,7 @@ fn runs(alloc: Global, core: &mut Core) -> Result<bool, NoMemory> {
 
 /// Starts again, with a core of the standard limits.
 fn starts(alloc: Global, core: &mut Core) -> Result<bool, Fail> {
-    *core = Core::new(alloc, config(alloc, Limits::STANDARD)?)?;
+    *core = core_of(alloc, FILE)?;
     Ok(true)
 }
 
@@ -177,9 +141,9 @@ fn gives(alloc: Global, core: &mut Core, step: &Step) -> Result<bool, Fail> {
 /// answered to nobody, or to a session that is not live, stands nowhere.
 static STEPS: [Step; 37] = [
     Records(0),
-    Post(Hello(Some(1000)), None, ANN, None),
+    Post(Hello(Some(Uid(1000))), None, ANN, None),
     Post(Hello(None), Some(Rule::BadKey), Some(Sid::NOBODY), None),
-    Post(Hello(Some(1001)), None, BOB, None),
+    Post(Hello(Some(Uid(1001))), None, BOB, None),
     Records(3),
     Waiting(0, 1),
     Waiting(1, 1),
@@ -228,24 +192,29 @@ fn all_give(alloc: Global, core: &mut Core, steps: &[Step]) -> Result<(), Fail> 
 
 #[test]
 fn worked_cores(rt: HostRuntime) -> Result<(), Fail> {
-    let mut core = Core::new(rt.alloc(), config(rt.alloc(), Limits::STANDARD)?)?;
+    let mut core = core_of(rt.alloc(), FILE)?;
     all_give(rt.alloc(), &mut core, &STEPS)
 }
 
-/// Limits, and the field that is at fault.
-static LIMITS: [(u32, u32, u32, Option<Field>); 7] = [
+/// Limits, and the fault of the field that is out of its range.
+static LIMITS: [(u32, u32, u32, Option<CoreFault>); 7] = [
     (1, 1, 0, None),
     (65_536, 16_777_216, 65_536, None),
-    (0, 0, 65_537, Some(Field::MsgMax)),
-    (65_537, 1, 0, Some(Field::MsgMax)),
-    (1, 0, 65_537, Some(Field::MsgsizeMax)),
-    (1, 16_777_217, 0, Some(Field::MsgsizeMax)),
-    (1, 1, 65_537, Some(Field::QueuesMax)),
+    (0, 0, 65_537, Some(CoreFault::BadConfig(Field::MsgMax))),
+    (65_537, 1, 0, Some(CoreFault::BadConfig(Field::MsgMax))),
+    (1, 0, 65_537, Some(CoreFault::BadConfig(Field::MsgsizeMax))),
+    (
+        1,
+        16_777_217,
+        0,
+        Some(CoreFault::BadConfig(Field::MsgsizeMax)),
+    ),
+    (1, 1, 65_537, Some(CoreFault::BadConfig(Field::QueuesMax))),
 ];
 
 /// The fault of a core with these limits.
 fn fault(alloc: Global, limits: Limits) -> Result<Option<CoreFault>, Fail> {
-    let config = config(alloc, limits)?;
+    let config = config(alloc, FILE, limits)?;
     Ok(Core::new(alloc, config).err())
 }
 
@@ -257,7 +226,7 @@ fn limits_have_ranges(rt: HostRuntime) -> Result<(), Fail> {
             msgsize_max: *msgsize_max,
             queues_max: *queues_max,
         };
-        if fault(rt.alloc(), limits)? != bad.map(CoreFault::BadConfig) {
+        if fault(rt.alloc(), limits)? != *bad {
             return Err(Fail::new(format_args!("with {msg_max}, {msgsize_max} and {queues_max}")));
         }
     }

@@ -1,6 +1,11 @@
-//! Names and calls that tests make, and the texts of faults.
+//! Names, calls and cores that tests make, and the texts of faults.
 
-use ipc_terms::{Bytes, Call, Desc, Name, Names, NoMemory};
+use bitflags::Flags;
+use ipc_access::Users;
+use ipc_core::{Config, Core, Limits};
+use ipc_terms::{
+    Access, Bytes, Call, Desc, Event, Mode, Name, Names, NoMemory, OpenFlags, QueueOpen, Sid,
+};
 use std::alloc::Global;
 use std::fmt::Display;
 use std::test::Fail;
@@ -38,6 +43,48 @@ pub(crate) fn send(
         priority,
         bytes: Bytes::from_slice(alloc, bytes)?,
     })
+}
+
+/// An open of a queue for both, without attributes.
+pub(crate) fn open(
+    alloc: Global,
+    text: &[u8],
+    flags: OpenFlags,
+    mode: u16,
+) -> Result<Call, NoMemory> {
+    Ok(Call::MqOpen(QueueOpen {
+        name: name(alloc, text)?,
+        access: Access::Both,
+        flags,
+        mode: Mode(mode),
+        attributes: None,
+    }))
+}
+
+pub(crate) fn receive(desc: u64) -> Call {
+    Call::MqReceive {
+        desc: Desc(desc),
+        length: 8192,
+    }
+}
+
+/// The session's call.
+pub(crate) fn act(session: u64, call: Call) -> Event {
+    Event::Do {
+        sid: Sid(session),
+        call,
+    }
+}
+
+pub(crate) fn config(alloc: Global, file: &[u8], limits: Limits) -> Result<Config, Fail> {
+    let users = Users::read(alloc, file)?;
+    Ok(Config { users, limits })
+}
+
+/// A core of the standard limits.
+pub(crate) fn core_of(alloc: Global, file: &[u8]) -> Result<Core, Fail> {
+    let config = config(alloc, file, Limits::STANDARD)?;
+    Ok(Core::new(alloc, config)?)
 }
 
 /// Whether the value is shown as this text.

@@ -1,14 +1,13 @@
 //! Many events of three sessions, against lists that are kept without any table.
 
-use crate::made::{name, send};
-use ipc_access::Users;
-use ipc_core::{Config, Core, Limits};
+use crate::made::{act, core_of, open, receive, send};
+use ipc_core::Core;
 use ipc_descr::Descrs;
-use ipc_terms::{
-    Access, Answer, Call, Desc, Event, Mode, NoMemory, OpenFlags, QueueOpen, Rule, Sid, Uid,
-};
+use ipc_terms::{Access, Answer, Call, Desc, Event, NoMemory, OpenFlags, Rule, Sid, Uid};
 use std::alloc::Global;
 use std::test::Fail;
+
+const FILE: &[u8] = b"ann:ka1:1000:1000::\n";
 
 const EVENTS: u32 = 50_000;
 
@@ -53,6 +52,17 @@ impl Lists {
         self.held.contains(&(session, desc))
     }
 
+    /// How many descriptions the session holds.
+    fn count(&self, session: u64) -> usize {
+        let mut count = 0_usize;
+        for (holder, _) in &self.held {
+            if *holder == session {
+                count = count.wrapping_add(1);
+            }
+        }
+        count
+    }
+
     fn opened(&mut self, session: u64) -> Result<Wanted, NoMemory> {
         let desc = self.opens;
         self.held.push((session, desc))?;
@@ -73,13 +83,24 @@ impl Lists {
         Ok(Wanted::Sent)
     }
 
+    /// The greatest priority, where there is a message.
+    fn greatest(&self) -> u32 {
+        let mut greatest = 0;
+        for (priority, _) in &self.messages {
+            if *priority > greatest {
+                greatest = *priority;
+            }
+        }
+        greatest
+    }
+
     /// The earliest of the greatest priority.
     fn received(&mut self) -> Wanted {
-        let greatest = self.messages.iter().map(|message| message.0).max();
+        let greatest = self.greatest();
         let next = self
             .messages
             .iter()
-            .position(|message| Some(message.0) == greatest);
+            .position(|message| message.0 == greatest);
         match next {
             Some(index) => {
                 let (priority, number) = self.messages.remove(index);
@@ -127,21 +148,12 @@ impl Lists {
 
 fn call_of(alloc: Global, asked: &Asked) -> Result<Call, NoMemory> {
     Ok(match *asked {
-        Asked::Open => Call::MqOpen(QueueOpen {
-            name: name(alloc, b"/q")?,
-            access: Access::Both,
-            flags: OpenFlags::CREATE | OpenFlags::NONBLOCK,
-            mode: Mode(0o600),
-            attributes: None,
-        }),
+        Asked::Open => open(alloc, b"/q", OpenFlags::CREATE | OpenFlags::NONBLOCK, 0o600)?,
         Asked::Close(desc) => Call::MqClose(Desc(desc)),
         Asked::Send(desc, priority, number) => {
             send(alloc, desc, priority, &number.to_be_bytes())?
         }
-        Asked::Receive(desc) => Call::MqReceive {
-            desc: Desc(desc),
-            length: 8192,
-        },
+        Asked::Receive(desc) => receive(desc),
     })
 }
 
@@ -173,8 +185,7 @@ fn follow(descrs: &mut Descrs, session: u64, wanted: &Wanted, asked: &Asked) -> 
 
 /// Whether the descriptions are as many as in the list, of the session and of the queue.
 fn are_counted(descrs: &Descrs, lists: &Lists, session: u64) -> bool {
-    let held = lists.held.iter().filter(|held| held.0 == session).count();
-    descrs.count(Sid(session)) == held && descrs.uses(QUEUE) == lists.held.len()
+    descrs.count(Sid(session)) == lists.count(session) && descrs.uses(QUEUE) == lists.held.len()
 }
 
 /// The core, the descriptions by themselves, and the lists.
@@ -186,10 +197,10 @@ struct Compared {
 }
 
 impl Compared {
-    /// A core with three sessions of one user, no descriptions, and empty lists.
+    /// A core of one user, no descriptions, and empty lists.
     fn new(alloc: Global) -> Result<Compared, Fail> {
         Ok(Compared {
-            core: core_of_three(alloc)?,
+            core: core_of(alloc, FILE)?,
             descrs: Descrs::new(alloc),
             lists: Lists {
                 held: Vec::new(alloc),
@@ -204,13 +215,7 @@ impl Compared {
         let wanted = self.lists.step(session, asked)?;
         follow(&mut self.descrs, session, &wanted, asked)?;
         let call = call_of(alloc, asked)?;
-        let answers = self.core.step(
-            alloc,
-            Event::Do {
-                sid: Sid(session),
-                call,
-            },
-        )?;
+        let answers = self.core.step(alloc, act(session, call))?;
         self.core.take(Sid(session));
         Ok(match answers.as_slice() {
             [(to, answer)] => {
@@ -222,8 +227,9 @@ impl Compared {
         })
     }
 
-    /// The first event on which they disagree, if there is one.
+    /// Starts the sessions, and gives the first event on which they disagree, if there is one.
     fn first_disagreement(&mut self, alloc: Global) -> Result<Option<u32>, Fail> {
+        start_sessions(&mut self.core, alloc)?;
         let mut random: u64 = 1;
         for number in 0..EVENTS {
             random = random
@@ -238,15 +244,7 @@ impl Compared {
     }
 }
 
-/// A core with three sessions of one user.
-fn core_of_three(alloc: Global) -> Result<Core, Fail> {
-    let users = Users::read(alloc, b"ann:ka1:1000:1000::\n")?;
-    let limits = Limits::STANDARD;
-    let mut core = Core::new(alloc, Config { users, limits })?;
-    start_sessions(&mut core, alloc)?;
-    Ok(core)
-}
-
+/// Starts three sessions of the user.
 fn start_sessions(core: &mut Core, alloc: Global) -> Result<(), Fail> {
     for _ in 0..SESSIONS {
         let found = Some(Uid(1000));

@@ -1,6 +1,6 @@
 //! Trails: what was pushed stands at its place, and a send's message with it.
 
-use crate::made::{name, send};
+use crate::made::{act, name, send};
 use ipc_terms::{Call, Event, Line, NoMemory, Record, Rule, Sid, Uid};
 use ipc_trail::{Receipt, Trail};
 use std::alloc::Global;
@@ -19,21 +19,20 @@ use Pushed::{Hello, Send};
 
 /// The record: session 0 acts, by description 0.
 fn made(alloc: Global, pushed: &Pushed) -> Result<Record, NoMemory> {
-    Ok(match pushed {
-        Hello(user) => Record {
-            event: Event::Hello {
-                found: Some(Uid(*user)),
-            },
-            rule: None,
-        },
-        Send(priority, bytes, rule) => Record {
-            event: Event::Do {
-                sid: Sid(0),
-                call: send(alloc, 0, *priority, bytes)?,
-            },
-            rule: *rule,
-        },
-    })
+    match pushed {
+        Hello(user) => {
+            let found = Some(Uid(*user));
+            Ok(record_of(Event::Hello { found }, None))
+        }
+        Send(priority, bytes, rule) => {
+            let call = send(alloc, 0, *priority, bytes)?;
+            Ok(record_of(act(0, call), *rule))
+        }
+    }
+}
+
+fn record_of(event: Event, rule: Option<Rule>) -> Record {
+    Record { event, rule }
 }
 
 /// Pushes the record at the end, where nothing stood before.
@@ -202,22 +201,27 @@ fn names_are_cut_at_256_bytes(rt: HostRuntime) -> Result<(), Fail> {
 
 /// How many bytes of a name of this length the audit shows.
 fn shown_of_name(alloc: Global, length: usize) -> Result<usize, NoMemory> {
+    let unlinked = unlink_of(alloc, length)?;
     let mut trail = Trail::new(alloc);
-    let text = Vec::from_elem(alloc, b'a', length)?;
-    let unlinked = Record {
-        event: Event::Do {
-            sid: Sid(0),
-            call: Call::MqUnlink(name(alloc, &text)?),
-        },
-        rule: Some(Rule::NameForm),
-    };
     trail.reserve_one()?;
     trail.push_reserved(unlinked);
     let page = trail.page(alloc, 0, 5)?;
-    Ok(match page.as_slice() {
+    Ok(name_length(page.as_slice()))
+}
+
+/// A refused unlink of a name of this length.
+fn unlink_of(alloc: Global, length: usize) -> Result<Record, NoMemory> {
+    let text = Vec::from_elem(alloc, b'a', length)?;
+    let unlinked = name(alloc, &text)?;
+    Ok(record_of(act(0, Call::MqUnlink(unlinked)), Some(Rule::NameForm)))
+}
+
+/// How long the name is in the one line, which shows the unlink and its rule.
+fn name_length(lines: &[Line]) -> usize {
+    match lines {
         [line] if line.op == 5 && line.rule == 4 => line.name.as_slice().len(),
         _ => usize::MAX,
-    })
+    }
 }
 
 /// The start and the count of a page of 1,001 lines, and how many it has.

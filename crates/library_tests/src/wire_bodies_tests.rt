@@ -5,7 +5,7 @@ use ipc_wire::{Frames, ReadFault, WireFault, read_answer};
 use std::alloc::Global;
 use std::test::Fail;
 
-const HELLO: &[u8] = b"\0\0\0\x06\x01\0\x03ka1";
+pub(crate) const HELLO: &[u8] = b"\0\0\0\x06\x01\0\x03ka1";
 
 /// A body of each kind of request and answer, with each option there and not there, and how many of its bytes are
 /// fields of a known length: the others are a message, which may be cut.
@@ -87,10 +87,11 @@ static NOT_ALLOWED: [&[u8]; 18] = [
     b"\x4c\x01\x1f",
 ];
 
-/// The frame of this body.
-fn framed(alloc: Global, body: &[u8]) -> Result<Vec<u8>, Fail> {
+/// The front, and the frame of this body behind it.
+pub(crate) fn framed(alloc: Global, front: &[u8], body: &[u8]) -> Result<Vec<u8>, Fail> {
     let length = u32::try_from(body.len()).unwrap_or(0);
-    let mut frame = Vec::from_slice(alloc, length.to_be_bytes().as_slice())?;
+    let mut frame = Vec::from_slice(alloc, front)?;
+    frame.extend_from_slice(&length.to_be_bytes())?;
     frame.extend_from_slice(body)?;
     Ok(frame)
 }
@@ -99,7 +100,7 @@ fn framed(alloc: Global, body: &[u8]) -> Result<Vec<u8>, Fail> {
 fn request_fault(alloc: Global, front: &[u8], body: &[u8]) -> Result<Option<WireFault>, Fail> {
     let mut frames = Frames::new(alloc);
     frames.feed(alloc, front)?;
-    frames.feed(alloc, &framed(alloc, body)?)?;
+    frames.feed(alloc, &framed(alloc, b"", body)?)?;
     Ok(frames.fault())
 }
 
@@ -112,7 +113,7 @@ fn front_fault(alloc: Global, bytes: &[u8]) -> Option<WireFault> {
 }
 
 fn answer_fault(alloc: Global, body: &[u8]) -> Result<Option<WireFault>, Fail> {
-    Ok(front_fault(alloc, &framed(alloc, body)?))
+    Ok(front_fault(alloc, &framed(alloc, b"", body)?))
 }
 
 /// The fault of a body: of an answer's, of a hello's, or of another request's behind a hello.

@@ -1,5 +1,6 @@
 //! Made frames, whole and broken, against the table of the fields.
 
+use crate::wire_bodies_tests::{HELLO, framed};
 use crate::wire_tests::fed;
 use ipc_wire::{Frames, WireFault};
 use std::alloc::Global;
@@ -174,18 +175,9 @@ fn push_optional(body: &mut Vec<u8>, dice: &mut Dice, kind: u8) -> Result<(), Fa
     }
 }
 
-/// A hello by the key `ka1`, and a frame of this body.
-fn stream_of(alloc: Global, body: &[u8]) -> Result<Vec<u8>, Fail> {
-    let mut stream = Vec::from_slice(alloc, b"\0\0\0\x06\x01\0\x03ka1".as_slice())?;
-    let length = u32::try_from(body.len()).unwrap_or(0);
-    stream.extend_from_slice(&length.to_be_bytes())?;
-    stream.extend_from_slice(body)?;
-    Ok(stream)
-}
-
-/// Whether the body is read as the table says, and spelled again as it was read, in two pieces.
+/// Whether the body behind a hello is read as the table says, and spelled again as it was read, in two pieces.
 fn is_read_by_the_table(alloc: Global, body: &[u8], cut: usize) -> Result<bool, Fail> {
-    let stream = stream_of(alloc, body)?;
+    let stream = framed(alloc, HELLO, body)?;
     let (front, back) = stream.split_at(cut.min(stream.len()));
     let mut frames = Frames::new(alloc);
     let mut spelled = Vec::new(alloc);

@@ -1,6 +1,6 @@
 //! Frames: streams of requests in whatever pieces they come, answers, and the memory that they take.
 
-use crate::made::send;
+use crate::made::{act, send};
 use ipc_terms::{Answer, Bytes, Call, Desc, Event, Family, Gid, NoMemory, Sid, Target, Uid};
 use ipc_wire::{Frames, Request, WireFault, WriteFault, read_answer, write_answer, write_request};
 use std::alloc::Global;
@@ -235,8 +235,7 @@ fn a_start_is_read_with_its_length(rt: HostRuntime) -> Result<(), Fail> {
 
 /// A hello by a key of so many bytes.
 fn hello_of(alloc: Global, length: usize) -> Result<Request, WriteFault> {
-    let mut key = Vec::new(alloc);
-    key.resize(length, b'a')?;
+    let key = Vec::from_elem(alloc, b'a', length)?;
     Ok(Request::Hello(Bytes::new(key)))
 }
 
@@ -276,7 +275,7 @@ fn copy_sends(event: &Event, bytes: &[u8]) -> Result<bool, NoMemory> {
 
 fn is_copied(alloc: Global, bytes: &[u8]) -> Result<bool, NoMemory> {
     let call = send(alloc, 0, 5, bytes)?;
-    copy_sends(&Event::Do { sid: Sid(3), call }, bytes)
+    copy_sends(&act(3, call), bytes)
 }
 
 #[test]
@@ -322,7 +321,7 @@ fn values_are_read_from_their_fields(rt: HostRuntime) -> Result<(), Fail> {
 /// How many pages of memory the process has asked for.
 fn pages(rt: &HostRuntime) -> Result<usize, Fail> {
     let sizes = fs::read_to_string(rt, "/proc/self/statm")?;
-    let first = sizes.split_whitespace().next().unwrap_or("");
+    let first = sizes.split(' ').next().unwrap_or("");
     Ok(first.parse()?)
 }
 

@@ -1,7 +1,9 @@
 //! Words and the calls that they mean.
 
 use bitflags::Flags;
-use ipc_terms::{Access, Call, Family, NoMemory, QueueOpen, SemaphoreOpen, Target};
+use ipc_terms::{
+    Access, Attributes, Call, Family, Gid, NoMemory, QueueOpen, SemaphoreOpen, Target, Uid,
+};
 use ipc_words::{WordFault, call_of_words, usage_of_commands};
 use std::alloc::Global;
 use std::test::Fail;
@@ -12,7 +14,7 @@ enum Meaning {
     Usage,
     BadValue(&'static str),
     Umask(u16),
-    Open(&'static [u8], Access, u8, u16, Option<(u32, u32)>),
+    Open(&'static [u8], Access, u8, u16, Option<Attributes>),
     Close(u64),
     Send(u64, u32, &'static [u8]),
     Receive(u64, u32),
@@ -31,7 +33,7 @@ enum Meaning {
     Directory(Family),
     Stat(Family, &'static [u8]),
     Chmod(u16, Family, Option<&'static [u8]>),
-    Chown(Option<u32>, Option<u32>, Family, Option<&'static [u8]>),
+    Chown(Option<Uid>, Option<Gid>, Family, Option<&'static [u8]>),
     SetLimit(u32, u64),
     Audit(u64, u16),
     Interrupt,
@@ -95,11 +97,7 @@ fn is_call(call: &Call, meaning: &Meaning) -> bool {
                 target,
             },
             Chown(uid, gid, family, name),
-        ) => {
-            owner.map(|u| u.0) == *uid
-                && group.map(|g| g.0) == *gid
-                && is_meant(target, *family, *name)
-        }
+        ) => { owner == uid && group == gid && is_meant(target, *family, *name) }
         (
             Call::ListNames {
                 family,
@@ -148,7 +146,7 @@ fn is_open(asked: &QueueOpen, meaning: &Meaning) -> bool {
         && asked.access == *access
         && asked.flags.bits() == *flags
         && asked.mode.0 == *mode
-        && asked.attributes.map(|a| (a.maxmsg, a.msgsize)) == *attributes
+        && asked.attributes == *attributes
 }
 
 /// Whether the target is the name of the family, or with no name the directory itself.
@@ -289,11 +287,11 @@ static CHANGES: [Row; 13] = [
     ("chmod 0 sem hex:", Chmod(0, Family::Sem, Some(b""))),
     (
         "chown 0 keep mq /jobs",
-        Chown(Some(0), None, Family::Mq, Some(b"/jobs")),
+        Chown(Some(Uid(0)), None, Family::Mq, Some(b"/jobs")),
     ),
     (
         "chown keep 4294967295 sem",
-        Chown(None, Some(u32::MAX), Family::Sem, None),
+        Chown(None, Some(Gid(u32::MAX)), Family::Sem, None),
     ),
     ("chown keep keep mq", Chown(None, None, Family::Mq, None)),
     ("chmod x x hex:2", BadValue("octal")),
@@ -332,7 +330,10 @@ static OPENS: [Row; 11] = [
             Access::Both,
             CREATE + EXCLUSIVE + NONBLOCK,
             0o640,
-            Some((0, u32::MAX)),
+            Some(Attributes {
+                maxmsg: 0,
+                msgsize: u32::MAX,
+            }),
         ),
     ),
     // An option's value is no name.
