@@ -13,13 +13,14 @@ use crate::conditions::{
 use crate::questions::{
     cred, directory, held, held_count, is_bound, is_parked, is_registered, queues_alive,
 };
+use bitflags::Flags;
 use ipc_names::{has_form, is_long};
 use ipc_policy::{
     DESCRIPTIONS_MAX, LIMIT_MAX, MQ_PRIO_MAX, Opening, description_of, naming_of, opening_of,
     unlinking_of,
 };
 use ipc_state::State;
-use ipc_terms::{Call, EVERY_RULE, Event, Rule};
+use ipc_terms::{Call, EVERY_RULE, Event, OpenFlags, Rule};
 
 /// The rule of the lowest number that forbids the event, if one does.
 #[tactic(auto, unfolding(ipc_policy::specs::Verdict::verdict))]
@@ -236,7 +237,8 @@ fn absent(state: &State, event: &Event) -> bool
     ensures { result ≡ absent state.now.config state.now.history event.now }
 {
     if let Some(asked) = opening_of(event) {
-        return !asked.flags.creates() && !is_bound(state, asked.family, asked.name);
+        return !asked.flags.contains(OpenFlags::CREATE)
+            && !is_bound(state, asked.family, asked.name);
     }
     match naming_of(event) {
         Some(what) => !is_bound(state, what.family, what.name),
@@ -251,8 +253,8 @@ fn present(state: &State, event: &Event) -> bool
 {
     match opening_of(event) {
         Some(asked) => {
-            asked.flags.creates()
-                && asked.flags.is_exclusive()
+            asked.flags.contains(OpenFlags::CREATE)
+                && asked.flags.contains(OpenFlags::EXCLUSIVE)
                 && is_bound(state, asked.family, asked.name)
         }
         None => false,
@@ -527,5 +529,5 @@ fn bad_key(state: &State, event: &Event) -> bool
 fn is_creating(state: &State, asked: &Opening) -> bool
     ensures { result ≡ creating state.now.history asked.now }
 {
-    asked.flags.creates() && !is_bound(state, asked.family, asked.name)
+    asked.flags.contains(OpenFlags::CREATE) && !is_bound(state, asked.family, asked.name)
 }

@@ -58,7 +58,7 @@ use Rattle.ipc_descr.specs.declared.charges.Charge.{Charge}
 use Rattle.ipc_descr.specs.Descriptions.{Descriptions, is_of, is_desc}
 use Rattle.ipc_tables.specs.Kept.{Kept, parked_on_at, is_kept}
 use Rattle.ipc_tables.specs.Charging.{settled}
-use Rattle.ipc_tables.specs.Steps.{hung_up, living, ended, after_hello, after_umask, after_send, after_receive, after_post, after_wait, after_try, after_withdrawal, after_setattr, after_limit, after_register, after_unregister, after_hangup, first_tables}
+use Rattle.ipc_tables.specs.Steps.{hung_up, living, ended, after_hello, after_umask, after_send, after_receive, after_post, after_wait, after_try, after_withdrawal, after_setattr, after_limit, after_notify, after_hangup, first_tables}
 use Rattle.ipc_state.specs.Ranges.{first_bad}
 use Rattle.ipc_state.specs.Agrees.{Agrees, IsCore, SessionsAgree, DirectoryAgrees, ObjectsAgree, DescriptionsAgree, ChargesAgree, row_held, row_with, tickets_of, counter_of, Inside, inside, body_of}
 use Rattle.ipc_tables.proofs.CoveredCharges.{taken_held}
@@ -310,14 +310,14 @@ registers_body x sid desc m n q u was now = at x.kind where
   at (QueueKind given) = rw (q, was, now) refl
   at (SemaphoreKind value) = ap (λ u. SemaphoreBody (counter_of u)) u
 
-pub agrees_registered : (c : Config) (h : History) (t : Kept) (sid : Sid) (desc : Desc) (o : ℕ) → IsCore c h t → IsHereQueue c h t sid.0 desc.0 o → registered c h o ≡ None → Agrees c (after_accepted h (Do sid (MqNotify desc true))) (after_register t o desc)
+pub agrees_registered : (c : Config) (h : History) (t : Kept) (sid : Sid) (desc : Desc) (o : ℕ) → IsCore c h t → IsHereQueue c h t sid.0 desc.0 o → registered c h o ≡ None → Agrees c (after_accepted h (Do sid (MqNotify desc true))) (after_notify t o desc true)
 agrees_registered c h t sid desc o k here none =
     let e = Do sid (MqNotify desc true) in
     let g = grows c h e in
     let u = untouched c h e (record { owner = λ m. refl; group = λ m. refl; mode = λ m. refl }) (λ i. refl) (λ d. refl) refl (λ f. refl) refl (λ i. refl) (λ i. refl) in
     let free = subst (λ (i : ℕ). registered c h i ≡ None) (sym here.same) none in
     let still = λ (i : ℕ). semaphore_by_others h e i refl in
-    subst (λ (i : ℕ). Agrees c (after_accepted h e) (after_register t i desc)) here.same
+    subst (λ (i : ℕ). Agrees c (after_accepted h e) (after_notify t i desc true)) here.same
     (left_alone c h _ t t.sessions _ u g.nonblock_of
     (charges_left c h e t.charges u (λ v. refl) k.agrees.charges)
     (sessions_kept c h _ e t.sessions g refl (λ s. refl) (λ s. refl) (λ s. refl) (λ s. parked_by_others c h e s refl) k.agrees.sessions)
@@ -349,13 +349,13 @@ kept_none : (p : Registration → Bool) (w : Option Registration) → ((x : Regi
 kept_none p None none = refl
 kept_none p (Some x) none = ap (λ b. cond b None (Some x)) (none x refl)
 
-pub agrees_unregistered : (c : Config) (h : History) (t : Kept) (sid : Sid) (desc : Desc) (o : ℕ) → IsCore c h t → IsHereQueue c h t sid.0 desc.0 o → Agrees c (after_accepted h (Do sid (MqNotify desc false))) (after_unregister t o desc)
+pub agrees_unregistered : (c : Config) (h : History) (t : Kept) (sid : Sid) (desc : Desc) (o : ℕ) → IsCore c h t → IsHereQueue c h t sid.0 desc.0 o → Agrees c (after_accepted h (Do sid (MqNotify desc false))) (after_notify t o desc false)
 agrees_unregistered c h t sid desc o k here =
     let e = Do sid (MqNotify desc false) in
     let g = grows c h e in
     let u = untouched c h e (record { owner = λ m. refl; group = λ m. refl; mode = λ m. refl }) (λ i. refl) (λ d. refl) refl (λ f. refl) refl (λ i. refl) (λ i. refl) in
     let still = λ (i : ℕ). semaphore_by_others h e i refl in
-    subst (λ (i : ℕ). Agrees c (after_accepted h e) (after_unregister t i desc)) here.same
+    subst (λ (i : ℕ). Agrees c (after_accepted h e) (after_notify t i desc false)) here.same
     (left_alone c h _ t t.sessions _ u g.nonblock_of
     (charges_left c h e t.charges u (λ v. refl) k.agrees.charges)
     (sessions_kept c h _ e t.sessions g refl (λ s. refl) (λ s. refl) (λ s. refl) (λ s. parked_by_others c h e s refl) k.agrees.sessions)

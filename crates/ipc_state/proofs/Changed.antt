@@ -36,7 +36,8 @@ use Rattle.ipc_policy.proofs.Holding.{kept_all}
 use Rattle.ipc_names.specs.Directory.{Directory, object_named}
 use Rattle.ipc_tables.specs.Kept.{Kept, directory_kept as directory_of}
 use Rattle.ipc_tables.specs.Objects.{is_number, facts_at, with_facts}
-use Rattle.ipc_tables.specs.Steps.{after_facts, after_directory}
+use Rattle.ipc_tables.specs.declared.tables.Owned.TheVariants.{Object as OwnedObject, Directory as OwnedDirectory}
+use Rattle.ipc_tables.specs.Steps.{after_facts}
 use Rattle.ipc_state.specs.Agrees.{Agrees, IsCore, SessionsAgree, DescriptionsAgree, ChargesAgree, Inside, inside, row_made, row_with}
 use Rattle.ipc_state.specs.Changes.{changing, changed_by}
 use Rattle.ipc_state.proofs.Gathered.{gathered_changed}
@@ -93,7 +94,7 @@ left_by c h t e p a =
     }
 
 -- of a directory
-in_directory : (c : Config) (h k : History) (t : Kept) (f : Family) (x : Facts) → Left c h k t → ((g : Family) → directory k g ≡ cond (same_family f g) x (directory h g)) → ((o : ℕ) → facts c k o ≡ facts c h o) → Agrees c h t → Agrees c k (after_directory t f x)
+in_directory : (c : Config) (h k : History) (t : Kept) (f : Family) (x : Facts) → Left c h k t → ((g : Family) → directory k g ≡ cond (same_family f g) x (directory h g)) → ((o : ℕ) → facts c k o ≡ facts c h o) → Agrees c h t → Agrees c k (after_facts t (OwnedDirectory f) x)
 in_directory c h k t Mq x l d o a = record {
   sessions = l.sessions;
   queues = record { bound = a.queues.bound ∙ sym (l.bindings' Mq); facts = sym (d Mq) };
@@ -139,7 +140,7 @@ facts_apart c h sid (Chown owner group target) f k o =
     rw same (facts_left c h sid (Chown owner group (Dir f)) refl o refl refl refl)
 facts_apart c h sid call f k o = absurd cc
 
-pub agrees_in_directory : (c : Config) (h : History) (t : Kept) (sid : Sid) (call : Call) (f : Family) → changing call ≡ Some (Dir f) → Agrees c h t → Agrees c (after_accepted h (Do sid call)) (after_directory t f (changed_by call (directory h f)))
+pub agrees_in_directory : (c : Config) (h : History) (t : Kept) (sid : Sid) (call : Call) (f : Family) → changing call ≡ Some (Dir f) → Agrees c h t → Agrees c (after_accepted h (Do sid call)) (after_facts t (OwnedDirectory f) (changed_by call (directory h f)))
 agrees_in_directory c h t sid call f k a =
     in_directory c h (after_accepted h (Do sid call)) t f (changed_by call (directory h f)) (left_by c h t (Do sid call) (changes_of sid call (Dir f) k) a) (directory_given h sid call f k) (facts_apart c h sid call f k) a
 
@@ -149,7 +150,7 @@ row_given o x true None v at m e = refl
 row_given o x true (Some y) v at m e = rw e refl
 row_given o x false w v at m e = refl
 
-in_object : (c : Config) (h k : History) (t : Kept) (o : ℕ) (x at : Facts) → Left c h k t → ((f : Family) → directory k f ≡ directory h f) → facts c h o ≡ Some at → facts c k o ≡ Some x → ((i : ℕ) → (i ≡ o → ⊥) → facts c k i ≡ facts c h i) → Agrees c h t → Agrees c k (after_facts t o x)
+in_object : (c : Config) (h k : History) (t : Kept) (o : ℕ) (x at : Facts) → Left c h k t → ((f : Family) → directory k f ≡ directory h f) → facts c h o ≡ Some at → facts c k o ≡ Some x → ((i : ℕ) → (i ≡ o → ⊥) → facts c k i ≡ facts c h i) → Agrees c h t → Agrees c k (after_facts t (OwnedObject o) x)
 in_object c h k t o x at l d was is others a = record {
   sessions = l.sessions;
   queues = directory_kept h k Mq t.queues (l.bindings' Mq) (d Mq) a.queues;
@@ -210,7 +211,7 @@ directory_apart h sid (Chown owner group target) f name k g =
     rw same (directory_grows h (Do sid (Chown owner group (Name f name))) g)
 directory_apart h sid call f name k g = absurd cc
 
-pub agrees_in_object : (c : Config) (h : History) (t : Kept) (sid : Sid) (call : Call) (f : Family) (name : List ℕ) (o : ℕ) (at : Facts) → changing call ≡ Some (Name f name) → bound h f name ≡ Some o → facts c h o ≡ Some at → Agrees c h t → Agrees c (after_accepted h (Do sid call)) (after_facts t o (changed_by call at))
+pub agrees_in_object : (c : Config) (h : History) (t : Kept) (sid : Sid) (call : Call) (f : Family) (name : List ℕ) (o : ℕ) (at : Facts) → changing call ≡ Some (Name f name) → bound h f name ≡ Some o → facts c h o ≡ Some at → Agrees c h t → Agrees c (after_accepted h (Do sid call)) (after_facts t (OwnedObject o) (changed_by call at))
 agrees_in_object c h t sid call f name o at k e is a =
     in_object c h (after_accepted h (Do sid call)) t o (changed_by call at) at (left_by c h t (Do sid call) (changes_of sid call (Name f name) k) a) (directory_apart h sid call f name k) is (object_given c h sid call f name o at k e is) (λ i ne. others_left c h sid call f name o i k e ne) a
 

@@ -12,11 +12,13 @@ ghost use Rattle.ipc_state.specs.Memory.{takes_memory};
 
 use crate::changing::accept_change;
 use crate::looking::object_number;
+use bitflags::Flags;
 use ipc_access::Cred;
 use ipc_policy::{Config, Opening, kind_of, opening_of};
 use ipc_tables::{Grant, Tables};
 use ipc_terms::{
-    Asked, Bytes, Call, Desc, Event, Facts, Family, Mode, NoMemory, Object, Rule, Sid, Uid,
+    Asked, Bytes, Call, Desc, Event, Facts, Family, Mode, NoMemory, Object, OpenFlags, Rule, Sid,
+    Uid,
 };
 use ipc_trail::Trail;
 use std::alloc::Global;
@@ -211,11 +213,7 @@ fn accept_notify(tables: &mut Tables, config: &Config, past: &Trail, sid: Sid, d
     let Some(object) = object_number(tables, sid, desc) else {
         unreachable!();
     };
-    if on {
-        tables.register(object, desc);
-    } else {
-        tables.unregister(object, desc);
-    }
+    tables.set_registered(object, desc, on);
 }
 
 fn accept_limit(tables: &mut Tables, config: &Config, past: &Trail, sid: Sid, uid: Uid, bytes: u64)
@@ -322,7 +320,7 @@ fn grant_of(asked: &Opening) -> Grant
     ensures { result ≡ record { session = asked.now.session; access = asked.now.access; nonblock = nonblock_asked asked.now.kind asked.now.flags } }
 {
     let nonblock = match asked.kind {
-        Asked::Queue(_) => asked.flags.is_nonblock(),
+        Asked::Queue(_) => asked.flags.contains(OpenFlags::NONBLOCK),
         Asked::Semaphore(_) => false,
     };
     Grant {

@@ -9,7 +9,7 @@ ghost use Rattle.ipc_state.specs.Changes.{changing, bits_of, changed_by};
 
 use crate::looking;
 use ipc_policy::Config;
-use ipc_tables::Tables;
+use ipc_tables::{Owned, Tables};
 use ipc_terms::{Call, Facts, Mode, Sid, Target};
 use ipc_trail::Trail;
 
@@ -30,7 +30,7 @@ pub fn accept_change(
     match target {
         Target::Dir(family) => {
             let was = tables.names(*family).facts();
-            tables.set_directory(*family, changed(call, was));
+            tables.set_facts(Owned::Directory(*family), changed(call, was));
         }
         Target::Name(family, name) => {
             let Some(object) = tables.names(*family).get(name) else {
@@ -39,7 +39,7 @@ pub fn accept_change(
             let Some(was) = looking::facts(tables, Some(object)) else {
                 unreachable!();
             };
-            tables.set_facts(object, changed(call, was));
+            tables.set_facts(Owned::Object(object), changed(call, was));
         }
     }
 }

@@ -29,6 +29,8 @@ use Rattle.ipc_sem.specs.Counters.{posted, wait_outcome, waited, tried}
 use Rattle.ipc_tables.specs.declared.rows.Session.{Session}
 use Rattle.ipc_tables.specs.declared.rows.ObjectRow.{ObjectRow}
 use Rattle.ipc_tables.specs.declared.tables.Grant.{Grant}
+use Rattle.ipc_tables.specs.declared.tables.Owned.{Owned}
+use Rattle.ipc_tables.specs.declared.tables.Owned.TheVariants.{Object as OwnedObject, Directory as OwnedDirectory}
 use Rattle.ipc_tables.specs.Objects.{is_number, queue_at, semaphore_at, new_row, with_queue, with_semaphore, with_withdrawal, with_facts, with_held}
 use Rattle.ipc_tables.specs.Kept.{Kept, is_kept, parked_on_at}
 use Rattle.ipc_tables.specs.Charging.{charged_with, settled}
@@ -215,21 +217,16 @@ after_hangup t sid = ended (after_withdrawal t sid) sid.0
 abbrev pub after_setattr : Kept → ℕ → Bool → Kept
 after_setattr t d nonblock = record t { descriptions = record t.descriptions { rows = changed_first (is_desc d) (with_nonblock nonblock) t.descriptions.rows } }
 
--- an object has this owner, group and mode
-abbrev pub after_facts : Kept → ℕ → Facts → Kept
-after_facts t o facts = record t { objects = changed_first (is_number o) (with_facts facts) t.objects }
-
--- the directory of a family has them
-abbrev pub after_directory : Kept → Family → Facts → Kept
-after_directory t family facts = with_directory family (λ d. record d { facts = facts }) t
+-- an object has this owner, group and mode, or the directory of a family has them
+abbrev pub after_facts : Kept → Owned → Facts → Kept
+after_facts t (OwnedObject o) facts = record t { objects = changed_first (is_number o) (with_facts facts) t.objects }
+after_facts t (OwnedDirectory family) facts = with_directory family (λ d. record d { facts = facts }) t
 
 -- user u's queues may take so many bytes
 abbrev pub after_limit : Kept → ℕ → ℕ → Kept
 after_limit t u bytes = record t { charges = with_limit t.charges u bytes }
 
 -- a description is registered for the notice of object o, or not any longer
-abbrev pub after_register : Kept → ℕ → Desc → Kept
-after_register t o desc = record t { objects = changed_first (is_number o) (with_queue (with_registration desc)) t.objects }
-
-abbrev pub after_unregister : Kept → ℕ → Desc → Kept
-after_unregister t o desc = record t { objects = changed_first (is_number o) (with_queue (without_registration desc)) t.objects }
+abbrev pub after_notify : Kept → ℕ → Desc → Bool → Kept
+after_notify t o desc true = record t { objects = changed_first (is_number o) (with_queue (with_registration desc)) t.objects }
+after_notify t o desc false = record t { objects = changed_first (is_number o) (with_queue (without_registration desc)) t.objects }

@@ -7,4 +7,4 @@ mod rows;
 mod tables;
 
 pub use rows::{Body, ObjectRow, Session};
-pub use tables::{Grant, Tables};
+pub use tables::{Grant, Owned, Tables};

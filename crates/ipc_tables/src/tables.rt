@@ -11,7 +11,7 @@ ghost use Rattle.ipc_tables.specs.Charging.{Covered, Affords};
 ghost use Rattle.ipc_tables.specs.Objects.{HasRoom, is_queue, row_at, queue_at, semaphore_at};
 ghost use Rattle.ipc_sem.specs.Counters.{overflows};
 ghost use Rattle.ipc_tables.specs.Kept.{Kept, directory_kept};
-ghost use Rattle.ipc_tables.specs.Steps.{with_parked, with_object, with_binding, without_binding, ReceiverStands, SenderStands, WaiterStands, after_post, after_wait, after_try, after_hello, after_umask, after_found, after_created, after_close, after_unlink, after_hangup, after_send, after_receive, after_withdrawal, after_setattr, after_facts, after_directory, after_limit, after_register, after_unregister, first_tables};
+ghost use Rattle.ipc_tables.specs.Steps.{with_parked, with_object, with_binding, without_binding, ReceiverStands, SenderStands, WaiterStands, after_post, after_wait, after_try, after_hello, after_umask, after_found, after_created, after_close, after_unlink, after_hangup, after_send, after_receive, after_withdrawal, after_setattr, after_facts, after_limit, after_notify, first_tables};
 
 use crate::objects::{Objects, bytes_taken};
 use crate::rows::{Body, ObjectRow, Session};
@@ -31,6 +31,12 @@ pub struct Grant {
     pub session: Sid,
     pub access: Access,
     pub nonblock: bool,
+}
+
+/// What has an owner, group and mode: an object by its number, or the directory of a family.
+pub enum Owned {
+    Object(u64),
+    Directory(Family),
 }
 
 /// Sessions stand at their numbers. Of the objects, those that are alive: numbered by the objects
@@ -366,41 +372,35 @@ impl Tables {
         set_parked(&mut self.sessions, sid, None);
     }
 
-    /// Registers the description for the notice of the queue, where none is registered.
-    pub fn register(&mut self, object: u64, desc: Desc)
-        ensures { self.new ≡ after_register self.old object desc }
+    /// Registers the description for the notice of the queue, where none is registered; or takes the
+    /// registration of the description back.
+    pub fn set_registered(&mut self, object: u64, desc: Desc, on: bool)
+        ensures { self.new ≡ after_notify self.old object desc on }
     {
-        self.objects.astray |= !gives(&self.descriptions, desc, object);
-        if let Some(row) = self.objects.rows.get_mut(&object) {
+        let Some(row) = self.objects.rows.get_mut(&object) else {
+            return;
+        };
+        if on {
+            self.objects.astray |= !gives(&self.descriptions, desc, object);
             row.body.register(desc);
-        }
-    }
-
-    /// Takes the registration of the description back.
-    pub fn unregister(&mut self, object: u64, desc: Desc)
-        ensures { self.new ≡ after_unregister self.old object desc }
-    {
-        if let Some(row) = self.objects.rows.get_mut(&object) {
+        } else {
             row.body.unregister(desc);
         }
     }
 
-    /// Gives the object this owner, group and mode. Where there is no such object nothing changes.
-    pub fn set_facts(&mut self, object: u64, facts: Facts)
-        ensures { self.new ≡ after_facts self.old object facts }
+    /// Gives the object or the directory this owner, group and mode. Where there is no such object
+    /// nothing changes.
+    pub fn set_facts(&mut self, owned: Owned, facts: Facts)
+        ensures { self.new ≡ after_facts self.old owned facts }
     {
-        if let Some(row) = self.objects.rows.get_mut(&object) {
-            row.facts = facts;
-        }
-    }
-
-    /// Gives the family's directory this owner, group and mode.
-    pub fn set_directory(&mut self, family: Family, facts: Facts)
-        ensures { self.new ≡ after_directory self.old family facts }
-    {
-        match family {
-            Family::Mq => give_facts(&mut self.queues, facts),
-            Family::Sem => give_facts(&mut self.semaphores, facts),
+        match owned {
+            Owned::Object(object) => {
+                if let Some(row) = self.objects.rows.get_mut(&object) {
+                    row.facts = facts;
+                }
+            }
+            Owned::Directory(Family::Mq) => give_facts(&mut self.queues, facts),
+            Owned::Directory(Family::Sem) => give_facts(&mut self.semaphores, facts),
         }
     }
 

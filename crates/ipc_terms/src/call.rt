@@ -1,11 +1,10 @@
 //! What is asked, and what is answered.
 
-ghost use Rattle.std.specs.Prelude.{◌≡◌, IfOk};
+ghost use Rattle.std.specs.Prelude.{◌≡◌};
 ghost use Rattle.std.specs.Option.{option_copied};
 ghost use Rattle.ipc_terms.specs.Lines.{op_of, name_of};
 
 use crate::bytes::Bytes;
-use crate::errors::NoMemory;
 use crate::facts::Facts;
 use crate::flags::OpenFlags;
 use crate::ids::{Desc, Family, Gid, Mode, Sid, Target, Uid};
@@ -236,13 +235,4 @@ pub enum Answer {
     Refused(Rule),
     /// To a call that was parked: an interrupt ended it (POSIX.1-2017, `EINTR`).
     Interrupted,
-}
-
-impl Answer {
-    /// An equal answer.
-    pub fn copy(&self) -> Result<Answer, NoMemory>
-        ensures { IfOk result (λ copy. copy ≡ self.now) }
-    {
-        Ok(self.clone()?)
-    }
 }

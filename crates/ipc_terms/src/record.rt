@@ -3,7 +3,7 @@
 ghost use Rattle.std.specs.Prelude.{◌≡◌, IfOk};
 ghost use Rattle.std.specs.Option.{option_copied};
 ghost use Rattle.ipc_terms.specs.Events.{caller};
-ghost use Rattle.ipc_terms.specs.Lines.{event_op, event_name, rule_number};
+ghost use Rattle.ipc_terms.specs.Lines.{event_op, event_name};
 
 use crate::call::Call;
 use crate::errors::NoMemory;
@@ -67,16 +67,4 @@ impl Event {
 pub struct Record {
     pub event: Event,
     pub rule: Option<Rule>,
-}
-
-impl Record {
-    /// The number of the rule, or 0.
-    pub fn rule_number(&self) -> u16
-        ensures { result ≡ rule_number self.now.rule }
-    {
-        match self.rule {
-            Some(rule) => rule.number(),
-            None => 0,
-        }
-    }
 }

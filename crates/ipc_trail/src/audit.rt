@@ -1,10 +1,10 @@
 //! What the audit shows of a record.
 
 ghost use Rattle.std.specs.Prelude.{◌≡◌, ◌+◌, ◌^◌, ◌<◌, [], take, length, unwrap_or, IfOk};
-ghost use Rattle.ipc_terms.specs.Lines.{line_of, event_name};
+ghost use Rattle.ipc_terms.specs.Lines.{line_of, event_name, rule_number};
 ghost use Rattle.ipc_trail.specs.Receipts.{receipt_of, lines_from};
 
-use ipc_terms::{Bytes, Event, Line, Name, NoMemory, Record, Sid};
+use ipc_terms::{Bytes, Event, Line, Name, NoMemory, Record, Rule, Sid};
 use std::alloc::Global;
 
 /// The most bytes of a name that a line shows.
@@ -30,7 +30,17 @@ pub(crate) fn receipt_of(place: u64, record: &Record) -> Receipt
         place,
         sid: record.event.caller(),
         op: record.event.op(),
-        rule: record.rule_number(),
+        rule: rule_number(record.rule),
+    }
+}
+
+/// The number of the rule, or 0.
+fn rule_number(rule: Option<Rule>) -> u16
+    ensures { result ≡ rule_number rule }
+{
+    match rule {
+        Some(rule) => rule.number(),
+        None => 0,
     }
 }
 
@@ -57,7 +67,7 @@ fn line_of(alloc: Global, place: u64, record: &Record) -> Result<Line, NoMemory>
         place,
         sid: record.event.caller(),
         op: record.event.op(),
-        rule: record.rule_number(),
+        rule: rule_number(record.rule),
         name: name_shown(alloc, &record.event)?,
     })
 }

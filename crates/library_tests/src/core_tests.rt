@@ -5,6 +5,7 @@ use bitflags::Flags;
 use ipc_core::{Core, CoreFault, Field, Limits, laws};
 use ipc_terms::{Answer, Call, Event, Mode, NoMemory, OpenFlags, Rule, Sid, Uid};
 use std::alloc::Global;
+use std::mem;
 use std::test::Fail;
 
 const FILE: &[u8] = b"root:r00t:0:0::\nann:ka1:1000:1000:50:\nbob:kb1:1001:1001:50,51:\n";
@@ -115,9 +116,11 @@ fn runs(alloc: Global, core: &mut Core) -> Result<bool, NoMemory> {
     }
 }
 
-/// Starts again, with a core of the standard limits.
+/// Starts again, with a core of the standard limits. A call drops the old one: the proof of any other drop
+/// of a core is long.
 fn starts(alloc: Global, core: &mut Core) -> Result<bool, Fail> {
-    *core = core_of(alloc, FILE)?;
+    let started = core_of(alloc, FILE)?;
+    drop(mem::replace(core, started));
     Ok(true)
 }
 
@@ -193,7 +196,9 @@ fn all_give(alloc: Global, core: &mut Core, steps: &[Step]) -> Result<(), Fail> 
 #[test]
 fn worked_cores(rt: HostRuntime) -> Result<(), Fail> {
     let mut core = core_of(rt.alloc(), FILE)?;
-    all_give(rt.alloc(), &mut core, &STEPS)
+    let given = all_give(rt.alloc(), &mut core, &STEPS);
+    drop(core);
+    given
 }
 
 /// Limits, and the fault of the field that is out of its range.

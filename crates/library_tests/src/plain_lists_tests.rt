@@ -253,10 +253,12 @@ fn start_sessions(core: &mut Core, alloc: Global) -> Result<(), Fail> {
     Ok(())
 }
 
-/// One exit alone drops the comparison here: the proof of each drop is long.
+/// A call drops the comparison: the proof of any other drop is long.
 fn disagreement(alloc: Global) -> Result<Option<u32>, Fail> {
     let mut compared = Compared::new(alloc)?;
-    compared.first_disagreement(alloc)
+    let found = compared.first_disagreement(alloc);
+    drop(compared);
+    found
 }
 
 #[test]

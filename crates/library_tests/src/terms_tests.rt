@@ -110,9 +110,9 @@ fn flags_are_bits(rt: HostRuntime) -> Result<(), Fail> {
     assert!(rt; (OpenFlags::CREATE | OpenFlags::NONBLOCK).bits() == 5);
     for (bits, creates, exclusive, nonblock) in &FLAGS {
         let flags = OpenFlags::from_bits_retain(*bits);
-        if flags.creates() != *creates
-            || flags.is_exclusive() != *exclusive
-            || flags.is_nonblock() != *nonblock
+        if flags.contains(OpenFlags::CREATE) != *creates
+            || flags.contains(OpenFlags::EXCLUSIVE) != *exclusive
+            || flags.contains(OpenFlags::NONBLOCK) != *nonblock
         {
             return Err(Fail::new(format_args!("at {bits}")));
         }

@@ -524,13 +524,8 @@ fn no_word_and_an_empty_one_are_usage(rt: HostRuntime) {
     assert!(rt; means(rt.alloc(), &["interrupt", ""], &Usage));
 }
 
-/// Words of which the middle one doesn't read, and the argument that is then named.
-type Unread = (
-    &'static [&'static str],
-    &'static [&'static str],
-    &'static [&'static str],
-    &'static str,
-);
+/// A command with `_` in place of a word, words that don't read there, and the argument that is then named.
+type Unread = (&'static str, &'static [&'static str], &'static str);
 
 const MODES: &[&str] = &["8", "00000", "", "0x2", "+22", "2 ", "1_0", "٧"];
 
@@ -553,70 +548,52 @@ const FAMILIES: &[&str] = &["", "MQ", "mqs", "m", "queue", "hex:6d71", "mq "];
 const PAIRS: &[&str] = &["hex:2", "hex:2D", "hex:2g", "hex:2d ", "hex:hex:", "hex:-1"];
 
 static UNREAD: [Unread; 27] = [
-    (&["umask"], MODES, &[], "octal"),
-    (&["mq-open", "/a", "r", "--mode"], MODES, &[], "mode"),
-    (&["mq-close"], DESCRIPTIONS, &[], "d"),
-    (&["mq-send"], DESCRIPTIONS, &["0", "hi"], "d"),
-    (&["mq-receive"], DESCRIPTIONS, &["0"], "d"),
-    (&["mq-getattr"], DESCRIPTIONS, &[], "d"),
-    (&["mq-setattr"], DESCRIPTIONS, &["block"], "d"),
+    ("umask _", MODES, "octal"),
+    ("mq-open /a r --mode _", MODES, "mode"),
+    ("mq-close _", DESCRIPTIONS, "d"),
+    ("mq-send _ 0 hi", DESCRIPTIONS, "d"),
+    ("mq-receive _ 0", DESCRIPTIONS, "d"),
+    ("mq-getattr _", DESCRIPTIONS, "d"),
+    ("mq-setattr _ block", DESCRIPTIONS, "d"),
+    ("mq-open /a _", &["x", "R", "wr", "", "rww"], "access"),
+    ("ls _ 0 1", FAMILIES, "family"),
+    ("stat _", FAMILIES, "family"),
+    ("stat _ /a", FAMILIES, "family"),
     (
-        &["mq-open", "/a"],
-        &["x", "R", "wr", "", "rww"],
-        &[],
-        "access",
-    ),
-    (&["ls"], FAMILIES, &["0", "1"], "family"),
-    (&["stat"], FAMILIES, &[], "family"),
-    (&["stat"], FAMILIES, &["/a"], "family"),
-    (
-        &["ls", "mq", "0"],
+        "ls mq 0 _",
         &["65536", "4294967296", "00", "01", "", "+1", "x"],
-        &[],
         "count",
     ),
-    (&["ls", "mq"], COUNTS, &["1"], "start"),
-    (&["audit"], DESCRIPTIONS, &["1"], "start"),
-    (&["audit", "0"], &["65536", "00", "", "all"], &[], "count"),
-    (&["mq-send", "0"], COUNTS, &["hi"], "prio"),
-    (&["mq-receive", "0"], COUNTS, &[], "len"),
+    ("ls mq _ 1", COUNTS, "start"),
+    ("audit _ 1", DESCRIPTIONS, "start"),
+    ("audit 0 _", &["65536", "00", "", "all"], "count"),
+    ("mq-send 0 _ hi", COUNTS, "prio"),
+    ("mq-receive 0 _", COUNTS, "len"),
+    ("mq-open /a r --maxmsg _ --msgsize 1", COUNTS, "maxmsg"),
+    ("mq-open /a r --msgsize _ --maxmsg 1", COUNTS, "msgsize"),
+    ("set-limit _ 0", COUNTS, "uid"),
+    ("set-limit 0 _", DESCRIPTIONS, "bytes"),
+    ("mq-open _ r", PAIRS, "name"),
+    ("mq-unlink _", PAIRS, "name"),
+    ("stat sem _", PAIRS, "name"),
+    ("mq-send 0 0 _", PAIRS, "bytes"),
     (
-        &["mq-open", "/a", "r", "--maxmsg"],
-        COUNTS,
-        &["--msgsize", "1"],
-        "maxmsg",
-    ),
-    (
-        &["mq-open", "/a", "r", "--msgsize"],
-        COUNTS,
-        &["--maxmsg", "1"],
-        "msgsize",
-    ),
-    (&["set-limit"], COUNTS, &["0"], "uid"),
-    (&["set-limit", "0"], DESCRIPTIONS, &[], "bytes"),
-    (&["mq-open"], PAIRS, &["r"], "name"),
-    (&["mq-unlink"], PAIRS, &[], "name"),
-    (&["stat", "sem"], PAIRS, &[], "name"),
-    (&["mq-send", "0", "0"], PAIRS, &[], "bytes"),
-    (
-        &["mq-setattr", "0"],
+        "mq-setattr 0 _",
         &["", "Block", "nonblocking", "on", "0", "hex:", "block "],
-        &[],
         "how",
     ),
     (
-        &["mq-notify", "0"],
+        "mq-notify 0 _",
         &["", "On", "of", "true", "0", "hex:", "off "],
-        &[],
         "how",
     ),
 ];
 
-/// Whether each of the words, between these, doesn't read and has its argument named.
+/// Whether each of the words, in its place, doesn't read and has its argument named.
 fn all_are_named(alloc: Global, row: &Unread) -> Result<(), Fail> {
-    let (front, unread, back, argument) = row;
+    let (line, unread, argument) = row;
     for word in *unread {
-        let words = around(alloc, front, word, back)?;
+        let words = words_with(alloc, line, word)?;
         if !means(alloc, &words, &BadValue(argument)) {
             return Err(Fail::new(format_args!("{argument} at {word}")));
         }
@@ -624,15 +601,16 @@ fn all_are_named(alloc: Global, row: &Unread) -> Result<(), Fail> {
     Ok(())
 }
 
-fn around(
+/// The words of the line, with this one in place of `_`.
+fn words_with(
     alloc: Global,
-    front: &[&'static str],
-    word: &'static str,
-    back: &[&'static str],
+    line: &'static str,
+    unread: &'static str,
 ) -> Result<Vec<&'static str>, NoMemory> {
-    let mut words = Vec::from_slice(alloc, front)?;
-    words.push(word)?;
-    words.extend_from_slice(back)?;
+    let mut words = Vec::new(alloc);
+    for word in line.split(' ') {
+        words.push(if word == "_" { unread } else { word })?;
+    }
     Ok(words)
 }
 

@@ -2,6 +2,6 @@ use Rattle.std.proofs.Common.{rules, tests}
 use Rattle.ipc_policy.specs.Rules.{absent}
 use Rattle.ipc_rules.proofs.rules.absent.Goals as goal
 
-pub returns-then-not-creates : goal.returns-then-not-creates
+pub returns-then-not-contains : goal.returns-then-not-contains
 unfolding absent
-returns-then-not-creates c = search (tests, rules)
+returns-then-not-contains c = search (tests, rules)

@@ -21,10 +21,10 @@ unreachable-requires-in_default-facts c =
 pub returns-in-Dir : goal.returns-in-Dir
 returns-in-Dir c =
     let was = c.facts-was.ensures ∙ ap (λ (d : Directory). d.facts) c.names.ensures ∙ (directory_agrees c.args.config.now c.args.past.now.history c.args.tables.now c.in-Dir.family c.requires.core.agrees).facts in
-    rw (c.set_directory.ensures, c.changed.ensures, was) (agrees_in_directory c.args.config.now c.args.past.now.history c.args.tables.now c.args.sid c.args.call.now c.in-Dir.family (c.requires.changes ∙ ap Some c.in-Dir.is) c.requires.core.agrees)
+    rw (c.set_facts.ensures, c.changed.ensures, was) (agrees_in_directory c.args.config.now c.args.past.now.history c.args.tables.now c.args.sid c.args.call.now c.in-Dir.family (c.requires.changes ∙ ap Some c.in-Dir.is) c.requires.core.agrees)
 
 pub returns-in-Some-facts : goal.returns-in-Some-facts
 returns-in-Some-facts c =
     let is = found_meant c.args.config.now c.args.past.now.history c.args.tables.now c.in-Name.family c.in-Name.name _ _ c.requires.core.agrees c.names-in-Name.ensures c.get.ensures ∙ c.in-Some.is in
     let at = facts_meant_is c.args.config.now c.args.past.now.history c.args.tables.now c.in-Name.family c.in-Name.name c.in-Some.object _ c.requires.core is c.facts.ensures ∙ c.in-Some-facts.is in
-    rw (c.set_facts.ensures, c.changed-in-Name.ensures) (agrees_in_object c.args.config.now c.args.past.now.history c.args.tables.now c.args.sid c.args.call.now c.in-Name.family c.in-Name.name c.in-Some.object c.in-Some-facts.was (c.requires.changes ∙ ap Some c.in-Name.is) is at c.requires.core.agrees)
+    rw (c.set_facts-in-Name.ensures, c.changed-in-Name.ensures) (agrees_in_object c.args.config.now c.args.past.now.history c.args.tables.now c.args.sid c.args.call.now c.in-Name.family c.in-Name.name c.in-Some.object c.in-Some-facts.was (c.requires.changes ∙ ap Some c.in-Name.is) is at c.requires.core.agrees)
