@@ -3,7 +3,7 @@ use Rattle.std.proofs.Common.{◌≡◌, ℕ, Bool, true, false, not, ◌&&◌, 
 use Rattle.std.specs.Prelude.{find, filter, option_and_then}
 use Rattle.std.specs.Option.{option_map, option_or}
 use Rattle.std.proofs.lemmas.Bool.{eqb-true, eq-eqb, ne_eqb}
-use Rattle.ipc_terms.specs.Lists.{first}
+use Rattle.ipc_terms.specs.Lists.{first, Each}
 use Rattle.ipc_terms.specs.declared.rule.Rule.{Rule}
 use Rattle.ipc_terms.specs.declared.rule.Rule.TheVariants.{InCall}
 use Rattle.ipc_terms.specs.declared.ids.Sid.{Sid}
@@ -20,7 +20,7 @@ use Rattle.ipc_policy.specs.Descriptions.{holds}
 use Rattle.ipc_policy.specs.Queues.{Send, Wait, Act, Sends, Receives, Withdraws, Rests, Queue, has_all, has_none, behind, senders_after, receivers_after, queue_after, act, queue, maxmsg, room, attributes, contents, senders, receivers, is_full, is_empty}
 use Rattle.ipc_policy.specs.Semaphores.{SemaphoreAct, Posts, Waits, Tries, Cancels, Idles, Semaphore, semaphore_act, semaphore_after, waiters_after, gives_value, semaphore, value, waiters, is_zero}
 use Rattle.ipc_policy.specs.Parking.{ParkedKind, Sending, Receiving, Waiting, Parked, withdraws, is_posted, parks, parked_on, ends_call, ends_parked, parked, stands_at}
-use Rattle.ipc_policy.specs.Readings.{Each, ends_send, ends_receive}
+use Rattle.ipc_policy.specs.Readings.{ends_send, ends_receive}
 use Rattle.ipc_policy.specs.Rules.{forbids, in_call, is_interrupt}
 use Rattle.ipc_policy.specs.Verdict.{verdict}
 use Rattle.ipc_policy.specs.Laws.{IsListed, ParkedIsListed, place_listed}

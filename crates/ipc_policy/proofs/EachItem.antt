@@ -2,13 +2,13 @@
 use Rattle.std.proofs.Common.{◌≡◌, ℕ, ◌+◌, ◌<◌, Bool, true, false, not, ◌||◌, eqb, nat_lt, List, [], ◌∷◌, ◌++◌, cond, Option, Some, None, refl, subst, arith}
 use Rattle.std.specs.Prelude.{filter}
 use Rattle.std.proofs.lemmas.Bool.{ne_eqb}
-use Rattle.ipc_terms.specs.Lists.{first}
+use Rattle.ipc_terms.specs.Lists.{first, Each}
 use Rattle.ipc_terms.specs.Priorities.{first_of_greatest}
 use Rattle.ipc_policy.specs.History.{listed}
 use Rattle.ipc_policy.specs.Queues.{Send, Wait, Act, Sends, Receives, Withdraws, Rests, Queue, has_none, has_all, behind, next, others, receivers_after, senders_after, contents_after}
 use Rattle.ipc_policy.specs.Parking.{stands_at}
 use Rattle.ipc_policy.specs.Semaphores.{SemaphoreAct, Posts, Waits, Tries, Cancels, Idles, Semaphore, waiters_after}
-use Rattle.ipc_policy.specs.Readings.{Each, Rising, ends_receive, ends_send, ends_wait}
+use Rattle.ipc_policy.specs.Readings.{Rising, ends_receive, ends_send, ends_wait}
 
 pub each_map : {A : Type 0} (P Q : A → Type 0) (xs : List A) → ((x : A) → P x → Q x) → Each P xs → Each Q xs
 each_map P Q [] f h = tt

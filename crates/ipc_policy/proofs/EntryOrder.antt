@@ -3,13 +3,13 @@ use Rattle.std.proofs.Common.{◌≡◌, ℕ, ◌+◌, ◌<◌, ◌≤◌, Bool,
 use Rattle.std.specs.Prelude.{is_some, unwrap_or, MatchOption}
 use Rattle.std.specs.Option.{option_or}
 use Rattle.std.proofs.lemmas.Bool.{eq-eqb, ne_eqb, ltb-true, ltb-false}
-use Rattle.ipc_terms.specs.Lists.{first}
+use Rattle.ipc_terms.specs.Lists.{first, Each}
 use Rattle.ipc_terms.specs.declared.rule.Rule.{Rule}
 use Rattle.ipc_terms.specs.declared.record.Event.{Event}
 use Rattle.ipc_policy.specs.declared.config.Config.{Config}
 use Rattle.ipc_policy.specs.History.{History, newest, listed}
 use Rattle.ipc_policy.specs.Queues.{Send, Act, Sends, Receives, Withdraws, Rests, Queue, has_all, has_none, next, others, contents_after, act, queue, maxmsg, contents}
-use Rattle.ipc_policy.specs.Readings.{Each, Rising, enters, entering, entered, EachInsideInOrder, IsNext, EachNextIsGreatest}
+use Rattle.ipc_policy.specs.Readings.{Rising, enters, entering, entered, EachInsideInOrder, IsNext, EachNextIsGreatest}
 use Rattle.ipc_policy.proofs.PlaceLists.{rising_higher, rising_append, rising_filter}
 use Rattle.ipc_policy.proofs.EachItem.{each_map, each_append, each_filter}
 use Rattle.ipc_policy.proofs.Counting.{count_at}

@@ -24,7 +24,8 @@ use Rattle.ipc_policy.specs.Life.{named, alive, gives_object}
 use Rattle.ipc_policy.specs.Queues.{Send, Wait, Withdraws, Queue, queue_after, queue, senders, receivers, is_full, is_empty}
 use Rattle.ipc_policy.specs.Semaphores.{Cancels, semaphore, semaphore_after, waiters, is_zero}
 use Rattle.ipc_policy.specs.Parking.{ParkedKind, Sending, Receiving, Waiting, Parked, parks, parked_on, serves, is_longest, ends_call, ends_parked, parked}
-use Rattle.ipc_policy.specs.Readings.{Each, Rising}
+use Rattle.ipc_terms.specs.Lists.{Each}
+use Rattle.ipc_policy.specs.Readings.{Rising}
 use Rattle.ipc_policy.specs.Grow.{live_after, held_after, made_after, is_new}
 use Rattle.ipc_policy.specs.Verdict.{verdict, Legal}
 use Rattle.ipc_policy.specs.Laws.{IsParked}

@@ -3,7 +3,7 @@ use Rattle.std.proofs.Common.{◌≡◌, ℕ, ◌+◌, ◌<◌, Bool, true, fals
 use Rattle.std.specs.Prelude.{find, option_and_then}
 use Rattle.std.specs.Option.{option_or, option_map}
 use Rattle.std.proofs.lemmas.Bool.{eqb-true, eqb-false, eq-eqb, ne_eqb}
-use Rattle.ipc_terms.specs.Lists.{first}
+use Rattle.ipc_terms.specs.Lists.{first, Each}
 use Rattle.ipc_terms.specs.declared.ids.Sid.{Sid}
 use Rattle.ipc_terms.specs.declared.ids.Desc.{Desc}
 use Rattle.ipc_terms.specs.declared.call.Call.TheVariants.{MqSend, MqReceive, SemPost, SemWait, SemTryWait, Interrupt}
@@ -17,7 +17,7 @@ use Rattle.ipc_policy.specs.Life.{gives_object}
 use Rattle.ipc_policy.specs.Queues.{Send, Wait, Act, Sends, Receives, Withdraws, Rests, Queue, queue_after, maxmsg, queue, senders, receivers, is_full, is_empty}
 use Rattle.ipc_policy.specs.Semaphores.{semaphore}
 use Rattle.ipc_policy.specs.Parking.{ParkedKind, Sending, Receiving, Waiting, Parked, stands_at, serves, is_longest, ends_call, parked, parked_on}
-use Rattle.ipc_policy.specs.Readings.{Each, Rising}
+use Rattle.ipc_policy.specs.Readings.{Rising}
 use Rattle.ipc_policy.specs.Verdict.{Legal}
 use Rattle.ipc_policy.specs.Laws.{IsListed, place_listed}
 use Rattle.ipc_policy.proofs.ParkedPlaces.{parked_by_place}

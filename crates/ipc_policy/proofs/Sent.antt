@@ -2,7 +2,7 @@
 use Rattle.std.proofs.Common.{◌≡◌, ℕ, ◌<◌, Bool, true, false, cond, [], ◌∷◌, length, Option, Some, None, sym, ap, ◌∙◌, arith}
 use Rattle.std.specs.Prelude.{option_and_then}
 use Rattle.std.proofs.lemmas.Bool.{eq-eqb, ne_eqb}
-use Rattle.ipc_terms.specs.Lists.{first}
+use Rattle.ipc_terms.specs.Lists.{first, Each}
 use Rattle.ipc_terms.specs.History.{record_at, message_of, message_at}
 use Rattle.ipc_terms.specs.declared.rule.Rule.{Rule}
 use Rattle.ipc_terms.specs.declared.call.Call.TheVariants.{MqSend, MqReceive}
@@ -14,7 +14,6 @@ use Rattle.ipc_policy.specs.History.{History}
 use Rattle.ipc_policy.specs.Descriptions.{holds}
 use Rattle.ipc_policy.specs.Life.{gives_object}
 use Rattle.ipc_policy.specs.Queues.{Send, Act, Sends, Rests, act, next, maxmsg, queue, contents, senders}
-use Rattle.ipc_policy.specs.Readings.{Each}
 use Rattle.ipc_policy.proofs.EachItem.{each_map, each_first, each_greatest, each_inside, each_sender}
 
 -- its send stands at its place, with its priority and its bytes

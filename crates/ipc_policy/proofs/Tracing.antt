@@ -16,7 +16,8 @@ use Rattle.ipc_policy.specs.Descriptions.{held, holds, ends_held}
 use Rattle.ipc_policy.specs.Queues.{Send, Wait, Sends, act, queue, maxmsg, contents, senders, receivers}
 use Rattle.ipc_policy.specs.Semaphores.{semaphore_act, semaphore}
 use Rattle.ipc_policy.specs.Parking.{Parked, Receiving, is_posted, ends_call, ends_parked, parked}
-use Rattle.ipc_policy.specs.Readings.{Each, ends_receive}
+use Rattle.ipc_terms.specs.Lists.{Each}
+use Rattle.ipc_policy.specs.Readings.{ends_receive}
 use Rattle.ipc_policy.specs.Rules.{forbids, not_for_write, not_for_read, reads_only, writes_only}
 use Rattle.ipc_policy.specs.Verdict.{Legal, verdict}
 use Rattle.ipc_policy.specs.Confined.{IsSendTo, IsReceiveFrom}

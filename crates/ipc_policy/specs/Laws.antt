@@ -22,7 +22,7 @@ use Rattle.ipc_policy.specs.Registrations.{registered}
 use Rattle.ipc_policy.specs.Semaphores.{Semaphore, semaphore, value, waiters}
 use Rattle.ipc_policy.specs.Parking.{ParkedKind, Sending, Receiving, Waiting, Parked, parked}
 use Rattle.ipc_policy.specs.Charges.{charge_of, charged, queues_alive, sets_limit, limit}
-use Rattle.ipc_policy.specs.Readings.{Each}
+use Rattle.ipc_terms.specs.Lists.{Each}
 use Rattle.ipc_policy.specs.Rules.{forbids}
 use Rattle.ipc_policy.specs.Verdict.{verdict, caller, Legal, for_session, outbox}
 

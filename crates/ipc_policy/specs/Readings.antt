@@ -2,7 +2,7 @@
 -- message enters and at which it is taken. What the lists of a queue and a semaphore's are is stated here without
 -- `queue_after` and `semaphore_after`.
 use Rattle.std.specs.Prelude.{◌≡◌, Bool, false, ℕ, ◌+◌, ◌<◌, ◌≤◌, ◌&&◌, ◌==◌, not, find, List, [], ◌∷◌, ◌++◌, length, Option, Some, None, is_some, unwrap_or, if◌then◌else◌, MatchOption}
-use Rattle.ipc_terms.specs.Lists.{first}
+use Rattle.ipc_terms.specs.Lists.{first, Each}
 use Rattle.ipc_policy.specs.declared.config.Config.{Config}
 use Rattle.ipc_policy.specs.History.{History, newest, kept, unended}
 use Rattle.ipc_policy.specs.Queues.{Send, Wait, Act, Sends, Receives, Withdraws, Queue, has_all, has_none, next, act, queue, maxmsg, contents, senders, receivers}
@@ -97,11 +97,6 @@ entered c h o i = unwrap_or (newest (λ e before. if is_some (enters (maxmsg c b
 -- the contents stand in the order in which they entered, and no two entered at one record
 abbrev pub EachInsideInOrder : Type 0
 EachInsideInOrder = (c : Config) (h : History) (o : ℕ) → Rising (λ m. entered c h o m.place) 0 (contents c h o) (length h)
-
--- it holds of each item
-abbrev pub Each : {A : Type 0} → (A → Type 0) → List A → Type 0
-Each P [] = Unit {0}
-Each P (x ∷ xs) = P x × Each P xs
 
 -- it is in the list; each that entered before it has a smaller priority, and each that entered after it no greater one
 pub record IsNext (xs : List Send) (n : Send) : Type 0 where

@@ -4,7 +4,7 @@ use Rattle.std.specs.Prelude.{nat_le}
 use Rattle.std.specs.Option.{option_map}
 use Rattle.std.proofs.lemmas.Bool.{eqb-true, eq-eqb, ne_eqb, leb-true}
 use Rattle.std.proofs.lemmas.List.{length-map, map_push}
-use Rattle.ipc_terms.specs.Lists.{first}
+use Rattle.ipc_terms.specs.Lists.{first, Each}
 use Rattle.ipc_terms.specs.declared.ids.Sid.{Sid}
 use Rattle.ipc_queue.specs.declared.queue.Ticket.{Ticket}
 use Rattle.ipc_terms.specs.Events.{is_session}
@@ -13,7 +13,6 @@ use Rattle.ipc_queue.specs.Tickets.{is_ticket, is_sender, is_full_of, next_ticke
 use Rattle.ipc_terms.specs.declared.call.Attributes.{Attributes}
 use Rattle.ipc_policy.specs.History.{listed}
 use Rattle.ipc_policy.specs.Queues.{Send, Wait, Sends, Receives, Withdraws, Queue, next, others, behind, has_none, has_all, queue_after}
-use Rattle.ipc_policy.specs.Readings.{Each}
 use Rattle.ipc_policy.proofs.Counting.{count_at}
 use Rattle.ipc_policy.proofs.EntryOrder.{next_some}
 use Rattle.ipc_policy.proofs.Living.{append_none}

@@ -21,3 +21,8 @@ changed_first test change (x ∷ xs) = if test x then change x ∷ xs else x ∷
 abbrev pub without_first : {A : Type 0} → (A → Bool) → List A → List A
 without_first test [] = []
 without_first test (x ∷ xs) = if test x then xs else x ∷ without_first test xs
+
+-- it holds of each item
+abbrev pub Each : {A : Type 0} → (A → Type 0) → List A → Type 0
+Each P [] = Unit {0}
+Each P (x ∷ xs) = P x × Each P xs
