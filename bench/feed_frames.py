@@ -6,37 +6,20 @@ each kind of piece. A run that gives another number of requests ends it, with st
 """
 
 import argparse
-import shutil
 import statistics
 import subprocess
 import sys
 import tempfile
 from pathlib import Path
 
-ROOT = Path(__file__).resolve().parent.parent
+from building import built
 
-USED = ["ipc_terms", "ipc_fields", "ipc_wire"]
+LIBRARIES = ["ipc_terms", "ipc_wire", "anyhow"]
 
 # How often each kind of piece is fed.
 RUNS = 5
 
 PIECES = [("in one piece", 0), ("in pieces of 64 KiB", 65_536), ("byte by byte", 1)]
-
-
-def build(room):
-    """The program, built in this folder."""
-    for name in USED:
-        shutil.copytree(ROOT / "crates" / name, room / "crates" / name)
-    folder = room / "crates" / "feed_frames"
-    (folder / "src").mkdir(parents=True)
-    shutil.copy(ROOT / "bench" / "feed_frames.main", folder / "src" / "main.rt")
-    shutil.copy(ROOT / "HANDLES", room)
-    lines = (ROOT / "crates.txt").read_text().splitlines()
-    lines = [line for line in lines if line.partition(":")[0] in USED]
-    lines.append("feed_frames: ipc_terms ipc_wire anyhow")
-    (room / "crates.txt").write_text("\n".join(lines) + "\n")
-    subprocess.run(["rt", "run", "--", "1", "1"], cwd=folder, check=True, stdout=sys.stderr)
-    return folder / "out" / "feed_frames"
 
 
 def rate(program, piece, count):
@@ -55,7 +38,7 @@ def main():
     parser.add_argument("frames", nargs="?", type=int, default=1_000_000, help="1,000,000 where none are given")
     count = parser.parse_args().frames
     with tempfile.TemporaryDirectory(prefix="feed-frames-") as room:
-        program = build(Path(room))
+        program = built(Path(room), "feed_frames", LIBRARIES, ["1", "1"])
         for kind, piece in PIECES:
             rates = [rate(program, piece, count) for _ in range(RUNS)]
             shown = ", ".join(f"{it:.0f}" for it in rates)

@@ -72,8 +72,8 @@ impl NameDir {
         counts::count(&self.counts, object) > 0
     }
 
-    /// Binds a name that is unbound. The directory doesn't ask whether it has the form of a name:
-    /// `check` does. An `Err` leaves the directory as it was, and the name is lost.
+    /// Binds a name that is unbound, whatever its form. An `Err` leaves the directory as it was, and
+    /// the name is lost.
     pub fn bind(&mut self, name: Name, object: u64) -> Result<(), NoMemory>
         requires { object_named self.old.bindings name ≡ None }
         ensures ok { OnOk result (self.new ≡ record self.old { bindings = self.old.bindings ++ record { name = name; object = object } ∷ [] }) }

@@ -1,7 +1,7 @@
 -- A history is a list of records, the newest first. What came before a record is the list behind it.
 -- A question about a history is asked in one of three ways: what does the newest accepted event
 -- that says something about it say; what did the newest one begin, unless a later one ended it;
--- and how many accepted events are of a kind. Queues alone are asked event by event.
+-- and how many accepted events are of a kind. Queues and semaphores alone are asked event by event.
 -- Refused events say, begin and end nothing.
 use Rattle.std.specs.Prelude.{Bool, false, ℕ, zero, suc, ◌+◌, ◌&&◌, ◌||◌, ◌==◌, List, [], ◌∷◌, ◌++◌, length, Option, Some, None, is_none, if◌then◌else◌}
 use Rattle.std.specs.Option.{option_or}

@@ -1,5 +1,5 @@
 //! What a server keeps so that it need not look back over all that happened: sessions, names, objects with
-//! what stands in them, and descriptions. It knows no user file and no rule.
+//! what stands in them, and descriptions. Of the user file it knows each user's limit alone, and no rule.
 #![tactic(auto)]
 
 mod objects;

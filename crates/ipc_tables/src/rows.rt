@@ -31,7 +31,7 @@ pub enum Body {
 
 impl Body {
     /// What stands in a new object of the kind: nothing. Takes no memory.
-    pub fn new(alloc: Global, kind: Kind) -> Self
+    pub(crate) fn new(alloc: Global, kind: Kind) -> Self
         requires { HasRoom kind }
         ensures { result ≡ new_body kind }
     {
@@ -44,7 +44,7 @@ impl Body {
     }
 
     /// The queue, if it is one.
-    pub fn queue(&self) -> Option<&Queue>
+    pub(crate) fn queue(&self) -> Option<&Queue>
         ensures { option_copied result ≡ queue_in self.now }
     {
         match self {
@@ -54,7 +54,7 @@ impl Body {
     }
 
     /// The semaphore, if it is one.
-    pub fn semaphore(&self) -> Option<&Sem>
+    pub(crate) fn semaphore(&self) -> Option<&Sem>
         ensures { option_copied result ≡ semaphore_in self.now }
     {
         match self {
@@ -64,7 +64,12 @@ impl Body {
     }
 
     /// A send to the queue. An `Err` changes nothing.
-    pub fn send(&mut self, ticket: u64, priority: u32, who: Sid) -> Result<SendOutcome, NoMemory>
+    pub(crate) fn send(
+        &mut self,
+        ticket: u64,
+        priority: u32,
+        who: Sid,
+    ) -> Result<SendOutcome, NoMemory>
         requires { is_some (queue_in self.old) ≡ true }
         ensures outcome { IfOk result (λ outcome. Some outcome ≡ option_map send_outcome (queue_in self.old)) }
         ensures ok { OnOk result (self.new ≡ with_body (sent (record { place = ticket; priority = priority }) who) self.old) }
@@ -77,7 +82,7 @@ impl Body {
     }
 
     /// Registers the description for the queue's notice, where none is registered.
-    pub fn register(&mut self, desc: Desc)
+    pub(crate) fn register(&mut self, desc: Desc)
         ensures { self.new ≡ with_body (with_registration desc) self.old }
     {
         if let Body::Queue(queue) = self {
@@ -86,7 +91,7 @@ impl Body {
     }
 
     /// Takes the registration of the description back.
-    pub fn unregister(&mut self, desc: Desc)
+    pub(crate) fn unregister(&mut self, desc: Desc)
         ensures { self.new ≡ with_body (without_registration desc) self.old }
     {
         if let Body::Queue(queue) = self {
@@ -95,14 +100,14 @@ impl Body {
     }
 
     /// The description that is registered for the queue's notice.
-    pub fn registered(&self) -> Option<Desc>
+    pub(crate) fn registered(&self) -> Option<Desc>
         ensures { result ≡ registered_in self.now }
     {
         self.queue()?.registered()
     }
 
     /// A receive from the queue. An `Err` changes nothing.
-    pub fn receive(&mut self, who: Sid) -> Result<ReceiveOutcome, NoMemory>
+    pub(crate) fn receive(&mut self, who: Sid) -> Result<ReceiveOutcome, NoMemory>
         requires { is_some (queue_in self.old) ≡ true }
         ensures outcome { IfOk result (λ outcome. Some outcome ≡ option_map receive_outcome (queue_in self.old)) }
         ensures ok { OnOk result (self.new ≡ with_body (received who) self.old) }
@@ -115,7 +120,7 @@ impl Body {
     }
 
     /// A post to the semaphore, which has room for it: whom it serves.
-    pub fn post(&mut self) -> Option<Sid>
+    pub(crate) fn post(&mut self) -> Option<Sid>
         requires { option_map overflows (semaphore_in self.old) ≡ Some false }
         ensures served { result ≡ option_and_then (λ q. first q.waiters) (semaphore_in self.old) }
         ensures rest { self.new ≡ with_counter posted self.old }
@@ -130,7 +135,7 @@ impl Body {
     }
 
     /// A wait for the semaphore. An `Err` changes nothing.
-    pub fn wait(&mut self, who: Sid) -> Result<WaitOutcome, NoMemory>
+    pub(crate) fn wait(&mut self, who: Sid) -> Result<WaitOutcome, NoMemory>
         requires { is_some (semaphore_in self.old) ≡ true }
         ensures outcome { IfOk result (λ outcome. Some outcome ≡ option_map wait_outcome (semaphore_in self.old)) }
         ensures ok { OnOk result (self.new ≡ with_counter (waited who) self.old) }
@@ -143,7 +148,7 @@ impl Body {
     }
 
     /// A wait for the semaphore that does not park.
-    pub fn try_wait(&mut self)
+    pub(crate) fn try_wait(&mut self)
         ensures { self.new ≡ with_counter tried self.old }
     {
         match self {
@@ -155,7 +160,7 @@ impl Body {
     }
 
     /// Withdraws the session's parked call.
-    pub fn withdraw(&mut self, who: Sid)
+    pub(crate) fn withdraw(&mut self, who: Sid)
         ensures { self.new ≡ without_call who self.old }
     {
         match self {

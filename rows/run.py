@@ -1,0 +1,128 @@
+#!/usr/bin/env python3
+"""Runs the built programs over inputs whose outcome is known, and compares standard output, standard error and exit
+status with it. Prints a line for each case and a last line with the counts; the status is 1 where one differs.
+
+A case is NAME.in in one of the folders of FOLDERS, beside NAME.args (one argument a line), NAME.out, NAME.err and
+NAME.status; what is missing is empty, and the status 0. Other cases are made below, where a file can't show them.
+"""
+
+import dataclasses
+import os
+import pathlib
+import re
+import subprocess
+import sys
+
+TOP = pathlib.Path(__file__).resolve().parent.parent
+FOLDERS = {
+    "crates/worked_rows/data": "mqserve",
+    "rows/mqserve": "mqserve",
+    "rows/mqctl": "mqctl",
+}
+SECONDS = 60
+
+USERS = b"ann:ka1:1000:1000::\n.\na hello ka1\n"
+STARTED = b"a started 0\n"
+
+
+@dataclasses.dataclass
+class Case:
+    name: str
+    program: str
+    arguments: list
+    given: object
+    out: bytes = b""
+    err: bytes = b""
+    status: int = 0
+    writes_to: str = ""
+
+
+def cases_of(folder, program):
+    for path in sorted((TOP / folder).glob("*.in")):
+        beside = lambda ending: path.with_suffix(ending).read_bytes() if path.with_suffix(ending).exists() else b""
+        yield Case(
+            f"{program} {path.stem}",
+            program,
+            beside(".args").splitlines(),
+            path.read_bytes(),
+            beside(".out"),
+            beside(".err"),
+            int(beside(".status") or 0),
+        )
+
+
+def made_cases():
+    """What no file shows: long inputs, and ends that fail."""
+    calls = 100_000
+    yield Case("mqserve 100,000 steps", "mqserve", [], USERS + b"a umask 022\n" * calls, STARTED + b"a mask 022\n" * calls)
+    comment = b"#" + b"x" * 1_048_575 + b"\n"
+    yield Case("mqserve the longest line", "mqserve", [], USERS + comment, STARTED)
+    yield Case("mqserve a longer line", "mqserve", [], USERS + b"#" + comment, STARTED, b"mqserve: line 4\n", 6)
+    yield Case("mqserve a reader that fails", "mqserve", [], TOP, b"", b"mqserve: read\n", 4)
+    yield Case("mqserve a writer that fails", "mqserve", [], USERS, b"", b"mqserve: write\n", 4, "/dev/full")
+    yield Case("mqserve an argument that is not UTF-8", "mqserve", [b"\xff"], b"", b"", b"error: an argument is not UTF-8\n", 2)
+    yield Case("mqctl 100,000 commands", "mqctl", [], b"interrupt\n" * calls, b"0000000117\n" * calls)
+    yield Case("mqctl the longest line", "mqctl", [], comment, b"fault usage\n", b"", 1)
+    yield Case("mqctl a longer line", "mqctl", [], b"interrupt\n#" + comment, b"0000000117\n", b"mqctl: line 2\n", 6)
+    yield Case("mqctl a line that is not UTF-8", "mqctl", [], b"\xff\n", b"", b"mqctl: line 1\n", 6)
+    yield Case("mqctl a reader that fails", "mqctl", [], TOP, b"", b"mqctl: read\n", 4)
+    yield Case("mqctl a writer that fails", "mqctl", [], b"interrupt\n", b"", b"mqctl: write\n", 4, "/dev/full")
+
+
+def readme_case():
+    """The first two blocks of README.md: a script, and what it prints."""
+    blocks = re.findall(r"(?ms)^```\n(.*?)^```", (TOP / "README.md").read_text())
+    return Case("mqserve README.md's example", "mqserve", [], blocks[0].encode(), blocks[1].encode())
+
+
+def run(case):
+    """Returns what the program wrote to both streams, and its status."""
+    program = TOP / "crates" / case.program / "out" / case.program
+    command = [os.fsencode(program), *case.arguments]
+    is_folder = isinstance(case.given, pathlib.Path)
+    source = os.open(case.given, os.O_RDONLY) if is_folder else None
+    sink = os.open(case.writes_to, os.O_WRONLY) if case.writes_to else subprocess.PIPE
+    given = {"stdin": source} if is_folder else {"input": case.given}
+    try:
+        ended = subprocess.run(command, stdout=sink, stderr=subprocess.PIPE, timeout=SECONDS, **given)
+    finally:
+        for opened in (source, sink if case.writes_to else None):
+            if opened is not None:
+                os.close(opened)
+    return ended.stdout or b"", ended.stderr, ended.returncode
+
+
+def first_difference(given, wanted):
+    given, wanted = given.split(b"\n"), wanted.split(b"\n")
+    for number, (one, other) in enumerate(zip(given, wanted), 1):
+        if one != other:
+            return f"line {number} is {one!r}, and not {other!r}"
+    return f"has {len(given) - 1} lines, and not {len(wanted) - 1}"
+
+
+def judged(case):
+    """Returns where the program does other than it must, or nothing."""
+    try:
+        out, err, status = run(case)
+    except (OSError, subprocess.TimeoutExpired) as fault:
+        return str(fault)
+    for stream, given, wanted in (("standard output", out, case.out), ("standard error", err, case.err)):
+        if given != wanted:
+            return f"{stream}: {first_difference(given, wanted)}"
+    return f"status {status}, and not {case.status}" if status != case.status else ""
+
+
+def main():
+    cases = [case for folder, program in FOLDERS.items() for case in cases_of(folder, program)]
+    cases += [readme_case(), *made_cases()]
+    failed = 0
+    for case in cases:
+        difference = judged(case)
+        failed += bool(difference)
+        print(f"{case.name}: {difference or 'as written'}", flush=True)
+    print(f"{len(cases) - failed} as written, {failed} not")
+    return 1 if failed else 0
+
+
+if __name__ == "__main__":
+    sys.exit(main())
