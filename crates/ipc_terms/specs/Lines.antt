@@ -4,47 +4,26 @@ use Rattle.std.specs.Cmp.Lexicographic.{pointwise}
 use Rattle.std.specs.Ordering.{on, eq_of_both}
 use Rattle.ipc_terms.specs.Rules.{number_of}
 use Rattle.ipc_terms.specs.Events.{caller}
+use Rattle.ipc_terms.specs.Ops.{hello_number, hang_up_number, call_number, call_op}
 use Rattle.ipc_terms.specs.History.{History}
 use Rattle.ipc_terms.specs.declared.ids.Target.TheVariants.{Name}
 use Rattle.ipc_terms.specs.declared.line.Line.{Line}
 use Rattle.ipc_terms.specs.declared.rule.Rule.{Rule}
 use Rattle.ipc_terms.specs.declared.call.Call.{Call}
-use Rattle.ipc_terms.specs.declared.call.Call.TheVariants.{Umask, MqOpen, MqClose, MqUnlink, MqSend, MqReceive, MqGetattr, MqSetattr, MqNotify, SemOpen, SemClose, SemUnlink, SemPost, SemWait, SemTryWait, SemGetvalue, ListNames, StatName, Chmod, Chown, SetLimit, Interrupt, Audit}
+use Rattle.ipc_terms.specs.declared.call.Call.TheVariants.{MqOpen, MqUnlink, SemOpen, SemUnlink, StatName, Chmod, Chown}
 use Rattle.ipc_terms.specs.declared.record.Event.{Event}
 use Rattle.ipc_terms.specs.declared.record.Event.TheVariants.{Hello, Do, Hangup}
 use Rattle.ipc_terms.specs.declared.record.Record.{Record}
 
 -- the number of a call, as its frames carry it
 abbrev pub op_of : Call → ℕ
-op_of (Umask mask) = 2
-op_of (MqOpen asked) = 3
-op_of (MqClose desc) = 4
-op_of (MqUnlink name) = 5
-op_of (MqSend desc priority bytes) = 6
-op_of (MqReceive desc length') = 7
-op_of (MqGetattr desc) = 8
-op_of (MqSetattr desc nonblock) = 9
-op_of (MqNotify desc on) = 10
-op_of (SemOpen asked) = 11
-op_of (SemClose desc) = 12
-op_of (SemUnlink name) = 13
-op_of (SemPost desc) = 14
-op_of (SemWait desc) = 15
-op_of (SemTryWait desc) = 16
-op_of (SemGetvalue desc) = 17
-op_of (ListNames family start count) = 18
-op_of (StatName target) = 19
-op_of (Chmod mode target) = 20
-op_of (Chown owner group target) = 21
-op_of (SetLimit uid bytes) = 22
-op_of Interrupt = 23
-op_of (Audit start count) = 24
+op_of call = call_number (call_op call)
 
--- the number of an event: a hello is 1, a hang-up 25
+-- the number of an event
 abbrev pub event_op : Event → ℕ
-event_op (Hello found) = 1
+event_op (Hello found) = hello_number
 event_op (Do sid call) = op_of call
-event_op (Hangup sid) = 25
+event_op (Hangup sid) = hang_up_number
 
 -- the name that a call names, if it names one
 abbrev pub name_of : Call → Option (List ℕ)

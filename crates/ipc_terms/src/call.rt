@@ -2,7 +2,8 @@
 
 ghost use Rattle.std.specs.Prelude.{◌≡◌};
 ghost use Rattle.std.specs.Option.{option_copied};
-ghost use Rattle.ipc_terms.specs.Lines.{op_of, name_of};
+ghost use Rattle.ipc_terms.specs.Lines.{name_of};
+ghost use Rattle.ipc_terms.specs.Ops.{call_op, answer_op};
 
 use crate::bytes::Bytes;
 use crate::facts::Facts;
@@ -10,6 +11,7 @@ use crate::flags::OpenFlags;
 use crate::ids::{Desc, Family, Gid, Mode, Sid, Target, Uid};
 use crate::line::Lines;
 use crate::name::{Name, Names};
+use crate::op::{AnswerOp, CallOp};
 use crate::rule::Rule;
 
 /// What the caller of an open wants to do with the object (`mq_open`: `O_RDONLY`, `O_WRONLY`, `O_RDWR`).
@@ -142,34 +144,34 @@ pub enum Call {
 }
 
 impl Call {
-    /// The number of the call, as its frames carry it, from 2 to 24.
-    pub(crate) fn op(&self) -> u8
-        ensures { result ≡ op_of self.now }
+    /// Which call it is.
+    pub fn op(&self) -> CallOp
+        ensures { result ≡ call_op self.now }
     {
         match self {
-            Call::Umask(..) => 2,
-            Call::MqOpen(..) => 3,
-            Call::MqClose(..) => 4,
-            Call::MqUnlink(..) => 5,
-            Call::MqSend { .. } => 6,
-            Call::MqReceive { .. } => 7,
-            Call::MqGetattr(..) => 8,
-            Call::MqSetattr { .. } => 9,
-            Call::MqNotify { .. } => 10,
-            Call::SemOpen(..) => 11,
-            Call::SemClose(..) => 12,
-            Call::SemUnlink(..) => 13,
-            Call::SemPost(..) => 14,
-            Call::SemWait(..) => 15,
-            Call::SemTryWait(..) => 16,
-            Call::SemGetvalue(..) => 17,
-            Call::ListNames { .. } => 18,
-            Call::StatName(..) => 19,
-            Call::Chmod { .. } => 20,
-            Call::Chown { .. } => 21,
-            Call::SetLimit { .. } => 22,
-            Call::Interrupt => 23,
-            Call::Audit { .. } => 24,
+            Call::Umask(..) => CallOp::Umask,
+            Call::MqOpen(..) => CallOp::MqOpen,
+            Call::MqClose(..) => CallOp::MqClose,
+            Call::MqUnlink(..) => CallOp::MqUnlink,
+            Call::MqSend { .. } => CallOp::MqSend,
+            Call::MqReceive { .. } => CallOp::MqReceive,
+            Call::MqGetattr(..) => CallOp::MqGetattr,
+            Call::MqSetattr { .. } => CallOp::MqSetattr,
+            Call::MqNotify { .. } => CallOp::MqNotify,
+            Call::SemOpen(..) => CallOp::SemOpen,
+            Call::SemClose(..) => CallOp::SemClose,
+            Call::SemUnlink(..) => CallOp::SemUnlink,
+            Call::SemPost(..) => CallOp::SemPost,
+            Call::SemWait(..) => CallOp::SemWait,
+            Call::SemTryWait(..) => CallOp::SemTryWait,
+            Call::SemGetvalue(..) => CallOp::SemGetvalue,
+            Call::ListNames { .. } => CallOp::ListNames,
+            Call::StatName(..) => CallOp::StatName,
+            Call::Chmod { .. } => CallOp::Chmod,
+            Call::Chown { .. } => CallOp::Chown,
+            Call::SetLimit { .. } => CallOp::SetLimit,
+            Call::Interrupt => CallOp::Interrupt,
+            Call::Audit { .. } => CallOp::Audit,
         }
     }
 
@@ -235,4 +237,28 @@ pub enum Answer {
     Refused(Rule),
     /// To a call that was parked: an interrupt ended it (POSIX.1-2017, `EINTR`).
     Interrupted,
+}
+
+impl Answer {
+    /// Which answer it is.
+    pub fn op(&self) -> AnswerOp
+        ensures { result ≡ answer_op self.now }
+    {
+        match self {
+            Answer::Started(..) => AnswerOp::Started,
+            Answer::Done => AnswerOp::Done,
+            Answer::Opened(..) => AnswerOp::Opened,
+            Answer::Mask(..) => AnswerOp::Mask,
+            Answer::Attrs { .. } => AnswerOp::Attrs,
+            Answer::Sent => AnswerOp::Sent,
+            Answer::Received { .. } => AnswerOp::Received,
+            Answer::Value(..) => AnswerOp::Value,
+            Answer::Names(..) => AnswerOp::Names,
+            Answer::Stat(..) => AnswerOp::Stat,
+            Answer::Records(..) => AnswerOp::Records,
+            Answer::Refused(..) => AnswerOp::Refused,
+            Answer::Interrupted => AnswerOp::Interrupted,
+            Answer::Notice(..) => AnswerOp::Notice,
+        }
+    }
 }

@@ -9,6 +9,7 @@ use crate::call::Call;
 use crate::errors::NoMemory;
 use crate::ids::{Sid, Uid};
 use crate::name::Name;
+use crate::op::{HANG_UP_NUMBER, HELLO_NUMBER};
 use crate::rule::Rule;
 
 /// One step of the server.
@@ -40,14 +41,14 @@ impl Event {
         }
     }
 
-    /// The number of the call, as its frames carry it; 1 for a hello and 25 for a hang-up.
+    /// The number of the call, or that of a hello or of a hang-up.
     pub fn op(&self) -> u8
         ensures { result ≡ event_op self.now }
     {
         match self {
-            Event::Hello { .. } => 1,
-            Event::Do { call, .. } => call.op(),
-            Event::Hangup { .. } => 25,
+            Event::Hello { .. } => HELLO_NUMBER,
+            Event::Do { call, .. } => call.op().number(),
+            Event::Hangup { .. } => HANG_UP_NUMBER,
         }
     }
 
