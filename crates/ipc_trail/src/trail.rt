@@ -41,7 +41,8 @@ impl Trail {
 
     /// How many records the trail has; the place of the next one.
     pub fn len(&self) -> usize
-        ensures { result ≡ length self.now.history }
+        ensures count { result ≡ length self.now.history }
+        ensures small { result < 2 ^ 63 }
     {
         self.records.len()
     }

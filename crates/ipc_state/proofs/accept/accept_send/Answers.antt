@@ -23,4 +23,4 @@ pub send-requires-clause-session : goal.send-requires-clause-session
 send-requires-clause-session c = (call_here c.args.config.now c.args.past.now.history c.args.tables.now c.args.sid.0 c.args.desc.0 c.in-Some.object c.requires.core.agrees (call_free _ _ c.args.sid (MqSend c.args.desc c.args.priority c.args.bytes.now) Mq c.args.desc refl refl c.requires.accepted) (sym (c.object_number.ensures ∙ number_is c.args.config.now c.args.past.now.history c.args.tables.now c.args.sid.0 c.args.desc.0 c.requires.core.agrees) ∙ c.in-Some.is)).within
 
 pub returns-clause-ok : goal.returns-clause-ok
-returns-clause-ok c = rw (c.in_ok-send.ensures.ok, c.len.ensures) (agrees_sent c.args.config.now c.args.past.now.history c.args.tables.now c.args.sid c.args.desc c.args.priority c.args.bytes.now c.in-Some.object c.requires.core (call_here c.args.config.now c.args.past.now.history c.args.tables.now c.args.sid.0 c.args.desc.0 c.in-Some.object c.requires.core.agrees (call_free _ _ c.args.sid (MqSend c.args.desc c.args.priority c.args.bytes.now) Mq c.args.desc refl refl c.requires.accepted) (sym (c.object_number.ensures ∙ number_is c.args.config.now c.args.past.now.history c.args.tables.now c.args.sid.0 c.args.desc.0 c.requires.core.agrees) ∙ c.in-Some.is)))
+returns-clause-ok c = rw (c.in_ok-send.ensures.ok, c.len.ensures.count) (agrees_sent c.args.config.now c.args.past.now.history c.args.tables.now c.args.sid c.args.desc c.args.priority c.args.bytes.now c.in-Some.object c.requires.core (call_here c.args.config.now c.args.past.now.history c.args.tables.now c.args.sid.0 c.args.desc.0 c.in-Some.object c.requires.core.agrees (call_free _ _ c.args.sid (MqSend c.args.desc c.args.priority c.args.bytes.now) Mq c.args.desc refl refl c.requires.accepted) (sym (c.object_number.ensures ∙ number_is c.args.config.now c.args.past.now.history c.args.tables.now c.args.sid.0 c.args.desc.0 c.requires.core.agrees) ∙ c.in-Some.is)))
