@@ -1,4 +1,5 @@
 -- What one accepted event does to each value.
+use Rattle.std.proofs.Common.{refl}
 use Rattle.ipc_terms.specs.declared.record.Event.{Event}
 use Rattle.ipc_policy.specs.declared.config.Config.{Config}
 use Rattle.ipc_policy.specs.History.{History, after_accepted, newest}
@@ -7,7 +8,7 @@ use Rattle.ipc_policy.specs.Grow.{Grows}
 use Rattle.ipc_policy.proofs.Facts.{owner_grows, group_grows, mode_grows, facts_grow, directory_grows}
 use Rattle.ipc_policy.proofs.Holding.{held_grows, count_grows}
 use Rattle.ipc_policy.proofs.Growing.{hello_grows, user_grows, live_grows, mask_grows, is_bound_grows, creations_grow, bound_grows, made_grows, opens_grow, nonblock_grows}
-use Rattle.ipc_policy.proofs.Queueing.{queue_grows, registered_grows, semaphore_grows, parked_grows, outbox_grows}
+use Rattle.ipc_policy.proofs.Queueing.{queue_grows, registered_grows, semaphore_grows, given_value_grows, value_grows, parked_grows, outbox_grows}
 use Rattle.ipc_policy.proofs.Charging.{limit_grows, charge_grows, charged_grows, queues_grow}
 use Rattle.ipc_policy.proofs.Living.{named_grows, bindings_grow, names_grow, alive_grows}
 
@@ -35,6 +36,10 @@ grows c h e = record {
   queue_of = queue_grows c h e;
   registered_to = registered_grows c h e;
   semaphore_of = semaphore_grows h e;
+  given_value_of = given_value_grows h e;
+  posts_of = λ o. refl;
+  passes_of = λ o. refl;
+  value_of = value_grows h e;
   parked_in = parked_grows c h e;
   named_by = named_grows h e;
   bindings_of = bindings_grow h e;

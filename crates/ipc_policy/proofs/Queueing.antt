@@ -1,20 +1,21 @@
 -- What one accepted event does to a queue, to its registration, to a semaphore, to a session's parked call, and to its answers.
-use Rattle.std.proofs.Common.{◌≡◌, ℕ, ◌++◌, ◌∷◌, [], length, cond, Option, Some, None, refl, sym, ap, ◌∙◌}
+use Rattle.std.proofs.Common.{◌≡◌, ℕ, ◌+◌, ◌-◌, ◌++◌, ◌∷◌, [], length, cond, Option, Some, None, refl, sym, ap, ◌∙◌}
+use Rattle.std.specs.Prelude.{unwrap_or}
 use Rattle.std.specs.Option.{option_or}
 use Rattle.ipc_terms.specs.Objects.{value_asked}
 use Rattle.ipc_terms.specs.declared.rule.Rule.{Rule}
 use Rattle.ipc_terms.specs.declared.call.Answer.TheVariants.{Refused}
 use Rattle.ipc_terms.specs.declared.record.Event.{Event}
 use Rattle.ipc_policy.specs.declared.config.Config.{Config}
-use Rattle.ipc_policy.specs.History.{History}
+use Rattle.ipc_policy.specs.History.{History, newest}
 use Rattle.ipc_policy.specs.Sessions.{hellos, live}
 use Rattle.ipc_policy.specs.Descriptions.{holds}
 use Rattle.ipc_policy.specs.Queues.{act_by, queue, queue_after, room, attributes, is_full, is_empty}
 use Rattle.ipc_policy.specs.Names.{is_bound, creations}
-use Rattle.ipc_policy.specs.Semaphores.{semaphore_act, semaphore_act_by, gives_value, with_first, semaphore_after, semaphore, is_zero}
+use Rattle.ipc_policy.specs.Semaphores.{semaphore_act, semaphore_act_by, gives_value, with_first, semaphore_after, semaphore, posts, passes, given_value, value, is_zero}
 use Rattle.ipc_policy.specs.Registrations.{registered}
 use Rattle.ipc_policy.specs.Parking.{parked}
-use Rattle.ipc_policy.specs.Grow.{live_after, first_value, registered_after, parked_after}
+use Rattle.ipc_policy.specs.Grow.{live_after, first_value, given_value_after, posts_after, passes_after, registered_after, parked_after}
 use Rattle.ipc_policy.specs.Verdict.{verdict, caller, answers, answers_at, for_session, outbox}
 use Rattle.ipc_policy.proofs.Growing.{live_grows, made_grows}
 
@@ -32,6 +33,18 @@ first_value_is h e o = sym (or_nothing (gives_value o e h)) ∙ made_grows h e o
 pub semaphore_grows : (h : History) (e : Event) (o : ℕ) → semaphore (record { event = e; rule = None } ∷ h) o ≡ with_first (first_value o e (is_bound h) (creations h)) (semaphore_after (semaphore_act_by (length h) (holds h) o e) (semaphore h o))
 unfolding semaphore
 semaphore_grows h e o = ap (λ v. with_first v (semaphore_after (semaphore_act o e h) (semaphore h o))) (first_value_is h e o)
+
+-- what its value is counted from
+or_first : (v w : Option ℕ) → unwrap_or (option_or v w) 0 ≡ unwrap_or v (unwrap_or w 0)
+or_first None w = refl
+or_first (Some n) w = refl
+
+pub given_value_grows : (h : History) (e : Event) (o : ℕ) → given_value (record { event = e; rule = None } ∷ h) o ≡ given_value_after (first_value o e (is_bound h) (creations h)) (given_value h o)
+given_value_grows h e o = or_first (gives_value o e h) (newest (gives_value o) h) ∙ ap (λ v. unwrap_or v (given_value h o)) (first_value_is h e o)
+
+pub value_grows : (h : History) (e : Event) (o : ℕ) → value (record { event = e; rule = None } ∷ h) o ≡ (given_value_after (first_value o e (is_bound h) (creations h)) (given_value h o) + posts_after (semaphore_act o e h) (posts h o)) - passes_after (semaphore_act o e h) (semaphore h o) (passes h o)
+unfolding value
+value_grows h e o = ap (λ n. (n + posts_after (semaphore_act o e h) (posts h o)) - passes_after (semaphore_act o e h) (semaphore h o) (passes h o)) (given_value_grows h e o)
 
 pub refused_semaphore : (h : History) (e : Event) (rule : Rule) (o : ℕ) → semaphore (record { event = e; rule = Some rule } ∷ h) o ≡ semaphore h o
 unfolding semaphore

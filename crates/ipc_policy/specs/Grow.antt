@@ -28,7 +28,7 @@ use Rattle.ipc_policy.specs.Life.{named, bindings, names, alive, gives_object}
 pub use Rattle.ipc_policy.specs.Queues.{act_by}
 use Rattle.ipc_policy.specs.Queues.{Queue, queue, queue_after, room, attributes, is_full, is_empty}
 pub use Rattle.ipc_policy.specs.Semaphores.{semaphore_act_by}
-use Rattle.ipc_policy.specs.Semaphores.{Semaphore, semaphore, semaphore_after, with_first, is_zero}
+use Rattle.ipc_policy.specs.Semaphores.{SemaphoreAct, Semaphore, semaphore, semaphore_after, with_first, is_post, is_pass, given_value, posts, passes, value, is_zero}
 use Rattle.ipc_policy.specs.Registrations.{registers, ends_registration, registered}
 use Rattle.ipc_policy.specs.Parking.{Parked, parks_by, is_posted, ends_call, parked}
 use Rattle.ipc_policy.specs.Charges.{is_queue_alive, charge, charge_of, charged, queues_alive, limit}
@@ -179,6 +179,16 @@ limit_after u _ was = was
 abbrev pub first_value : ℕ → Event → (Family → List ℕ → Bool) → ℕ → Option ℕ
 first_value o e is_bound creations = made_after o e is_bound creations (λ asked. value_asked asked.kind) None
 
+-- what the value of a semaphore is counted from: its first value, the posts, and the calls that got what they want
+abbrev pub given_value_after : Option ℕ → ℕ → ℕ
+given_value_after first_value was = unwrap_or first_value was
+
+abbrev pub posts_after : SemaphoreAct → ℕ → ℕ
+posts_after a was = if is_post a then was + 1 else was
+
+abbrev pub passes_after : SemaphoreAct → Semaphore → ℕ → ℕ
+passes_after a q was = if is_pass a q then was + 1 else was
+
 -- the call of session s that parks, or else the one that was parked, unless the event ends it
 abbrev pub parked_after : ℕ → Event → ℕ → (ℕ → ℕ → Option Held) → (ℕ → Bool) → (ℕ → Bool) → (ℕ → Bool) → (ℕ → Queue) → (ℕ → Semaphore) → Option Parked → Option Parked
 parked_after s e place holds full empty zero queue semaphore was =
@@ -211,6 +221,10 @@ pub record Grows (c : Config) (h k : History) (e : Event) : Type 0 where
   pub queue_of : (o : ℕ) → queue c k o ≡ queue_after (room (attributes c h o)) (act_by (length h) (holds h) o e) (queue c h o)
   pub registered_to : (o : ℕ) → registered c k o ≡ registered_after o e (length h) (holds h) (queue c h o) (registered c h o)
   pub semaphore_of : (o : ℕ) → semaphore k o ≡ with_first (first_value o e (is_bound h) (creations h)) (semaphore_after (semaphore_act_by (length h) (holds h) o e) (semaphore h o))
+  pub given_value_of : (o : ℕ) → given_value k o ≡ given_value_after (first_value o e (is_bound h) (creations h)) (given_value h o)
+  pub posts_of : (o : ℕ) → posts k o ≡ posts_after (semaphore_act_by (length h) (holds h) o e) (posts h o)
+  pub passes_of : (o : ℕ) → passes k o ≡ passes_after (semaphore_act_by (length h) (holds h) o e) (semaphore h o) (passes h o)
+  pub value_of : (o : ℕ) → value k o ≡ (given_value_after (first_value o e (is_bound h) (creations h)) (given_value h o) + posts_after (semaphore_act_by (length h) (holds h) o e) (posts h o)) - passes_after (semaphore_act_by (length h) (holds h) o e) (semaphore h o) (passes h o)
   pub parked_in : (s : ℕ) → parked c k s ≡ parked_after s e (length h) (holds h) (is_full c h) (is_empty c h) (is_zero c h) (queue c h) (semaphore h) (parked c h s)
   pub named_by : (o : ℕ) → named k o ≡ named_after o e (is_bound h) (creations h) (named h o)
   pub bindings_of : (f : Family) → bindings k f ≡ bindings_after f e (is_bound h) (creations h) (bindings h f)

@@ -19,7 +19,7 @@ use Rattle.ipc_policy.specs.Descriptions.{opens, held, holds, held_count, is_non
 use Rattle.ipc_policy.specs.Life.{named, bindings, names, alive}
 use Rattle.ipc_policy.specs.Queues.{Queue, has_none, queue, maxmsg, senders, receivers}
 use Rattle.ipc_policy.specs.Registrations.{registered}
-use Rattle.ipc_policy.specs.Semaphores.{Semaphore, semaphore, value, waiters}
+use Rattle.ipc_policy.specs.Semaphores.{Semaphore, semaphore, posts, passes, given_value, value, waiters}
 use Rattle.ipc_policy.specs.Parking.{ParkedKind, Sending, Receiving, Waiting, Parked, parked}
 use Rattle.ipc_policy.specs.Charges.{charge_of, charged, queues_alive, sets_limit, limit}
 use Rattle.ipc_terms.specs.Lists.{Each}
@@ -69,6 +69,9 @@ pub record SameValues (c : Config) (h k : History) : Type 0 where
   pub queue : (o : ℕ) → queue c h o ≡ queue c k o
   pub registered : (o : ℕ) → registered c h o ≡ registered c k o
   pub semaphore : (o : ℕ) → semaphore h o ≡ semaphore k o
+  pub given_value : (o : ℕ) → given_value h o ≡ given_value k o
+  pub posts : (o : ℕ) → posts h o ≡ posts k o
+  pub passes : (o : ℕ) → passes h o ≡ passes k o
   pub value : (o : ℕ) → value h o ≡ value k o
   pub parked : (s : ℕ) → parked c h s ≡ parked c k s
   pub verdict : (e : Event) → verdict c h e ≡ verdict c k e
