@@ -26,7 +26,7 @@ use Rattle.ipc_policy.proofs.Unforbidden.{call_free}
 use Rattle.ipc_policy.proofs.Counting.{count_at, is_send_at, withdraws_at}
 use Rattle.ipc_policy.proofs.Keeping.{sent, taken, withdrawn, sent_le, kept}
 use Rattle.ipc_policy.proofs.Tracing.{sent_on}
-use Rattle.ipc_policy.proofs.Delivering.{delivery_confined, deliveries_taken, only_to}
+use Rattle.ipc_policy.proofs.Delivering.{delivery_confined, delivered_once, deliveries_taken, only_to}
 
 some : (n : ℕ) → nat_lt 0 (n + 1) ≡ true
 some n = lt-ltb 0 (n + 1) (omega arith)
@@ -202,4 +202,5 @@ one_fate c h m legal made = at (holds (before_at m.place h) m.session m.desc) re
     sent_to = rw k (eq-eqb _ _ refl);
     one = one_became c h m x legal made k;
     taker = taker_of c h m x legal made k;
+    one_taker = delivered_once c h m.place legal;
   }

@@ -1,5 +1,5 @@
 -- What became of each send that was accepted.
-use Rattle.std.specs.Prelude.{◌≡◌, Bool, true, false, ℕ, ◌+◌, ◌&&◌, ◌==◌, not, nat_lt, List, [], ◌∷◌, Some, is_some, if◌then◌else◌}
+use Rattle.std.specs.Prelude.{◌≡◌, Bool, true, false, ℕ, ◌+◌, ◌≤◌, ◌&&◌, ◌==◌, not, nat_lt, List, [], ◌∷◌, Some, is_some, if◌then◌else◌}
 use Rattle.std.specs.List.{list_any}
 use Rattle.ipc_terms.specs.declared.call.Call.TheVariants.{MqReceive}
 use Rattle.ipc_terms.specs.declared.record.Event.TheVariants.{Do}
@@ -9,7 +9,7 @@ use Rattle.ipc_policy.specs.Descriptions.{holds}
 use Rattle.ipc_policy.specs.Life.{alive, gives_object}
 use Rattle.ipc_policy.specs.Queues.{Send, Wait, Act, Withdraws, Queue, act, queue, contents, senders}
 use Rattle.ipc_policy.specs.Verdict.{Legal}
-use Rattle.ipc_policy.specs.Deliveries.{taken_by}
+use Rattle.ipc_policy.specs.Deliveries.{taken_by, deliveries}
 use Rattle.ipc_policy.specs.Confined.{IsAccepted, IsSend}
 
 -- the send of place i is in the list
@@ -48,11 +48,13 @@ pub record IsReceiveOf (h : History) (o : ℕ) (w : Wait) : Type 0 where
   pub made_of : gives_object o (holds (before_at w.place h) w.session w.desc) ≡ true
 
 -- its description gave a queue, and exactly one of these became of it; where a receive took it, that was made of the queue
+-- and no other took it
 pub record HasOneFate (c : Config) (h : History) (m : Send) : Type 0 where
   pub object : ℕ
   pub sent_to : gives_object object (holds (before_at m.place h) m.session m.desc) ≡ true
   pub one : how_many_hold (fates c h object m.place) ≡ 1
   pub taker : (w : Wait) → taken_by c h m.place ≡ Some w → IsReceiveOf h object w
+  pub one_taker : deliveries c h m.place ≤ 1
 
 -- so of each send that was accepted
 abbrev pub EachSendHasOneFate : Type 0

@@ -14,8 +14,8 @@ pub fn confined()
     ensures sends { EachSendIsDeliveredOnce }
 {}
 
-/// Each accepted send is exactly one of these: parked; withdrawn; in a queue that is alive; taken by one receive; or left in
-/// a queue that is no longer alive.
+/// Each accepted send is exactly one of these: parked; withdrawn; in a queue that is alive; taken by one receive and no
+/// other; or left in a queue that is no longer alive.
 pub fn once()
     ensures { EachSendHasOneFate }
 {}
