@@ -18,6 +18,7 @@ pub mod ActsOf
 pub mod Waits
 pub mod CallsListed
 pub mod Lengths
+pub mod QueueAttributes
 pub mod QueueBounds
 pub mod ParkedSessions
 pub mod ParkedSteps

@@ -7,22 +7,17 @@ use Rattle.std.proofs.lemmas.List.{length-append}
 use Rattle.ipc_terms.specs.Lists.{first}
 use Rattle.ipc_terms.specs.Objects.{as_queue}
 use Rattle.ipc_terms.specs.declared.rule.Rule.{Rule}
-use Rattle.ipc_terms.specs.declared.ids.Sid.{Sid}
 use Rattle.ipc_terms.specs.declared.call.Attributes.{Attributes}
-use Rattle.ipc_terms.specs.declared.call.QueueOpen.{QueueOpen}
-use Rattle.ipc_terms.specs.declared.call.SemaphoreOpen.{SemaphoreOpen}
 use Rattle.ipc_terms.specs.declared.call.Call.TheVariants.{MqOpen, MqReceive, SemOpen}
 use Rattle.ipc_terms.specs.declared.record.Event.{Event}
 use Rattle.ipc_terms.specs.declared.record.Event.TheVariants.{Hello, Do, Hangup}
-use Rattle.ipc_access.specs.declared.class.Cred.{Cred}
 use Rattle.ipc_policy.specs.declared.config.Config.{Config}
 use Rattle.ipc_terms.specs.declared.object.Object.{Object}
 use Rattle.ipc_policy.specs.History.{History, listed}
 use Rattle.ipc_policy.specs.Sessions.{cred}
 use Rattle.ipc_policy.specs.Names.{queue_opening, semaphore_opening, is_bound, creations}
-use Rattle.ipc_policy.specs.Objects.{object, made_by, attributes_of}
+use Rattle.ipc_policy.specs.Objects.{object, made_by}
 use Rattle.ipc_policy.specs.Queues.{Send, Wait, Act, Sends, Receives, Withdraws, Rests, Queue, empty_queue, has_none, has_all, next, others, queue_after, act, queue, room, attributes, maxmsg}
-use Rattle.ipc_policy.specs.Rules.{out_of_range}
 use Rattle.ipc_policy.specs.Grow.{made_after, is_new}
 use Rattle.ipc_policy.specs.Verdict.{verdict, Legal}
 use Rattle.ipc_policy.specs.Laws.{IsBounded, EachIsBounded}
@@ -31,7 +26,7 @@ use Rattle.ipc_policy.proofs.Keeping.{sent_once}
 use Rattle.ipc_policy.proofs.Lengths.{none_is_empty, length_some, behind_some, filter_some, first_none, first_one, others_length, others_le}
 use Rattle.ipc_policy.proofs.Grown.{grows}
 use Rattle.ipc_policy.proofs.Creating.{not_created_empty, empty_after}
-use Rattle.ipc_policy.proofs.Unforbidden.{open_in_range}
+use Rattle.ipc_policy.proofs.QueueAttributes.{OfAttributes, OfMade, attributes_hold}
 use Rattle.ipc_policy.proofs.ActsOf.{act_receives, held_queue}
 use Rattle.ipc_policy.proofs.Waits.{or_left}
 
@@ -109,10 +104,6 @@ bounded_step n (Withdraws s) q positive one known = bounded_withdraw n s q known
 bounded_step n Rests q positive one known = record { within = known.within; receivers_wait = known.receivers_wait; senders_wait = known.senders_wait }
 
 -- a queue may have a message
-abbrev HasRoom : Option Attributes → Type 0
-HasRoom None = Unit {0}
-HasRoom (Some x) = 1 ≤ x.maxmsg
-
 min_positive : (a b : ℕ) → 1 ≤ a → 1 ≤ b → 1 ≤ min a b
 min_positive a b le le' = omega arith
 
@@ -122,52 +113,14 @@ positive n e = let other = eqb-false n 0 e in at n other where
   at zero no' = absurd (no' refl)
   at (suc n) no' = omega arith
 
-made_room : (c : Config) (who : Cred) (given : Option Attributes) → 1 ≤ c.limits.msg_max → out_of_range c (Some who) given ≡ false → 1 ≤ (attributes_of c given).maxmsg
-made_room c who None most fits = min_positive 10 c.limits.msg_max (omega arith) most
-made_room c who (Some given) most fits = positive given.maxmsg (or_left _ _ (or_left _ _ (or_left _ _ fits)))
-
-new_room : (c : Config) (sid : Sid) (asked : QueueOpen) (who : Option Cred) (was : Option Object) → 1 ≤ c.limits.msg_max → out_of_range c who asked.attributes ≡ false → HasRoom (as_queue was) → HasRoom (as_queue (option_or (option_map (made_by c (queue_opening sid asked)) who) was))
-new_room c sid asked None was most fits known = known
-new_room c sid asked (Some who) was most fits known = made_room c who asked.attributes most fits
-
-no_queue : (c : Config) (sid : Sid) (asked : SemaphoreOpen) (who : Option Cred) (was : Option Object) → HasRoom (as_queue was) → HasRoom (as_queue (option_or (option_map (made_by c (semaphore_opening sid asked)) who) was))
-no_queue c sid asked None was known = known
-no_queue c sid asked (Some who) was known = tt
-
--- attributes out of range are refused
-opens_in_range : (c : Config) (h : History) (sid : Sid) (asked : QueueOpen) → None ≡ verdict c h (Do sid (MqOpen asked)) → is_new (queue_opening sid asked) (is_bound h) ≡ true → out_of_range c (cred c h sid.0) asked.attributes ≡ false
-opens_in_range c h sid asked legal new = ap (λ b. b && out_of_range c (cred c h sid.0) asked.attributes) (sym new) ∙ open_in_range c h sid asked (sym legal)
-
-room_more : (c : Config) (h : History) (o : ℕ) → 1 ≤ c.limits.msg_max → HasRoom (attributes c h o) → (e : Event) → None ≡ verdict c h e → HasRoom (as_queue (made_after o e (is_bound h) (creations h) (λ asked. option_map (made_by c asked) (cred c h asked.session.0)) (object c h o)))
-room_more c h o most known (Do sid (MqOpen asked)) legal = at (is_new (queue_opening sid asked) (is_bound h)) refl (eqb (creations h) o) where
-  at : (b : Bool) → is_new (queue_opening sid asked) (is_bound h) ≡ b → (d : Bool) → HasRoom (as_queue (cond (b && d) (option_or (option_map (made_by c (queue_opening sid asked)) (cred c h sid.0)) (object c h o)) (object c h o)))
-  at true e true = new_room c sid asked (cred c h sid.0) (object c h o) most (opens_in_range c h sid asked legal e) known
-  at true e false = known
-  at false e d = known
-room_more c h o most known (Do sid (SemOpen asked)) legal = at (is_new (semaphore_opening sid asked) (is_bound h) && eqb (creations h) o) where
-  at : (b : Bool) → HasRoom (as_queue (cond b (option_or (option_map (made_by c (semaphore_opening sid asked)) (cred c h sid.0)) (object c h o)) (object c h o)))
-  at true = no_queue c sid asked (cred c h sid.0) (object c h o) known
-  at false = known
-room_more c h o most known (Do sid call) legal = known
-room_more c h o most known (Hello found) legal = known
-room_more c h o most known (Hangup sid) legal = known
-
-room_next : (c : Config) (h : History) (o : ℕ) → 1 ≤ c.limits.msg_max → HasRoom (attributes c h o) → (e : Event) (r : Option Rule) → r ≡ verdict c h e → HasRoom (attributes c (record { event = e; rule = r } ∷ h) o)
-unfolding object
-room_next c h o most known e (Some rule) legal = known
-room_next c h o most known e None legal = subst (λ (x : Option Object). HasRoom (as_queue x)) (sym now) (room_more c h o most known e legal) where
-  now : object c (record { event = e; rule = None } ∷ h) o ≡ made_after o e (is_bound h) (creations h) (λ asked. option_map (made_by c asked) (cred c h asked.session.0)) (object c h o)
-  now = (grows c h e).object_of o
-
-has_room : (c : Config) (h : History) → 1 ≤ c.limits.msg_max → Legal c h → (o : ℕ) → HasRoom (attributes c h o)
-unfolding object
-has_room c [] most legal o = tt
-has_room c (r ∷ h) most legal o = room_next c h o most (has_room c h most legal.1 o) r.event r.rule legal.0
+made_room : (c : Config) → 1 ≤ c.limits.msg_max → OfMade c (λ x. 1 ≤ x.maxmsg)
+made_room c most who None fits = min_positive 10 c.limits.msg_max (omega arith) most
+made_room c most who (Some given) fits = positive given.maxmsg (or_left _ _ (or_left _ _ (or_left _ _ fits)))
 
 -- in a legal history each queue may have a message at least
 pub room_positive : (c : Config) (h : History) → 1 ≤ c.limits.msg_max → Legal c h → (o : ℕ) → is_some (attributes c h o) ≡ true → 1 ≤ maxmsg c h o
-room_positive c h most legal o there = at (attributes c h o) there (has_room c h most legal o) where
-  at : (x : Option Attributes) → is_some x ≡ true → HasRoom x → 1 ≤ room x
+room_positive c h most legal o there = at (attributes c h o) there (attributes_hold c (λ x. 1 ≤ x.maxmsg) (made_room c most) h legal o) where
+  at : (x : Option Attributes) → is_some x ≡ true → OfAttributes (λ y. 1 ≤ y.maxmsg) x → 1 ≤ room x
   at None e known = absurd cc
   at (Some x) e known = known
 
