@@ -39,7 +39,7 @@ unfolding creations
 creations_le-length h = how_many_le-length (λ e before. is_some (creation e before)) h
 
 -- a name is bound exactly where it is bound to an object
-same_is : (f g : Family) → same_family f g ≡ true → f ≡ g
+pub same_is : (f g : Family) → same_family f g ≡ true → f ≡ g
 same_is Mq Mq e = refl
 same_is Sem Sem e = refl
 same_is Mq Sem e = absurd cc

@@ -45,3 +45,7 @@ pub mod Delivering
 pub mod Bringing
 pub mod OneFate
 pub mod RegisteredSteps
+pub mod Pages
+pub mod NameLengths
+pub mod MessageSizes
+pub mod AnswerSizes

@@ -153,7 +153,7 @@ made_other : (n o : ℕ) (b : Bool) (x y : Option Object) → o < n → cond (b 
 made_other n o true x y lt = ap (λ t. cond t x y) (ne_eqb n o (λ (q : n ≡ o). absurd (omega arith)))
 made_other n o false x y lt = refl
 
-object_before : (c : Config) (h : History) (e : Event) (o : ℕ) → o < creations h → object_then c e h o ≡ object c h o
+pub object_before : (c : Config) (h : History) (e : Event) (o : ℕ) → o < creations h → object_then c e h o ≡ object c h o
 object_before c h (Hello found) o lt = refl
 object_before c h (Do sid (MqOpen asked)) o lt = made_other (creations h) o (is_new (queue_opening sid asked) (is_bound h)) _ (object c h o) lt
 object_before c h (Do sid (SemOpen asked)) o lt = made_other (creations h) o (is_new (semaphore_opening sid asked) (is_bound h)) _ (object c h o) lt

@@ -15,6 +15,7 @@ pub mod Readings
 pub mod Laws
 pub mod Grow
 pub mod Rights
+pub mod Sizes
 pub mod Deliveries
 pub mod Confined
 pub mod Fates

@@ -1,9 +1,10 @@
 //! Laws of the policy, over every history; `bound`, `parked_listed`, `parked_alive`, `bounded`, `in_range`,
-//! `counted` and `within_limit` are over the legal ones. These functions do nothing: what they ensure is what is proved.
+//! `counted`, `within_limit` and `sized` are over the legal ones. These functions do nothing: what they ensure is what is proved.
 
 ghost use Rattle.ipc_policy.specs.Laws.{VerdictIsLeast, RefusedIsQuiet, RefusedIsAnswered, ListedIsBound, BoundIsMade, ParkedIsListed, ParkedIsAlive, EachIsBounded, EachIsInRange, WaitsAtZero, EachValueIsCounted, WithinLimit};
 ghost use Rattle.ipc_policy.specs.Grow.{AcceptedGrows};
 ghost use Rattle.ipc_policy.specs.Rights.{HeldOutlives, RightsByDescription};
+ghost use Rattle.ipc_policy.specs.Sizes.{EachNameIsShort, EachMessageFits, EachSizeIsInRange, EachAnswerIsSmall, EachOutboxIsSmall};
 ghost use Rattle.ipc_policy.specs.Readings.{EachParkedByPlace, EachInsideByPlace, EachInsideInOrder, EachNextIsGreatest};
 
 /// The verdict is the least of the rules that forbid, or none where no rule does.
@@ -92,4 +93,16 @@ pub fn within_limit()
 pub fn rights()
     ensures outlive { HeldOutlives }
     ensures by_description { RightsByDescription }
+{}
+
+/// In a legal history a bound name has at most 256 bytes, a semaphore's 252, and a message at most its queue's message
+/// size. Where `msgsize_max` is in range, at most 16,777,216, so is each queue's message size; and then what any event is
+/// answered, and all that a session was ever answered, is small: a message has at most so many bytes, a page at most 1,000
+/// entries, and a name in it at most 256 bytes.
+pub fn sized()
+    ensures names { EachNameIsShort }
+    ensures messages { EachMessageFits }
+    ensures sizes { EachSizeIsInRange }
+    ensures answers { EachAnswerIsSmall }
+    ensures outboxes { EachOutboxIsSmall }
 {}
