@@ -49,3 +49,4 @@ pub mod Pages
 pub mod NameLengths
 pub mod MessageSizes
 pub mod AnswerSizes
+pub mod Answering

@@ -16,6 +16,7 @@ pub mod Laws
 pub mod Grow
 pub mod Rights
 pub mod Sizes
+pub mod Answered
 pub mod Deliveries
 pub mod Confined
 pub mod Fates

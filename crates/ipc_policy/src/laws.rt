@@ -1,9 +1,10 @@
 //! Laws of the policy, over every history; `bound`, `parked_listed`, `parked_alive`, `bounded`, `in_range`,
-//! `counted`, `within_limit` and `sized` are over the legal ones. These functions do nothing: what they ensure is what is proved.
+//! `counted`, `within_limit`, `answered` (of calls) and `sized` are over the legal ones. These functions do nothing: what they ensure is what is proved.
 
 ghost use Rattle.ipc_policy.specs.Laws.{VerdictIsLeast, RefusedIsQuiet, RefusedIsAnswered, ListedIsBound, BoundIsMade, ParkedIsListed, ParkedIsAlive, EachIsBounded, EachIsInRange, WaitsAtZero, EachValueIsCounted, WithinLimit};
 ghost use Rattle.ipc_policy.specs.Grow.{AcceptedGrows};
 ghost use Rattle.ipc_policy.specs.Rights.{HeldOutlives, RightsByDescription};
+ghost use Rattle.ipc_policy.specs.Answered.{EachCallIsAnswered, ParkingAnswersNobody, HelloAnswersItsSession, HangupAnswersNobody, RefusalAnswersItsCaller};
 ghost use Rattle.ipc_policy.specs.Sizes.{EachNameIsShort, EachMessageFits, EachSizeIsInRange, EachAnswerIsSmall, EachOutboxIsSmall};
 ghost use Rattle.ipc_policy.specs.Readings.{EachParkedByPlace, EachInsideByPlace, EachInsideInOrder, EachNextIsGreatest};
 
@@ -93,6 +94,17 @@ pub fn within_limit()
 pub fn rights()
     ensures outlive { HeldOutlives }
     ensures by_description { RightsByDescription }
+{}
+
+/// After a legal history an accepted call that does not park is answered to its session, before anybody else, and not with
+/// a notice. One that parks answers nobody, and so does an accepted hang-up. An accepted hello answers the session that it
+/// starts, alone, and a refusal the session that the event names, alone.
+pub fn answered()
+    ensures calls { EachCallIsAnswered }
+    ensures parking { ParkingAnswersNobody }
+    ensures hellos { HelloAnswersItsSession }
+    ensures hangups { HangupAnswersNobody }
+    ensures refusals { RefusalAnswersItsCaller }
 {}
 
 /// In a legal history a bound name has at most 256 bytes, a semaphore's 252, and a message at most its queue's message

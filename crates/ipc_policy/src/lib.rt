@@ -16,7 +16,7 @@ pub use config::{
 };
 pub use ipc_terms::{Kind, Object};
 pub use laws::{
-    bound, bounded, counted, grow, in_order, in_range, inside_by_place, least, listed,
+    answered, bound, bounded, counted, grow, in_order, in_range, inside_by_place, least, listed,
     parked_alive, parked_by_place, parked_listed, quiet, rights, sized, within_limit,
 };
 pub use messages::{confined, once};
