@@ -45,11 +45,16 @@ same_is Sem Sem e = refl
 same_is Mq Sem e = absurd cc
 same_is Sem Mq e = absurd cc
 
+pub asked_is : (asked : Opening) (f : Family) (name : List ℕ) → asks_name asked f name ≡ true → (asked.family ≡ f) × (asked.name ≡ name)
+asked_is asked f name e =
+    let parts = and_parts (same_family asked.family f) (same_name asked.name name) e in
+    (same_is asked.family f parts.0, (bytes_eq-Decides asked.name name).0 parts.1)
+
 asks_same : (h : History) (asked : Opening) (f : Family) (name : List ℕ) → asks_name asked f name ≡ true → is_bound h asked.family asked.name ≡ is_bound h f name
 asks_same h asked f name e =
-    let parts = and_parts (same_family asked.family f) (same_name asked.name name) e in
-    let one : asked.family ≡ f = same_is asked.family f parts.0 in
-    let two : asked.name ≡ name = (bytes_eq-Decides asked.name name).0 parts.1 in
+    let is = asked_is asked f name e in
+    let one : asked.family ≡ f = is.0 in
+    let two : asked.name ≡ name = is.1 in
     rw (one, two) refl
 
 -- to what an open binds a name

@@ -50,3 +50,4 @@ pub mod NameLengths
 pub mod MessageSizes
 pub mod AnswerSizes
 pub mod Answering
+pub mod NamesBound

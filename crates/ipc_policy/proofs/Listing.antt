@@ -60,7 +60,7 @@ found_unlinked h Mq Sem name given known = ap (λ xs. found xs name) (filter_tru
 found_unlinked h Sem Mq name given known = ap (λ xs. found xs name) (filter_true (bindings h Mq)) ∙ known
 
 -- a name that is made anew was not bound
-unbound_new : (b u : Bool) (w : Option ℕ) → u ≡ is_some w → (b && not u) ≡ true → w ≡ None
+pub unbound_new : (b u : Bool) (w : Option ℕ) → u ≡ is_some w → (b && not u) ≡ true → w ≡ None
 unbound_new true true w is e = absurd cc
 unbound_new true false None is e = refl
 unbound_new true false (Some x) is e = absurd cc

@@ -1,5 +1,6 @@
 -- Laws that hold of every history, or of every legal one where they say so.
 use Rattle.std.specs.Prelude.{◌≡◌, ℕ, ◌≤◌, ◌==◌, true, false, length, IsTrue, List, [], ◌∷◌, ◌++◌, find, Option, Some, None, is_some, MatchOption, if◌then◌else◌}
+use Rattle.std.specs.List.{IsDistinct}
 use Rattle.std.specs.Option.{option_map}
 use Rattle.ipc_terms.specs.Names.{same_name}
 use Rattle.ipc_terms.specs.Rules.{number_of}
@@ -11,9 +12,9 @@ use Rattle.ipc_terms.specs.declared.record.Event.{Event}
 use Rattle.ipc_terms.specs.declared.call.Answer.TheVariants.{Refused}
 use Rattle.ipc_policy.specs.declared.config.Config.{Config}
 use Rattle.ipc_policy.specs.declared.config.Held.{Held}
-use Rattle.ipc_policy.specs.History.{History, after_refused, newest}
+use Rattle.ipc_policy.specs.History.{History, after_refused, newest, there_is}
 use Rattle.ipc_policy.specs.Sessions.{hellos, user, live, cred, mask}
-use Rattle.ipc_policy.specs.Names.{is_bound, creations, bound}
+use Rattle.ipc_policy.specs.Names.{asks_name, is_bound, creations, bound}
 use Rattle.ipc_policy.specs.Objects.{object, owner, group, mode, facts, directory}
 use Rattle.ipc_policy.specs.Descriptions.{opens, held, holds, held_count, is_nonblock}
 use Rattle.ipc_policy.specs.Life.{named, bindings, names, alive}
@@ -94,6 +95,20 @@ abbrev pub ListedIsBound : Type 0
 ListedIsBound =
     (h : History) (f : Family) (name : List ℕ) →
     option_map (λ b. b.object) (find (λ b. same_name b.name name) (bindings h f)) ≡ bound h f name
+
+-- a name is bound exactly where it is bound to an object
+abbrev pub BoundIsToObject : Type 0
+BoundIsToObject = (h : History) (f : Family) (name : List ℕ) → is_bound h f name ≡ is_some (bound h f name)
+
+-- an object has a name exactly where the name is bound to it
+abbrev pub NamedIsBound : Type 0
+NamedIsBound =
+    (h : History) (o : ℕ) (f : Family) (name : List ℕ) →
+    there_is (λ asked. asks_name asked f name) (named h o) ≡ there_is (λ n. n == o) (bound h f name)
+
+-- the names of a family that are listed are all different
+abbrev pub NamesDiffer : Type 0
+NamesDiffer = (h : History) (f : Family) → IsDistinct same_name (names h f)
 
 -- in a legal history what a name is bound to is an object, and it has an owner, a group and a mode
 abbrev pub BoundIsMade : Type 0

@@ -1,7 +1,7 @@
 //! Laws of the policy, over every history; `bound`, `parked_listed`, `parked_alive`, `bounded`, `in_range`,
 //! `counted`, `within_limit`, `answered` (of calls) and `sized` are over the legal ones. These functions do nothing: what they ensure is what is proved.
 
-ghost use Rattle.ipc_policy.specs.Laws.{VerdictIsLeast, RefusedIsQuiet, RefusedIsAnswered, ListedIsBound, BoundIsMade, ParkedIsListed, ParkedIsAlive, EachIsBounded, EachIsInRange, WaitsAtZero, EachValueIsCounted, WithinLimit};
+ghost use Rattle.ipc_policy.specs.Laws.{VerdictIsLeast, RefusedIsQuiet, RefusedIsAnswered, ListedIsBound, BoundIsToObject, NamedIsBound, NamesDiffer, BoundIsMade, ParkedIsListed, ParkedIsAlive, EachIsBounded, EachIsInRange, WaitsAtZero, EachValueIsCounted, WithinLimit};
 ghost use Rattle.ipc_policy.specs.Grow.{AcceptedGrows};
 ghost use Rattle.ipc_policy.specs.Rights.{HeldOutlives, RightsByDescription};
 ghost use Rattle.ipc_policy.specs.Answered.{EachCallIsAnswered, ParkingAnswersNobody, HelloAnswersItsSession, HangupAnswersNobody, RefusalAnswersItsCaller};
@@ -25,9 +25,13 @@ pub fn grow()
     ensures { AcceptedGrows }
 {}
 
-/// The names that are listed are those that are bound, each to its object.
+/// The names that are listed are those that are bound, each to its object, and all different. A name is bound exactly
+/// where it is bound to an object, and an object has a name exactly where the name is bound to it.
 pub fn listed()
-    ensures { ListedIsBound }
+    ensures objects { ListedIsBound }
+    ensures bound { BoundIsToObject }
+    ensures named { NamedIsBound }
+    ensures differ { NamesDiffer }
 {}
 
 /// In a legal history what a name is bound to is an object, and it has an owner, a group and a mode.

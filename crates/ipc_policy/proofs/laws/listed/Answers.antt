@@ -1,5 +1,16 @@
+use Rattle.ipc_policy.proofs.Known.{bound_iff}
 use Rattle.ipc_policy.proofs.Listing.{listed_is_bound}
+use Rattle.ipc_policy.proofs.NamesBound.{named_is_bound, names_differ}
 use Rattle.ipc_policy.proofs.laws.listed.Goals as goal
 
-pub returns : goal.returns
-returns g = listed_is_bound
+pub returns-clause-objects : goal.returns-clause-objects
+returns-clause-objects g = listed_is_bound
+
+pub returns-clause-bound : goal.returns-clause-bound
+returns-clause-bound g = bound_iff
+
+pub returns-clause-named : goal.returns-clause-named
+returns-clause-named g = named_is_bound
+
+pub returns-clause-differ : goal.returns-clause-differ
+returns-clause-differ g = names_differ
