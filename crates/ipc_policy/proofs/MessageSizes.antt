@@ -1,7 +1,9 @@
 -- In a legal history a message has at most its queue's message size, and that is in range.
 use Rattle.std.proofs.Common.{◌≡◌, ℕ, ◌≤◌, Bool, true, false, eqb, nat_lt, [], ◌∷◌, List, length, cond, Option, Some, None, is_some, refl, sym, ap, subst, ◌∙◌, arith}
 use Rattle.std.proofs.lemmas.Bool.{ltb-false}
-use Rattle.ipc_terms.specs.Lists.{Each}
+use Rattle.std.specs.Prelude.{option_and_then}
+use Rattle.std.specs.Option.{option_map}
+use Rattle.ipc_terms.specs.Lists.{first, Each}
 use Rattle.ipc_terms.specs.Objects.{as_queue}
 use Rattle.ipc_terms.specs.declared.rule.Rule.{Rule}
 use Rattle.ipc_terms.specs.declared.rule.Rule.TheVariants.{MessageLong}
@@ -18,11 +20,12 @@ use Rattle.ipc_policy.specs.declared.config.TheConstants.{HARD_MSGSIZE_MAX}
 use Rattle.ipc_policy.specs.History.{History, there_is}
 use Rattle.ipc_policy.specs.Objects.{object}
 use Rattle.ipc_policy.specs.Descriptions.{holds}
-use Rattle.ipc_policy.specs.Queues.{Send, Sends, Queue, act, queue, contents_after, senders_after, attributes, maxmsg}
+use Rattle.ipc_policy.specs.Queues.{Send, Wait, Act, Sends, Receives, Withdraws, Rests, Queue, has_all, next, act, queue, contents_after, senders_after, attributes, maxmsg}
 use Rattle.ipc_policy.specs.Rules.{forbids, message_long, attributes_held}
 use Rattle.ipc_policy.specs.Verdict.{verdict, Legal}
-use Rattle.ipc_policy.specs.Sizes.{LimitsMessages, EachMessageFits, EachSizeIsInRange}
-use Rattle.ipc_policy.proofs.EachItem.{each_map, each_inside, each_sender}
+use Rattle.ipc_policy.specs.Deliveries.{Delivery, delivers, object_asked, delivery}
+use Rattle.ipc_policy.specs.Sizes.{LimitsMessages, EachMessageFits, EachDeliveryFits, EachSizeIsInRange}
+use Rattle.ipc_policy.proofs.EachItem.{each_map, each_inside, each_sender, each_greatest}
 use Rattle.ipc_policy.proofs.Unforbidden.{unforbidden}
 use Rattle.ipc_policy.proofs.ActsOf.{act_sends, held_queue, queue_is_object}
 use Rattle.ipc_policy.proofs.Known.{object_below}
@@ -103,6 +106,31 @@ messages_fit c h o x legal e =
     let all : AllFit (Some x) (queue c h o) = subst (λ (w : Option Attributes). AllFit w (queue c h o)) e (all_fit c h o legal) in
     record { inside = all.inside; parked = all.parked }
 
+pub inside_fits : (c : Config) (h : History) (o : ℕ) → Legal c h → Each (λ m. Fits (attributes c h o) (length m.bytes)) (queue c h o).contents
+inside_fits c h o legal = (all_fit c h o legal).inside
+
+-- and so does each that is handed to a receive
+handed_on : (c : Config) (h : History) (o : ℕ) (e : Event) → Legal c h → None ≡ verdict c h e → (d : Delivery) (a : Act) → act o e h ≡ a → delivers (maxmsg c h o) o a (queue c h o) ≡ Some d → Fits (attributes c h d.object) (length d.message.bytes)
+handed_on c h o e legal accepted d (Sends m) k j = sent (has_all (maxmsg c h o) (queue c h o).contents) (first (queue c h o).receivers) j where
+  sent : (b : Bool) (w : Option Wait) → cond b None (option_map (λ v. record { object = o; message = m; receive = v }) w) ≡ Some d → Fits (attributes c h d.object) (length d.message.bytes)
+  sent true w i = absurd cc
+  sent false None i = absurd cc
+  sent false (Some v) i = let same : record { object = o; message = m; receive = v } ≡ d = cc in subst (λ (x : Delivery). Fits (attributes c h x.object) (length x.message.bytes)) same (act_fits c h o e accepted m k)
+handed_on c h o e legal accepted d (Receives w) k j = taken (next (queue c h o).contents) refl j where
+  taken : (n : Option Send) → next (queue c h o).contents ≡ n → option_map (λ m. record { object = o; message = m; receive = w }) n ≡ Some d → Fits (attributes c h d.object) (length d.message.bytes)
+  taken None q i = absurd cc
+  taken (Some m) q i = let same : record { object = o; message = m; receive = w } ≡ d = cc in subst (λ (x : Delivery). Fits (attributes c h x.object) (length x.message.bytes)) same (each_greatest (λ (n : Send). Fits (attributes c h o) (length n.bytes)) (λ n. n.priority) (queue c h o).contents m (inside_fits c h o legal) q)
+handed_on c h o e legal accepted d (Withdraws s) k j = absurd cc
+handed_on c h o e legal accepted d Rests k j = absurd cc
+
+delivered_by : (c : Config) (h : History) (e : Event) → Legal c h → None ≡ verdict c h e → (d : Delivery) (w : Option ℕ) → option_and_then (λ o. delivers (maxmsg c h o) o (act o e h) (queue c h o)) w ≡ Some d → Fits (attributes c h d.object) (length d.message.bytes)
+delivered_by c h e legal accepted d None k = absurd cc
+delivered_by c h e legal accepted d (Some o) k = handed_on c h o e legal accepted d (act o e h) refl k
+
+pub deliveries_fit : EachDeliveryFits
+unfolding delivery
+deliveries_fit c h e d x legal accepted k j = subst (λ (w : Option Attributes). Fits w (length d.message.bytes)) j (delivered_by c h e legal (sym accepted) d (object_asked h e) k)
+
 -- what fits has at most 16,777,216 bytes
 fits_most : (n : ℕ) (w : Option Attributes) → OfAttributes (λ x. x.msgsize ≤ HARD_MSGSIZE_MAX) w → Fits w n → n ≤ HARD_MSGSIZE_MAX
 fits_most n None size fits = absurd fits
@@ -110,6 +138,3 @@ fits_most n (Some x) size fits = let le : x.msgsize ≤ HARD_MSGSIZE_MAX = size 
 
 pub fits_range : (c : Config) (h : History) (o n : ℕ) → LimitsMessages c → Legal c h → Fits (attributes c h o) n → n ≤ HARD_MSGSIZE_MAX
 fits_range c h o n soft legal fits = fits_most n (attributes c h o) (attributes_hold c (λ y. y.msgsize ≤ HARD_MSGSIZE_MAX) (made_size c soft) h legal o) fits
-
-pub inside_fits : (c : Config) (h : History) (o : ℕ) → Legal c h → Each (λ m. Fits (attributes c h o) (length m.bytes)) (queue c h o).contents
-inside_fits c h o legal = (all_fit c h o legal).inside

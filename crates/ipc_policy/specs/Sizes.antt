@@ -1,5 +1,5 @@
 -- How long names, messages and answers are in a legal history.
-use Rattle.std.specs.Prelude.{◌≡◌, true, ℕ, ◌≤◌, List, length, Some}
+use Rattle.std.specs.Prelude.{◌≡◌, true, ℕ, ◌≤◌, List, length, Some, None}
 use Rattle.ipc_terms.specs.Lists.{Each}
 use Rattle.ipc_terms.specs.Names.{name_limit}
 use Rattle.ipc_terms.specs.Sizes.{IsSmall}
@@ -11,7 +11,8 @@ use Rattle.ipc_policy.specs.declared.config.TheConstants.{HARD_MSGSIZE_MAX}
 use Rattle.ipc_policy.specs.History.{History}
 use Rattle.ipc_policy.specs.Names.{is_bound}
 use Rattle.ipc_policy.specs.Queues.{Queue, attributes, queue}
-use Rattle.ipc_policy.specs.Verdict.{Legal, answers, outbox}
+use Rattle.ipc_policy.specs.Deliveries.{Delivery, delivery}
+use Rattle.ipc_policy.specs.Verdict.{Legal, verdict, answers, outbox}
 
 -- in a legal history a bound name has at most the bytes that its family allows
 abbrev pub EachNameIsShort : Type 0
@@ -30,7 +31,13 @@ pub record HoldsFitting (x : Attributes) (q : Queue) : Type 0 where
 abbrev pub EachMessageFits : Type 0
 EachMessageFits = (c : Config) (h : History) (o : ℕ) (x : Attributes) → Legal c h → attributes c h o ≡ Some x → HoldsFitting x (queue c h o)
 
--- and its message size is in range, where the limits are
+-- and so has each message that an accepted event hands to a receive
+abbrev pub EachDeliveryFits : Type 0
+EachDeliveryFits =
+    (c : Config) (h : History) (e : Event) (d : Delivery) (x : Attributes) → Legal c h → verdict c h e ≡ None →
+    delivery c e h ≡ Some d → attributes c h d.object ≡ Some x → length d.message.bytes ≤ x.msgsize
+
+-- a queue's message size is in range, where the limits are
 abbrev pub EachSizeIsInRange : Type 0
 EachSizeIsInRange =
     (c : Config) (h : History) (o : ℕ) (x : Attributes) → LimitsMessages c → Legal c h → attributes c h o ≡ Some x →

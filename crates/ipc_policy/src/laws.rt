@@ -5,7 +5,7 @@ ghost use Rattle.ipc_policy.specs.Laws.{VerdictIsLeast, RefusedIsQuiet, RefusedI
 ghost use Rattle.ipc_policy.specs.Grow.{AcceptedGrows};
 ghost use Rattle.ipc_policy.specs.Rights.{HeldOutlives, RightsByDescription};
 ghost use Rattle.ipc_policy.specs.Answered.{EachCallIsAnswered, ParkingAnswersNobody, HelloAnswersItsSession, HangupAnswersNobody, RefusalAnswersItsCaller};
-ghost use Rattle.ipc_policy.specs.Sizes.{EachNameIsShort, EachMessageFits, EachSizeIsInRange, EachAnswerIsSmall, EachOutboxIsSmall};
+ghost use Rattle.ipc_policy.specs.Sizes.{EachNameIsShort, EachMessageFits, EachDeliveryFits, EachSizeIsInRange, EachAnswerIsSmall, EachOutboxIsSmall};
 ghost use Rattle.ipc_policy.specs.Readings.{EachParkedByPlace, EachInsideByPlace, EachInsideInOrder, EachNextIsGreatest};
 
 /// The verdict is the least of the rules that forbid, or none where no rule does.
@@ -111,13 +111,14 @@ pub fn answered()
     ensures refusals { RefusalAnswersItsCaller }
 {}
 
-/// In a legal history a bound name has at most 256 bytes, a semaphore's 252, and a message at most its queue's message
-/// size. Where `msgsize_max` is in range, at most 16,777,216, so is each queue's message size; and then what any event is
-/// answered, and all that a session was ever answered, is small: a message has at most so many bytes, a page at most 1,000
-/// entries, and a name in it at most 256 bytes.
+/// In a legal history a bound name has at most 256 bytes, a semaphore's 252; and a message in a queue, parked or handed to a
+/// receive has at most the queue's message size. Where `msgsize_max` is in range, at most 16,777,216, so is each queue's
+/// message size; and then what any event is answered, and all that a session was ever answered, is small: a message has at
+/// most so many bytes, a page at most 1,000 entries, and a name in it at most 256 bytes.
 pub fn sized()
     ensures names { EachNameIsShort }
     ensures messages { EachMessageFits }
+    ensures deliveries { EachDeliveryFits }
     ensures sizes { EachSizeIsInRange }
     ensures answers { EachAnswerIsSmall }
     ensures outboxes { EachOutboxIsSmall }

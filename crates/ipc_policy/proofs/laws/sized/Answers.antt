@@ -1,5 +1,5 @@
 use Rattle.ipc_policy.proofs.NameLengths.{bound_short}
-use Rattle.ipc_policy.proofs.MessageSizes.{messages_fit, size_in_range}
+use Rattle.ipc_policy.proofs.MessageSizes.{messages_fit, deliveries_fit, size_in_range}
 use Rattle.ipc_policy.proofs.AnswerSizes.{answers_small, outbox_small}
 use Rattle.ipc_policy.proofs.laws.sized.Goals as goal
 
@@ -8,6 +8,9 @@ returns-clause-names g = bound_short
 
 pub returns-clause-messages : goal.returns-clause-messages
 returns-clause-messages g = messages_fit
+
+pub returns-clause-deliveries : goal.returns-clause-deliveries
+returns-clause-deliveries g = deliveries_fit
 
 pub returns-clause-sizes : goal.returns-clause-sizes
 returns-clause-sizes g = size_in_range
