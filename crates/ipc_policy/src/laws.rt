@@ -1,5 +1,6 @@
-//! Laws of the policy, over every history; `bound`, `parked_listed`, `parked_alive`, `bounded`, `in_range`,
-//! `counted`, `within_limit`, `answered` (of calls) and `sized` are over the legal ones. These functions do nothing: what they ensure is what is proved.
+//! Laws of the policy, over every history; `bound`, `parked_listed`, `parked_alive`, `bounded`, `in_range`, `counted`,
+//! `within_limit` and `sized` are over the legal ones, and so is what `answered` says of calls. These functions do nothing:
+//! what they ensure is what is proved.
 
 ghost use Rattle.ipc_policy.specs.Laws.{VerdictIsLeast, RefusedIsQuiet, RefusedIsAnswered, ListedIsBound, BoundIsToObject, NamedIsBound, NamesDiffer, BoundIsMade, ParkedIsListed, ParkedIsAlive, EachIsBounded, EachIsInRange, WaitsAtZero, EachValueIsCounted, WithinLimit};
 ghost use Rattle.ipc_policy.specs.Grow.{AcceptedGrows};
