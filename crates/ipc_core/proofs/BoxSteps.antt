@@ -129,8 +129,8 @@ was_live c h e None s k = live_at h e s (sym ((grows c h e).live_or_not s) ∙ k
 -- so there is room for what is put
 pub rooms_after : (a b : Past) (e : Event) (rule : Option Rule) (is_new : Bool) (told : Told) (boxes : Boxes) → b ≡ with_event e a → rule ≡ verdict a.config a.history e → is_new ≡ starts rule e → HasRooms (λ s. is_new || live a.history s) is_new told boxes → HasRooms (live b.history) is_new told boxes
 rooms_after a b e rule is_new told boxes added is new has = record {
-  first = λ p k lives. has.first p k (was p.0.0 lives);
-  second = λ p k lives. has.second p k (was p.0.0 lives);
+  caller = λ sid k lives. has.caller sid k (was sid.0 lives);
+  other = λ sid k lives. has.other sid k (was sid.0 lives);
   places = has.places;
   next = has.next;
 } where

@@ -2,3 +2,4 @@ pub mod Answering
 pub mod BoxSteps
 pub mod BoxTables
 pub mod Noticing
+pub mod PostedLemmas

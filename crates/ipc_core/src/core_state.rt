@@ -5,10 +5,10 @@ ghost use Rattle.ipc_terms.specs.Lists.{changed};
 ghost use Rattle.ipc_core.specs.Boxes.{box_at, taken};
 ghost use Rattle.ipc_policy.specs.History.{listed};
 ghost use Rattle.ipc_policy.specs.Verdict.{verdict, answers, Legal, all_answers};
-ghost use Rattle.ipc_core.specs.Outboxes.{BoxesAgree, told_list, after_step, after_steps};
+ghost use Rattle.ipc_core.specs.Outboxes.{BoxesAgree, told_list, session_at, after_step, after_steps};
 ghost use Rattle.ipc_state.specs.Ranges.{first_bad};
 
-use crate::answer::{Posted, Told, answers_to, session_of};
+use crate::answer::{Posted, Told, answers_to};
 use crate::fault::CoreFault;
 use crate::outboxes::Outboxes;
 use crate::posting::{make_room, put_all, starts};
@@ -154,6 +154,8 @@ impl Core {
     /// event.
     pub fn post(&mut self, alloc: Global, event: Event) -> Result<Posted, NoMemory>
         ensures verdict { IfOk result (λ posted. posted.verdict ≡ verdict self.old.config self.old.history event) }
+        ensures caller { IfOk result (λ posted. posted.caller ≡ session_at 0 (answers self.old.config self.old.history event)) }
+        ensures other { IfOk result (λ posted. posted.other ≡ session_at 1 (answers self.old.config self.old.history event)) }
         ensures sessions { IfOk result (λ posted. listed posted.caller ++ listed posted.other ≡ map (λ p. p.0) (answers self.old.config self.old.history event)) }
         ensures ok { OnOk result (self.new ≡ after_step event self.old) }
         ensures err { OnErr result (self.new ≡ self.old) }
@@ -162,8 +164,8 @@ impl Core {
         let told = answers_to(&self.state, alloc, &event, verdict)?;
         let posted = Posted {
             verdict,
-            caller: session_of(&told.first),
-            other: session_of(&told.second),
+            caller: told.caller(),
+            other: told.other(),
         };
         self.commit(alloc, event, verdict, told)?;
         Ok(posted)

@@ -1,7 +1,6 @@
 //! What a step answers is put into outboxes.
 
-ghost use Rattle.std.specs.Prelude.{◌≡◌, ℕ, ◌||◌, true, Some, OnOk};
-ghost use Rattle.ipc_policy.specs.History.{listed};
+ghost use Rattle.std.specs.Prelude.{◌≡◌, ℕ, ◌||◌, true, [], ◌∷◌, Some, OnOk};
 ghost use Rattle.ipc_policy.specs.Sessions.{live};
 ghost use Rattle.ipc_core.specs.Boxes.{HasRoom};
 ghost use Rattle.ipc_core.specs.Outboxes.{HasRooms, told_list, starts, with_box, posted};
@@ -38,28 +37,28 @@ pub fn make_room(
     if is_new {
         outboxes.reserve_box(MOST)?;
     }
-    reserve(outboxes, state, is_new, &told.first)?;
-    reserve(outboxes, state, is_new, &told.second)?;
+    reserve(outboxes, state, is_new, told.caller())?;
+    reserve(outboxes, state, is_new, told.other())?;
     Ok(())
 }
 
-/// Makes room for the answer, if its session is live or starts. An `Err` leaves the answers as they
-/// were; the room may differ.
+/// Makes room for answers to the session, if it is live or starts. An `Err` leaves the answers as
+/// they were; the room may differ.
 fn reserve(
     outboxes: &mut Outboxes,
     state: &State,
     is_new: bool,
-    told: &Option<(Sid, Answer)>,
+    session: Option<Sid>,
 ) -> Result<(), NoMemory>
     ensures kept { outboxes.new.untaken ≡ outboxes.old.untaken }
-    ensures room { OnOk result ((p : Sid × Answer) → told.now ≡ Some p → (is_new || live state.now.history p.0.0) ≡ true → HasRoom 2 outboxes.new.rooms p.0.0) }
+    ensures room { OnOk result ((sid : Sid) → session ≡ Some sid → (is_new || live state.now.history sid.0) ≡ true → HasRoom 2 outboxes.new.rooms sid.0) }
     ensures more { (n s : ℕ) → HasRoom n outboxes.old.rooms s → HasRoom n outboxes.new.rooms s }
     ensures places { outboxes.new.places ≡ outboxes.old.places }
     ensures next { outboxes.new.next ≡ outboxes.old.next }
 {
-    if let Some((sid, _)) = told {
-        if is_new || state.is_live(*sid) {
-            outboxes.reserve(*sid, MOST)?;
+    if let Some(sid) = session {
+        if is_new || state.is_live(sid) {
+            outboxes.reserve(sid, MOST)?;
         }
     }
     Ok(())
@@ -71,23 +70,27 @@ pub fn put_all(outboxes: &mut Outboxes, state: &State, is_new: bool, told: Told)
     requires { HasRooms (live state.now.history) is_new told outboxes.old }
     ensures { outboxes.new.untaken ≡ posted (live state.now.history) (told_list told) (with_box is_new outboxes.old.untaken) }
 {
-    let Told { first, second } = told;
     if is_new {
         outboxes.open();
     }
-    put(outboxes, state, first);
-    put(outboxes, state, second);
+    match told {
+        Told::Nothing => {}
+        Told::One(answer) => put(outboxes, state, answer),
+        Told::Two(caller, other) => {
+            put(outboxes, state, caller);
+            put(outboxes, state, other);
+        }
+    }
 }
 
 /// Puts the answer at the end of its session's outbox, if that is live. Takes no memory.
-fn put(outboxes: &mut Outboxes, state: &State, told: Option<(Sid, Answer)>)
-    requires { (p : Sid × Answer) → told ≡ Some p → live state.now.history p.0.0 ≡ true → HasRoom 1 outboxes.old.rooms p.0.0 }
-    ensures boxes { outboxes.new.untaken ≡ posted (live state.now.history) (listed told) outboxes.old.untaken }
+fn put(outboxes: &mut Outboxes, state: &State, told: (Sid, Answer))
+    requires { live state.now.history told.0.0 ≡ true → HasRoom 1 outboxes.old.rooms told.0.0 }
+    ensures boxes { outboxes.new.untaken ≡ posted (live state.now.history) (told ∷ []) outboxes.old.untaken }
     ensures rooms { (s : ℕ) → HasRoom 2 outboxes.old.rooms s → HasRoom 1 outboxes.new.rooms s }
 {
-    if let Some((sid, answer)) = told {
-        if state.is_live(sid) {
-            outboxes.put(sid, answer);
-        }
+    let (sid, answer) = told;
+    if state.is_live(sid) {
+        outboxes.put(sid, answer);
     }
 }
