@@ -88,9 +88,10 @@ impl Core {
     }
 
     /// The trail is legal: at every place the record's rule is the policy's verdict on its event
-    /// after what came before. Does nothing; a fact of every core.
+    /// after what came before. The limits are in their ranges. Does nothing; facts of every core.
     pub fn is_legal(&self)
-        ensures { Legal self.now.config self.now.history }
+        ensures legal { Legal self.now.config self.now.history }
+        ensures in_range { first_bad self.now.config.limits ≡ None }
     {
         self.state.is_legal();
     }

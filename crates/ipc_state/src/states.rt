@@ -61,9 +61,10 @@ impl State {
         })
     }
 
-    /// The trail is legal. Does nothing; a fact of every state.
+    /// The trail is legal, and the limits are in their ranges. Does nothing; facts of every state.
     pub fn is_legal(&self)
-        ensures { Legal self.now.config self.now.history }
+        ensures legal { Legal self.now.config self.now.history }
+        ensures in_range { first_bad self.now.config.limits ≡ None }
     {
         let _config = &self.config;
     }
