@@ -1,5 +1,5 @@
 -- What a step puts into outboxes, answer by answer, is what it adds to each; and each has the last of what was answered.
-use Rattle.std.proofs.Common.{◌≡◌, ℕ, zero, suc, ◌+◌, ◌<◌, ◌≤◌, Bool, true, false, not, ◌&&◌, ◌||◌, eqb, cond, List, [], ◌∷◌, ◌++◌, length, slice_get, Option, Some, None, refl, sym, ap, subst, ◌∙◌, arith}
+use Rattle.std.proofs.Common.{◌≡◌, ℕ, zero, suc, ◌+◌, ◌<◌, ◌≤◌, Bool, true, false, not, ◌&&◌, ◌||◌, eqb, cond, List, [], ◌∷◌, ◌++◌, length, slice_get, Option, Some, None, refl, sym, ap, subst, ◌∙◌, append_assoc, arith}
 use Rattle.std.specs.Prelude.{unwrap_or, map, filter, nat_lt}
 use Rattle.std.specs.Option.{option_or, option_map}
 use Rattle.std.proofs.lemmas.Bool.{eqb-true, eq-eqb, ne_eqb, ltb-true, ltb-false}
@@ -19,11 +19,13 @@ use Rattle.ipc_policy.specs.Grow.{live_after}
 use Rattle.ipc_policy.proofs.Living.{append_none}
 use Rattle.ipc_policy.proofs.Grown.{grows}
 use Rattle.ipc_policy.proofs.Refused.{same_values}
+use Rattle.ipc_policy.proofs.Known.{live_below}
 use Rattle.ipc_policy.proofs.Outboxes.{outbox_after}
 use Rattle.ipc_core.specs.declared.answer.Told.{Told}
 use Rattle.ipc_state.specs.Past.{Past, with_event}
 use Rattle.ipc_core.specs.Outboxes.{with_more, starts, with_box, added, untaken_after, after_step, after_steps, posted, HasRooms, IsSuffix, BoxesAgree}
 use Rattle.ipc_core.specs.State.{State}
+use Rattle.ipc_core.proofs.BoxTables.{box_past}
 use Rattle.ipc_terms.proofs.Lists.{slice_get_push, slice_past, changed_if, at_changed, count_changed}
 
 pub posted_append : (lives : ℕ → Bool) (ps qs : List (Sid × Answer)) (boxes : List (List Answer)) → posted lives (ps ++ qs) boxes ≡ posted lives qs (posted lives ps boxes)
@@ -147,12 +149,8 @@ at_more k f [] s lt = absurd (omega arith)
 at_more k f (b ∷ bs) zero lt = ap (λ n. b ++ f n) (omega arith)
 at_more k f (b ∷ bs) (suc s) lt = at_more (k + 1) f bs s (omega arith) ∙ ap (λ n. box_at bs s ++ f n) (omega arith)
 
-assoc : {A : Type 0} (xs ys zs : List A) → (xs ++ ys) ++ zs ≡ xs ++ (ys ++ zs)
-assoc [] ys zs = refl
-assoc (x ∷ xs) ys zs = ap (λ l. x ∷ l) (assoc xs ys zs)
-
 suffix_more : {A : Type 0} (xs ys zs : List A) → IsSuffix xs ys → IsSuffix (xs ++ zs) (ys ++ zs)
-suffix_more xs ys zs k = record { front = k.front; whole = ap (λ l. l ++ zs) k.whole ∙ assoc k.front xs zs }
+suffix_more xs ys zs k = record { front = k.front; whole = ap (λ l. l ++ zs) k.whole ∙ append_assoc k.front xs zs }
 
 suffix_none : {A : Type 0} (ys : List A) → IsSuffix [] ys
 suffix_none ys = record { front = ys; whole = sym (append_none ys) }
@@ -179,35 +177,68 @@ hellos_at c h (Hello found) None = (grows c h (Hello found)).hello_count
 hellos_at c h (Do sid call) None = (grows c h (Do sid call)).hello_count
 hellos_at c h (Hangup sid) None = (grows c h (Hangup sid)).hello_count
 
+count_grown : (rule : Option Rule) (e : Event) (boxes : List (List Answer)) → length boxes ≤ length (with_box (starts rule e) boxes)
+count_grown rule e boxes = at (starts rule e) where
+  at : (b : Bool) → length boxes ≤ length (cond b (boxes ++ [] ∷ []) boxes)
+  at true = let k = length_push boxes [] in omega arith
+  at false = omega arith
+
+-- there is one for each session after an event too
+count_after : (c : Config) (h : History) (e : Event) (boxes : List (List Answer)) → length boxes ≡ hellos h → length (with_box (starts (verdict c h e) e) boxes) ≡ hellos (after_event c h e)
+count_after c h e boxes k = count_new (verdict c h e) e boxes ∙ ap (λ n. cond (starts (verdict c h e) e) (n + 1) n) k ∙ sym (hellos_at c h e (verdict c h e))
+
+-- a session that was not started is answered nothing
+added_past : (c : Config) (h : History) (e : Event) (s : ℕ) → hellos (after_event c h e) ≤ s → added c h e s ≡ []
+added_past c h e s le = at (live (after_event c h e) s) refl where
+  at : (b : Bool) → live (after_event c h e) s ≡ b → cond b (for_session s (answers c h e)) [] ≡ []
+  at true k = absurd (let below = live_below (after_event c h e) s k in omega arith)
+  at false k = refl
+
+-- so each session's untaken answers get what the event adds to them
+pub untaken_at : (c : Config) (h : History) (e : Event) (boxes : List (List Answer)) (s : ℕ) → length boxes ≡ hellos h → box_at (untaken_after c h e boxes) s ≡ box_at boxes s ++ added c h e s
+unfolding untaken_after
+untaken_at c h e boxes s count = at (nat_lt s (length (with_box (starts (verdict c h e) e) boxes))) refl where
+  at : (b : Bool) → nat_lt s (length (with_box (starts (verdict c h e) e) boxes)) ≡ b → box_at (with_more 0 (added c h e) (with_box (starts (verdict c h e) e) boxes)) s ≡ box_at boxes s ++ added c h e s
+  at true k =
+      at_more 0 (added c h e) (with_box (starts (verdict c h e) e) boxes) s (ltb-true _ _ k)
+      ∙ ap (λ n. box_at (with_box (starts (verdict c h e) e) boxes) s ++ added c h e n) (omega arith)
+      ∙ ap (λ box. box ++ added c h e s) (new_box (verdict c h e) e boxes s)
+  at false k =
+      let past : length (with_box (starts (verdict c h e) e) boxes) ≤ s = ltb-false _ _ k in
+      let size = count_more 0 (added c h e) (with_box (starts (verdict c h e) e) boxes) in
+      let grown = count_grown (verdict c h e) e boxes in
+      let now = count_after c h e boxes count in
+      box_past (with_more 0 (added c h e) (with_box (starts (verdict c h e) e) boxes)) s (omega arith)
+      ∙ sym (ap (λ more. box_at boxes s ++ more) (added_past c h e s (omega arith)) ∙ append_none (box_at boxes s) ∙ box_past boxes s (omega arith))
+
 pub boxes_after : (c : Config) (h : History) (e : Event) (boxes : List (List Answer)) → BoxesAgree c h boxes → BoxesAgree c (after_event c h e) (untaken_after c h e boxes)
 unfolding untaken_after
 boxes_after c h e boxes a = record {
-  count = count_more 0 (added c h e) (with_box (starts (verdict c h e) e) boxes) ∙ count_new (verdict c h e) e boxes ∙ ap (λ n. cond (starts (verdict c h e) e) (n + 1) n) a.count ∙ sym (hellos_at c h e (verdict c h e));
-  suffix = suffix;
-} where
-  new : List (List Answer)
-  new = with_box (starts (verdict c h e) e) boxes
-
-  old : (s : ℕ) → IsSuffix (box_at (with_box (starts (verdict c h e) e) boxes) s) (outbox c h s)
-  old s = subst (λ b. IsSuffix b (outbox c h s)) (sym (new_box (verdict c h e) e boxes s)) (a.suffix s)
-
-  suffix : (s : ℕ) → IsSuffix (box_at (with_more 0 (added c h e) (with_box (starts (verdict c h e) e) boxes)) s) (outbox c (after_event c h e) s)
-  suffix s = at (nat_lt s (length (with_box (starts (verdict c h e) e) boxes))) refl where
-    at : (b : Bool) → nat_lt s (length (with_box (starts (verdict c h e) e) boxes)) ≡ b → IsSuffix (box_at (with_more 0 (added c h e) (with_box (starts (verdict c h e) e) boxes)) s) (outbox c (after_event c h e) s)
-    at true k =
-        subst (λ b. IsSuffix b (outbox c (after_event c h e) s)) (sym (at_more 0 (added c h e) (with_box (starts (verdict c h e) e) boxes) s (ltb-true _ _ k) ∙ ap (λ n. box_at (with_box (starts (verdict c h e) e) boxes) s ++ added c h e n) (omega arith)))
-        (subst (λ o. IsSuffix (box_at (with_box (starts (verdict c h e) e) boxes) s ++ added c h e s) o) (sym (outbox_after c h e s)) (suffix_more (box_at (with_box (starts (verdict c h e) e) boxes) s) (outbox c h s) (added c h e s) (old s)))
-    at false k =
-        let past : length (with_box (starts (verdict c h e) e) boxes) ≤ s = ltb-false _ _ k in
-        let size = count_more 0 (added c h e) (with_box (starts (verdict c h e) e) boxes) in
-        subst (λ b. IsSuffix b (outbox c (after_event c h e) s)) (sym (ap (λ o. unwrap_or o []) (slice_past (with_more 0 (added c h e) (with_box (starts (verdict c h e) e) boxes)) s (omega arith)))) (suffix_none (outbox c (after_event c h e) s))
+  count = count_more 0 (added c h e) (with_box (starts (verdict c h e) e) boxes) ∙ count_after c h e boxes a.count;
+  suffix = λ s.
+      subst (λ box. IsSuffix box (outbox c (after_event c h e) s)) (sym (untaken_at c h e boxes s a.count))
+      (subst (λ all. IsSuffix (box_at boxes s ++ added c h e s) all) (sym (outbox_after c h e s)) (suffix_more (box_at boxes s) (outbox c h s) (added c h e s) (a.suffix s)));
+}
 
 -- there are none at the start
 pub boxes_new : (c : Config) → BoxesAgree c [] []
 unfolding hellos outbox
 boxes_new c = record { count = refl; suffix = λ s. suffix_none [] }
 
--- and so where one is taken
+-- a take leaves its session nothing, and every other what it had
+pub taken_here : (boxes : List (List Answer)) (s : ℕ) → box_at (changed taken boxes s) s ≡ []
+taken_here boxes s = ap (λ w. unwrap_or w []) (at_changed taken boxes s s ∙ ap (λ b. option_map (changed_if b taken) (slice_get boxes s)) (eq-eqb s s refl)) ∙ at (slice_get boxes s) where
+  at : (w : Option (List Answer)) → unwrap_or (option_map taken w) [] ≡ []
+  at None = refl
+  at (Some box) = refl
+
+pub taken_elsewhere : (boxes : List (List Answer)) (s t : ℕ) → (t ≡ s → ⊥) → box_at (changed taken boxes s) t ≡ box_at boxes t
+taken_elsewhere boxes s t other = ap (λ w. unwrap_or w []) (at_changed taken boxes s t ∙ ap (λ b. option_map (changed_if b taken) (slice_get boxes t)) (ne_eqb s t (λ q. other (sym q)))) ∙ at (slice_get boxes t) where
+  at : (w : Option (List Answer)) → unwrap_or (option_map (changed_if false taken) w) [] ≡ unwrap_or w []
+  at None = refl
+  at (Some box) = refl
+
+-- and each has the last of what its session was answered
 taken_at : (b : Bool) (w : Option (List Answer)) (ys : List Answer) → IsSuffix (unwrap_or w []) ys → IsSuffix (unwrap_or (option_map (changed_if b taken) w) []) ys
 taken_at true None ys k = k
 taken_at true (Some box) ys k = suffix_none ys

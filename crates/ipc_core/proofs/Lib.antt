@@ -2,4 +2,5 @@ pub mod Answering
 pub mod BoxSteps
 pub mod BoxTables
 pub mod Noticing
+pub mod LawLemmas
 pub mod PostedLemmas
