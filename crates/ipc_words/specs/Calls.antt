@@ -13,8 +13,8 @@ use Rattle.ipc_terms.specs.declared.ids.Family.{Family}
 use Rattle.ipc_terms.specs.declared.ids.Target.{Target}
 use Rattle.ipc_terms.specs.declared.ids.Target.TheVariants as target
 use Rattle.ipc_words.specs.declared.calls.Manner.{Manner}
-use Rattle.ipc_words.specs.declared.commands.Verb.{Verb}
-use Rattle.ipc_words.specs.declared.commands.Verb.TheVariants.{Umask, MqOpen, MqClose, MqSend, MqReceive, MqGetattr, MqSetattr, MqNotify, MqUnlink, SemOpen, SemClose, SemUnlink, SemPost, SemWait, SemTryWait, SemGetvalue, Ls, Stat, Chmod, Chown, SetLimit, Interrupt, Audit}
+use Rattle.ipc_terms.specs.declared.op.CallOp.{CallOp}
+use Rattle.ipc_terms.specs.declared.op.CallOp.TheVariants.{Umask, MqOpen, MqClose, MqSend, MqReceive, MqGetattr, MqSetattr, MqNotify, MqUnlink, SemOpen, SemClose, SemUnlink, SemPost, SemWait, SemTryWait, SemGetvalue, ListNames, StatName, Chmod, Chown, SetLimit, Interrupt, Audit}
 use Rattle.ipc_words.specs.declared.faults.WordFault.{WordFault}
 use Rattle.ipc_words.specs.declared.faults.WordFault.TheVariants.{Usage, NoMemory}
 use Rattle.ipc_words.specs.Grammar.{Form, app_of_form, form_of_word}
@@ -93,7 +93,7 @@ semaphore_open_of_rows rows =
     })
 
 -- The meaning of each command's rows. The arguments are read in this order, and the first that doesn't read is named.
-unfoldable pub meaning_of : Verb → List Row → Meaning Call
+unfoldable pub meaning_of : CallOp → List Row → Meaning Call
 meaning_of Umask rows = value_at octal_mode (codes "octal") rows >>= λ mask. Ok (call.Umask mask)
 meaning_of MqOpen rows = open_of_rows rows >>= λ asked. Ok (call.MqOpen asked)
 meaning_of MqClose rows = description_at rows >>= λ desc. Ok (call.MqClose desc)
@@ -123,12 +123,12 @@ meaning_of SemPost rows = description_at rows >>= λ desc. Ok (call.SemPost desc
 meaning_of SemWait rows = description_at rows >>= λ desc. Ok (call.SemWait desc)
 meaning_of SemTryWait rows = description_at rows >>= λ desc. Ok (call.SemTryWait desc)
 meaning_of SemGetvalue rows = description_at rows >>= λ desc. Ok (call.SemGetvalue desc)
-meaning_of Ls rows =
+meaning_of ListNames rows =
     value_at family_of_word (codes "family") rows >>= λ family.
     count_at (codes "start") rows >>= λ start.
     value_at (decimal_within (2 ^ 16 - 1)) (codes "count") rows >>= λ count.
     Ok (call.ListNames family start count)
-meaning_of Stat rows = target_of_rows rows >>= λ target. Ok (call.StatName target)
+meaning_of StatName rows = target_of_rows rows >>= λ target. Ok (call.StatName target)
 meaning_of Chmod rows =
     value_at octal_mode (codes "octal") rows >>= λ mode.
     target_of_rows rows >>= λ target.
@@ -155,7 +155,7 @@ abbrev pub MeansBehind : Form → List (List ℕ) → Result Call WordFault → 
 MeansBehind form words (Err NoMemory) = ⊤
 MeansBehind form words (Err Usage) = ¬ IsParsed (app_of_form form) words
 MeansBehind form words result =
-    IsParsed (app_of_form form) words × Reads (meaning_of form.verb (matches_of (app_of_form form) words)) result
+    IsParsed (app_of_form form) words × Reads (meaning_of form.op (matches_of (app_of_form form) words)) result
 
 -- the same under the command that the first word names, and Usage where it names none
 abbrev pub MeansUnder : Option Form → List (List ℕ) → Result Call WordFault → Type 0

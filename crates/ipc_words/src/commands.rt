@@ -4,34 +4,7 @@ ghost use Rattle.std.specs.Prelude.{◌≡◌, option_map};
 ghost use Rattle.ipc_words.specs.Grammar.{form_of_op, form_of_row, form_of_word};
 
 use crate::commands::Argument::{Flag, Optional, Required, Valued};
-
-/// What a command asks for.
-#[derive(Clone, Copy, Drop)]
-pub enum Verb {
-    Umask,
-    MqOpen,
-    MqClose,
-    MqSend,
-    MqReceive,
-    MqGetattr,
-    MqSetattr,
-    MqNotify,
-    MqUnlink,
-    SemOpen,
-    SemClose,
-    SemUnlink,
-    SemPost,
-    SemWait,
-    SemTryWait,
-    SemGetvalue,
-    Ls,
-    Stat,
-    Chmod,
-    Chown,
-    SetLimit,
-    Interrupt,
-    Audit,
-}
+use ipc_terms::CallOp;
 
 /// What may stand behind a command's word, by its name.
 #[derive(Clone, Copy, Drop)]
@@ -46,13 +19,11 @@ pub enum Argument {
     Valued(&'static str),
 }
 
-/// A command's word, what it asks for, and what stands behind it.
+/// A command's word, the call that it asks for, and what stands behind it.
 #[derive(Drop)]
 pub struct Form {
     pub word: &'static str,
-    /// Its call's number, as frames carry it.
-    pub op: u8,
-    pub verb: Verb,
+    pub op: CallOp,
     pub arguments: &'static [Argument],
 }
 
@@ -60,14 +31,12 @@ pub struct Form {
 pub static FORMS: [Form; 23] = [
     Form {
         word: "umask",
-        op: 2,
-        verb: Verb::Umask,
+        op: CallOp::Umask,
         arguments: &[Required("octal")],
     },
     Form {
         word: "mq-open",
-        op: 3,
-        verb: Verb::MqOpen,
+        op: CallOp::MqOpen,
         arguments: &[
             Required("name"),
             Required("access"),
@@ -81,50 +50,42 @@ pub static FORMS: [Form; 23] = [
     },
     Form {
         word: "mq-close",
-        op: 4,
-        verb: Verb::MqClose,
+        op: CallOp::MqClose,
         arguments: &[Required("d")],
     },
     Form {
         word: "mq-send",
-        op: 6,
-        verb: Verb::MqSend,
+        op: CallOp::MqSend,
         arguments: &[Required("d"), Required("prio"), Required("bytes")],
     },
     Form {
         word: "mq-receive",
-        op: 7,
-        verb: Verb::MqReceive,
+        op: CallOp::MqReceive,
         arguments: &[Required("d"), Required("len")],
     },
     Form {
         word: "mq-getattr",
-        op: 8,
-        verb: Verb::MqGetattr,
+        op: CallOp::MqGetattr,
         arguments: &[Required("d")],
     },
     Form {
         word: "mq-setattr",
-        op: 9,
-        verb: Verb::MqSetattr,
+        op: CallOp::MqSetattr,
         arguments: &[Required("d"), Required("how")],
     },
     Form {
         word: "mq-notify",
-        op: 10,
-        verb: Verb::MqNotify,
+        op: CallOp::MqNotify,
         arguments: &[Required("d"), Required("how")],
     },
     Form {
         word: "mq-unlink",
-        op: 5,
-        verb: Verb::MqUnlink,
+        op: CallOp::MqUnlink,
         arguments: &[Required("name")],
     },
     Form {
         word: "sem-open",
-        op: 11,
-        verb: Verb::SemOpen,
+        op: CallOp::SemOpen,
         arguments: &[
             Required("name"),
             Flag("create"),
@@ -135,62 +96,52 @@ pub static FORMS: [Form; 23] = [
     },
     Form {
         word: "sem-close",
-        op: 12,
-        verb: Verb::SemClose,
+        op: CallOp::SemClose,
         arguments: &[Required("d")],
     },
     Form {
         word: "sem-unlink",
-        op: 13,
-        verb: Verb::SemUnlink,
+        op: CallOp::SemUnlink,
         arguments: &[Required("name")],
     },
     Form {
         word: "sem-post",
-        op: 14,
-        verb: Verb::SemPost,
+        op: CallOp::SemPost,
         arguments: &[Required("d")],
     },
     Form {
         word: "sem-wait",
-        op: 15,
-        verb: Verb::SemWait,
+        op: CallOp::SemWait,
         arguments: &[Required("d")],
     },
     Form {
         word: "sem-trywait",
-        op: 16,
-        verb: Verb::SemTryWait,
+        op: CallOp::SemTryWait,
         arguments: &[Required("d")],
     },
     Form {
         word: "sem-getvalue",
-        op: 17,
-        verb: Verb::SemGetvalue,
+        op: CallOp::SemGetvalue,
         arguments: &[Required("d")],
     },
     Form {
         word: "ls",
-        op: 18,
-        verb: Verb::Ls,
+        op: CallOp::ListNames,
         arguments: &[Required("family"), Required("start"), Required("count")],
     },
     Form {
         word: "stat",
-        op: 19,
-        verb: Verb::Stat,
+        op: CallOp::StatName,
         arguments: &[Required("family"), Optional("name")],
     },
     Form {
         word: "chmod",
-        op: 20,
-        verb: Verb::Chmod,
+        op: CallOp::Chmod,
         arguments: &[Required("octal"), Required("family"), Optional("name")],
     },
     Form {
         word: "chown",
-        op: 21,
-        verb: Verb::Chown,
+        op: CallOp::Chown,
         arguments: &[
             Required("uid"),
             Required("gid"),
@@ -200,20 +151,17 @@ pub static FORMS: [Form; 23] = [
     },
     Form {
         word: "set-limit",
-        op: 22,
-        verb: Verb::SetLimit,
+        op: CallOp::SetLimit,
         arguments: &[Required("uid"), Required("bytes")],
     },
     Form {
         word: "interrupt",
-        op: 23,
-        verb: Verb::Interrupt,
+        op: CallOp::Interrupt,
         arguments: &[],
     },
     Form {
         word: "audit",
-        op: 24,
-        verb: Verb::Audit,
+        op: CallOp::Audit,
         arguments: &[Required("start"), Required("count")],
     },
 ];
@@ -229,5 +177,5 @@ pub fn form_of_word(word: &str) -> Option<&'static Form>
 pub fn form_of_op(op: u8) -> Option<&'static Form>
     ensures { option_map (λ form. form_of_row form.now) result ≡ form_of_op op }
 {
-    FORMS.iter().find(move |form| form.op == op)
+    FORMS.iter().find(move |form| form.op.number() == op)
 }

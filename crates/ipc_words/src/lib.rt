@@ -58,5 +58,5 @@ fn call_of_form(alloc: Global, form: &Form, words: &[&str]) -> Result<Call, Word
     ensures { MeansBehind (form_of_row form.now) (map (λ w. w.now) words.now) result }
 {
     let found = matches_of_words(alloc, form, words)?;
-    call_of_matches(alloc, form.verb, &found)
+    call_of_matches(alloc, form.op, &found)
 }
