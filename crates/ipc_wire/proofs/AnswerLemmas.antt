@@ -1,6 +1,7 @@
 -- What each answer's body was read from spells it, and what spells it is read again.
 use Rattle.std.proofs.Common.{◌≡◌, ℕ, true, ltb, List, ◌++◌, Some, Ok, refl}
 use Rattle.ipc_terms.specs.Rules.{every_rule, number_of}
+use Rattle.ipc_terms.specs.Ops.{answer_number, every_answer, answer_of_number, answer_op}
 use Rattle.ipc_terms.specs.declared.rule.Rule.{Rule}
 use Rattle.ipc_terms.specs.declared.rule.Rule.TheVariants as rule
 use Rattle.ipc_terms.specs.declared.call.Answer.{Answer}
@@ -8,10 +9,10 @@ use Rattle.ipc_terms.specs.declared.call.Answer.TheVariants as answer
 use Rattle.ipc_fields.specs.Field.{byte, u16, u32, u64, text, boolean, counted, ◌⊗◌, nothing, only, then_rest}
 use Rattle.ipc_fields.proofs.FieldLemmas.{IsBytes, IsExact, IsExactBody, byte_exact, u16_exact, u32_exact, u64_exact, text_exact, boolean_exact, coded_exact, pair_exact, seen_exact, counted_exact, only_exact, rest_exact, nothing_exact}
 use Rattle.ipc_fields.proofs.FormatLemmas.{IsTaken, IsExactFormat, among_is, takes_by, again_by, front_takes, front_again, one_message}
-use Rattle.ipc_wire.specs.declared.opcodes.AnswerOp.{AnswerOp}
-use Rattle.ipc_wire.specs.declared.opcodes.AnswerOp.TheVariants as op
+use Rattle.ipc_terms.specs.declared.op.AnswerOp.{AnswerOp}
+use Rattle.ipc_terms.specs.declared.op.AnswerOp.TheVariants as op
 use Rattle.ipc_fields.specs.Terms.{sid_field, desc_field, uid_field, gid_field, mode_field, attributes_field}
-use Rattle.ipc_wire.specs.Answers.{facts_of, facts_parts, facts_field, line_of, line_parts, line_field, rule_of, rule_field, answer_opcode, answer_opcodes, answer_op, answer_with, op_of_answer, answer_fields, answer_fits, answer_fields_at, answers, answer_body, answer_at}
+use Rattle.ipc_wire.specs.Answers.{facts_of, facts_parts, facts_field, line_of, line_parts, line_field, rule_of, rule_field, answer_with, answer_fields, answer_fits, answer_fields_at, answers, answer_body, answer_at}
 use Rattle.ipc_wire.specs.Streams.{spell_answer, answer_front, IsAnswerSpelledBy}
 use Rattle.ipc_fields.proofs.TermLemmas.{sid_exact, desc_exact, uid_exact, gid_exact, mode_exact, attributes_exact}
 
@@ -116,7 +117,7 @@ fields_take op.Refused = takes_by answers op.Refused (only rule_field) refused_b
 fields_take op.Interrupted = takes_by answers op.Interrupted nothing nothing_exact (λ u. answer.Interrupted) (λ x. refl) (λ x. refl) (λ x. refl)
 fields_take op.Notice = takes_by answers op.Notice (only desc_field) opened_body (λ desc. answer.Notice desc) (λ x. refl) (λ x. refl) (λ x. refl)
 
-fields_again : (a : Answer) (w : List ℕ) → answer_fits a ≡ true → answer_fields a ≡ Some w → answer_fields_at (op_of_answer a) w ≡ Ok a
+fields_again : (a : Answer) (w : List ℕ) → answer_fits a ≡ true → answer_fields a ≡ Some w → answer_fields_at (answer_op a) w ≡ Ok a
 unfolding answer_fields_at answer_with
 fields_again (answer.Started sid) = again_by (only sid_field) started_body (λ sid. answer.Started sid) sid
 fields_again answer.Done = again_by nothing nothing_exact (λ u. answer.Done) tt
@@ -133,8 +134,8 @@ fields_again (answer.Refused rule) = again_by (only rule_field) refused_body (λ
 fields_again answer.Interrupted = again_by nothing nothing_exact (λ u. answer.Interrupted) tt
 fields_again (answer.Notice desc) = again_by (only desc_field) opened_body (λ desc. answer.Notice desc) desc
 
-codes : (o : AnswerOp) → answer_op (answer_opcode o) ≡ Some o
-unfolding answer_op
+codes : (o : AnswerOp) → answer_of_number (answer_number o) ≡ Some o
+unfolding answer_of_number
 codes op.Started = refl
 codes op.Done = refl
 codes op.Opened = refl
@@ -150,9 +151,9 @@ codes op.Refused = refl
 codes op.Interrupted = refl
 codes op.Notice = refl
 
-kinds : (b : ℕ) (o : AnswerOp) → answer_op b ≡ Some o → answer_opcode o ≡ b
-unfolding answer_op
-kinds b o e = among_is answer_opcode answer_opcodes b o e
+kinds : (b : ℕ) (o : AnswerOp) → answer_of_number b ≡ Some o → answer_number o ≡ b
+unfolding answer_of_number
+kinds b o e = among_is answer_number every_answer b o e
 
 answers_exact : IsExactFormat answers
 answers_exact = record { takes = fields_take; again = fields_again; codes = codes; kinds = kinds }

@@ -2,6 +2,7 @@
 use Rattle.std.proofs.Common.{◌≡◌, ℕ, zero, suc, Bool, true, false, List, [], ◌∷◌, Option, Some, None, Result, Ok, Err, refl, ap, subst, ◌∙◌}
 use Rattle.std.proofs.lemmas.Bool.{and_from}
 use Rattle.ipc_terms.specs.declared.call.Call.TheVariants as call
+use Rattle.ipc_terms.specs.declared.op.CallOp.TheVariants as asks
 use Rattle.ipc_fields.specs.declared.fault.WireFault.{WireFault}
 use Rattle.ipc_fields.specs.Field.{◌>>=◌, u16, u32, u64, text, boolean, optional, ◌⊗◌, nothing, only, then_rest}
 use Rattle.ipc_fields.specs.Format.{allowed}
@@ -24,29 +25,29 @@ made_by o make (Err f) q is e = absurd cc
 read_op : (o : RequestOp) (w : List ℕ) (q : Request) → fields_at o w ≡ Ok q → op_of_request q ≡ o
 unfolding fields_at request_with
 read_op op.Hello w q e = made_by op.Hello (λ key. request.Hello key) ((only text).read w) q (λ x. refl) e
-read_op op.Umask w q e = made_by op.Umask (λ mask. request.Do (call.Umask mask)) ((only mode_field).read w) q (λ x. refl) e
-read_op op.MqOpen w q e = made_by op.MqOpen (λ asked. request.Do (call.MqOpen asked)) ((only queue_open_field).read w) q (λ x. refl) e
-read_op op.MqClose w q e = made_by op.MqClose (λ desc. request.Do (call.MqClose desc)) ((only desc_field).read w) q (λ x. refl) e
-read_op op.MqUnlink w q e = made_by op.MqUnlink (λ name. request.Do (call.MqUnlink name)) ((only text).read w) q (λ x. refl) e
-read_op op.MqSend w q e = made_by op.MqSend (λ x. request.Do (call.MqSend x.0.0 x.0.1 x.1)) ((then_rest (desc_field ⊗ u32)).read w) q (λ x. refl) e
-read_op op.MqReceive w q e = made_by op.MqReceive (λ x. request.Do (call.MqReceive x.0 x.1)) ((only (desc_field ⊗ u32)).read w) q (λ x. refl) e
-read_op op.MqGetattr w q e = made_by op.MqGetattr (λ desc. request.Do (call.MqGetattr desc)) ((only desc_field).read w) q (λ x. refl) e
-read_op op.MqSetattr w q e = made_by op.MqSetattr (λ x. request.Do (call.MqSetattr x.0 x.1)) ((only (desc_field ⊗ boolean)).read w) q (λ x. refl) e
-read_op op.MqNotify w q e = made_by op.MqNotify (λ x. request.Do (call.MqNotify x.0 x.1)) ((only (desc_field ⊗ boolean)).read w) q (λ x. refl) e
-read_op op.SemOpen w q e = made_by op.SemOpen (λ asked. request.Do (call.SemOpen asked)) ((only semaphore_open_field).read w) q (λ x. refl) e
-read_op op.SemClose w q e = made_by op.SemClose (λ desc. request.Do (call.SemClose desc)) ((only desc_field).read w) q (λ x. refl) e
-read_op op.SemUnlink w q e = made_by op.SemUnlink (λ name. request.Do (call.SemUnlink name)) ((only text).read w) q (λ x. refl) e
-read_op op.SemPost w q e = made_by op.SemPost (λ desc. request.Do (call.SemPost desc)) ((only desc_field).read w) q (λ x. refl) e
-read_op op.SemWait w q e = made_by op.SemWait (λ desc. request.Do (call.SemWait desc)) ((only desc_field).read w) q (λ x. refl) e
-read_op op.SemTryWait w q e = made_by op.SemTryWait (λ desc. request.Do (call.SemTryWait desc)) ((only desc_field).read w) q (λ x. refl) e
-read_op op.SemGetvalue w q e = made_by op.SemGetvalue (λ desc. request.Do (call.SemGetvalue desc)) ((only desc_field).read w) q (λ x. refl) e
-read_op op.ListNames w q e = made_by op.ListNames (λ x. request.Do (call.ListNames x.0 x.1.0 x.1.1)) ((only (family_field ⊗ u32 ⊗ u16)).read w) q (λ x. refl) e
-read_op op.StatName w q e = made_by op.StatName (λ target. request.Do (call.StatName target)) ((only target_field).read w) q (λ x. refl) e
-read_op op.Chmod w q e = made_by op.Chmod (λ x. request.Do (call.Chmod x.0 x.1)) ((only (mode_field ⊗ target_field)).read w) q (λ x. refl) e
-read_op op.Chown w q e = made_by op.Chown (λ x. request.Do (call.Chown x.0 x.1.0 x.1.1)) ((only (optional uid_field ⊗ optional gid_field ⊗ target_field)).read w) q (λ x. refl) e
-read_op op.SetLimit w q e = made_by op.SetLimit (λ x. request.Do (call.SetLimit x.0 x.1)) ((only (uid_field ⊗ u64)).read w) q (λ x. refl) e
-read_op op.Interrupt w q e = made_by op.Interrupt (λ u. request.Do call.Interrupt) (nothing.read w) q (λ x. refl) e
-read_op op.Audit w q e = made_by op.Audit (λ x. request.Do (call.Audit x.0 x.1)) ((only (u64 ⊗ u16)).read w) q (λ x. refl) e
+read_op (op.Call asks.Umask) w q e = made_by (op.Call asks.Umask) (λ mask. request.Do (call.Umask mask)) ((only mode_field).read w) q (λ x. refl) e
+read_op (op.Call asks.MqOpen) w q e = made_by (op.Call asks.MqOpen) (λ asked. request.Do (call.MqOpen asked)) ((only queue_open_field).read w) q (λ x. refl) e
+read_op (op.Call asks.MqClose) w q e = made_by (op.Call asks.MqClose) (λ desc. request.Do (call.MqClose desc)) ((only desc_field).read w) q (λ x. refl) e
+read_op (op.Call asks.MqUnlink) w q e = made_by (op.Call asks.MqUnlink) (λ name. request.Do (call.MqUnlink name)) ((only text).read w) q (λ x. refl) e
+read_op (op.Call asks.MqSend) w q e = made_by (op.Call asks.MqSend) (λ x. request.Do (call.MqSend x.0.0 x.0.1 x.1)) ((then_rest (desc_field ⊗ u32)).read w) q (λ x. refl) e
+read_op (op.Call asks.MqReceive) w q e = made_by (op.Call asks.MqReceive) (λ x. request.Do (call.MqReceive x.0 x.1)) ((only (desc_field ⊗ u32)).read w) q (λ x. refl) e
+read_op (op.Call asks.MqGetattr) w q e = made_by (op.Call asks.MqGetattr) (λ desc. request.Do (call.MqGetattr desc)) ((only desc_field).read w) q (λ x. refl) e
+read_op (op.Call asks.MqSetattr) w q e = made_by (op.Call asks.MqSetattr) (λ x. request.Do (call.MqSetattr x.0 x.1)) ((only (desc_field ⊗ boolean)).read w) q (λ x. refl) e
+read_op (op.Call asks.MqNotify) w q e = made_by (op.Call asks.MqNotify) (λ x. request.Do (call.MqNotify x.0 x.1)) ((only (desc_field ⊗ boolean)).read w) q (λ x. refl) e
+read_op (op.Call asks.SemOpen) w q e = made_by (op.Call asks.SemOpen) (λ asked. request.Do (call.SemOpen asked)) ((only semaphore_open_field).read w) q (λ x. refl) e
+read_op (op.Call asks.SemClose) w q e = made_by (op.Call asks.SemClose) (λ desc. request.Do (call.SemClose desc)) ((only desc_field).read w) q (λ x. refl) e
+read_op (op.Call asks.SemUnlink) w q e = made_by (op.Call asks.SemUnlink) (λ name. request.Do (call.SemUnlink name)) ((only text).read w) q (λ x. refl) e
+read_op (op.Call asks.SemPost) w q e = made_by (op.Call asks.SemPost) (λ desc. request.Do (call.SemPost desc)) ((only desc_field).read w) q (λ x. refl) e
+read_op (op.Call asks.SemWait) w q e = made_by (op.Call asks.SemWait) (λ desc. request.Do (call.SemWait desc)) ((only desc_field).read w) q (λ x. refl) e
+read_op (op.Call asks.SemTryWait) w q e = made_by (op.Call asks.SemTryWait) (λ desc. request.Do (call.SemTryWait desc)) ((only desc_field).read w) q (λ x. refl) e
+read_op (op.Call asks.SemGetvalue) w q e = made_by (op.Call asks.SemGetvalue) (λ desc. request.Do (call.SemGetvalue desc)) ((only desc_field).read w) q (λ x. refl) e
+read_op (op.Call asks.ListNames) w q e = made_by (op.Call asks.ListNames) (λ x. request.Do (call.ListNames x.0 x.1.0 x.1.1)) ((only (family_field ⊗ u32 ⊗ u16)).read w) q (λ x. refl) e
+read_op (op.Call asks.StatName) w q e = made_by (op.Call asks.StatName) (λ target. request.Do (call.StatName target)) ((only target_field).read w) q (λ x. refl) e
+read_op (op.Call asks.Chmod) w q e = made_by (op.Call asks.Chmod) (λ x. request.Do (call.Chmod x.0 x.1)) ((only (mode_field ⊗ target_field)).read w) q (λ x. refl) e
+read_op (op.Call asks.Chown) w q e = made_by (op.Call asks.Chown) (λ x. request.Do (call.Chown x.0 x.1.0 x.1.1)) ((only (optional uid_field ⊗ optional gid_field ⊗ target_field)).read w) q (λ x. refl) e
+read_op (op.Call asks.SetLimit) w q e = made_by (op.Call asks.SetLimit) (λ x. request.Do (call.SetLimit x.0 x.1)) ((only (uid_field ⊗ u64)).read w) q (λ x. refl) e
+read_op (op.Call asks.Interrupt) w q e = made_by (op.Call asks.Interrupt) (λ u. request.Do call.Interrupt) (nothing.read w) q (λ x. refl) e
+read_op (op.Call asks.Audit) w q e = made_by (op.Call asks.Audit) (λ x. request.Do (call.Audit x.0 x.1)) ((only (u64 ⊗ u16)).read w) q (λ x. refl) e
 
 stands : (first : Bool) (w : List ℕ) (q : Request) → request_at first w ≡ Ok q → may_stand first (op_of_request q) ≡ true
 unfolding request_at
@@ -56,7 +57,7 @@ stands first (b ∷ w) q e =
     let a = allowed_ok (may_stand first) (request_op b) s.0 s.1 in
     ap (may_stand first) (read_op s.0 w q s.2) ∙ a.1
 
-front_stands : (first : Bool) (w : List ℕ) (q : Request) (rest : List ℕ) → front first w ≡ Ok (Some (q, rest)) → same (is_hello_request q) first ≡ true
+pub front_stands : (first : Bool) (w : List ℕ) (q : Request) (rest : List ℕ) → front first w ≡ Ok (Some (q, rest)) → same (is_hello_request q) first ≡ true
 front_stands first w q rest e =
     let i = front_some (request_at first) w q rest e in
     stands first i.body q i.value_is

@@ -1,23 +1,26 @@
 -- What each request's body was read from spells it, and what spells it is read again.
-use Rattle.std.proofs.Common.{◌≡◌, ℕ, Bool, true, false, List, [], ◌∷◌, ◌++◌, Some, Result, Ok, Err, refl, sym, ap, ◌∙◌, arith}
+use Rattle.std.proofs.Common.{◌≡◌, ℕ, Bool, true, false, cond, eqb, List, [], ◌∷◌, ◌++◌, Option, Some, None, Result, Ok, Err, refl, sym, ap, subst, ◌∙◌, arith}
+use Rattle.std.specs.Prelude.{option_map}
+use Rattle.std.proofs.lemmas.Bool.{eqb-true}
 use Rattle.std.specs.Int.RustNames.{bit_and}
 use Rattle.std.proofs.lemmas.Nat.{and_le_r}
 use Rattle.std.proofs.lemmas.Grind.{and_numeral}
-use Rattle.ipc_terms.specs.Lines.{op_of}
-use Rattle.ipc_terms.specs.declared.call.Call.{Call}
+use Rattle.ipc_terms.specs.Ops.{hello_number, call_number, every_call, call_of_number}
+use Rattle.ipc_terms.specs.declared.op.CallOp.{CallOp}
+use Rattle.ipc_terms.specs.declared.op.CallOp.TheVariants as asks
 use Rattle.ipc_terms.specs.declared.call.Call.TheVariants as call
 use Rattle.ipc_fields.specs.declared.fault.WireFault.{WireFault}
 use Rattle.ipc_fields.specs.Field.{◌⊕◌, u16, u32, u64, text, boolean, optional, ◌⊗◌, nothing, only, then_rest}
 use Rattle.ipc_fields.specs.Frame.{framed}
 use Rattle.ipc_fields.proofs.FrontLemmas.{front_err}
 use Rattle.ipc_fields.proofs.FormatLemmas.{IsTaken, IsExactFormat, among_is, takes_by, again_by, front_takes, front_again, one_message}
-use Rattle.ipc_fields.proofs.FieldLemmas.{IsBytes, IsExact, IsExactBody, u16_exact, u32_exact, u64_exact, text_exact, boolean_exact, pair_exact, seen_exact, optional_exact, only_exact, rest_exact, nothing_exact}
+use Rattle.ipc_fields.proofs.FieldLemmas.{IsBytes, some_is, IsExact, IsExactBody, u16_exact, u32_exact, u64_exact, text_exact, boolean_exact, pair_exact, seen_exact, optional_exact, only_exact, rest_exact, nothing_exact}
 use Rattle.ipc_wire.specs.declared.request.Request.{Request}
 use Rattle.ipc_wire.specs.declared.request.Request.TheVariants as request
 use Rattle.ipc_wire.specs.declared.opcodes.RequestOp.{RequestOp}
 use Rattle.ipc_wire.specs.declared.opcodes.RequestOp.TheVariants as op
 use Rattle.ipc_fields.specs.Terms.{desc_field, uid_field, gid_field, mode_field, access_field, family_field, flags_field, attributes_field, target_field}
-use Rattle.ipc_wire.specs.Requests.{queue_flags, queue_open_of, queue_open_parts, queue_open_field, semaphore_flags, semaphore_open_of, semaphore_open_parts, semaphore_open_field, request_opcode, request_opcodes, request_op, request_with, op_of_request, request_fields, is_plain, fields_at, requests, request_body, plain, fits, is_hello_request, same, may_stand, request_at}
+use Rattle.ipc_wire.specs.Requests.{queue_flags, queue_open_of, queue_open_parts, queue_open_field, semaphore_flags, semaphore_open_of, semaphore_open_parts, semaphore_open_field, request_opcode, request_op, request_with, op_of_request, request_fields, is_plain, fields_at, requests, request_body, plain, fits, is_hello_request, same, may_stand, request_at}
 use Rattle.ipc_wire.specs.Streams.{spell, front, IsSpelledBy}
 use Rattle.ipc_fields.proofs.TermLemmas.{desc_exact, uid_exact, gid_exact, mode_exact, access_exact, family_exact, flags_exact, attributes_exact, target_exact}
 
@@ -78,29 +81,29 @@ audit_body = only_exact _ (pair_exact u64 _ u64_exact u16_exact)
 fields_take : (o : RequestOp) (w : List ℕ) (q : Request) → IsBytes w → fields_at o w ≡ Ok q → IsTaken requests o w q
 unfolding fields_at request_with
 fields_take op.Hello = takes_by requests op.Hello (only text) hello_body (λ key. request.Hello key) (λ x. refl) (λ x. refl) (λ x. refl)
-fields_take op.Umask = takes_by requests op.Umask (only mode_field) umask_body (λ mask. request.Do (call.Umask mask)) (λ x. refl) (λ x. refl) (λ x. refl)
-fields_take op.MqOpen = takes_by requests op.MqOpen (only queue_open_field) mq_open_body (λ asked. request.Do (call.MqOpen asked)) (λ x. refl) (λ x. refl) (λ x. refl)
-fields_take op.MqClose = takes_by requests op.MqClose (only desc_field) mq_close_body (λ desc. request.Do (call.MqClose desc)) (λ x. refl) (λ x. refl) (λ x. refl)
-fields_take op.MqUnlink = takes_by requests op.MqUnlink (only text) hello_body (λ name. request.Do (call.MqUnlink name)) (λ x. refl) (λ x. refl) (λ x. refl)
-fields_take op.MqSend = takes_by requests op.MqSend (then_rest (desc_field ⊗ u32)) mq_send_body (λ x. request.Do (call.MqSend x.0.0 x.0.1 x.1)) (λ x. refl) (λ x. refl) (λ x. refl)
-fields_take op.MqReceive = takes_by requests op.MqReceive (only (desc_field ⊗ u32)) mq_receive_body (λ x. request.Do (call.MqReceive x.0 x.1)) (λ x. refl) (λ x. refl) (λ x. refl)
-fields_take op.MqGetattr = takes_by requests op.MqGetattr (only desc_field) mq_close_body (λ desc. request.Do (call.MqGetattr desc)) (λ x. refl) (λ x. refl) (λ x. refl)
-fields_take op.MqSetattr = takes_by requests op.MqSetattr (only (desc_field ⊗ boolean)) mq_setattr_body (λ x. request.Do (call.MqSetattr x.0 x.1)) (λ x. refl) (λ x. refl) (λ x. refl)
-fields_take op.MqNotify = takes_by requests op.MqNotify (only (desc_field ⊗ boolean)) mq_setattr_body (λ x. request.Do (call.MqNotify x.0 x.1)) (λ x. refl) (λ x. refl) (λ x. refl)
-fields_take op.SemOpen = takes_by requests op.SemOpen (only semaphore_open_field) sem_open_body (λ asked. request.Do (call.SemOpen asked)) (λ x. refl) (λ x. refl) (λ x. refl)
-fields_take op.SemClose = takes_by requests op.SemClose (only desc_field) mq_close_body (λ desc. request.Do (call.SemClose desc)) (λ x. refl) (λ x. refl) (λ x. refl)
-fields_take op.SemUnlink = takes_by requests op.SemUnlink (only text) hello_body (λ name. request.Do (call.SemUnlink name)) (λ x. refl) (λ x. refl) (λ x. refl)
-fields_take op.SemPost = takes_by requests op.SemPost (only desc_field) mq_close_body (λ desc. request.Do (call.SemPost desc)) (λ x. refl) (λ x. refl) (λ x. refl)
-fields_take op.SemWait = takes_by requests op.SemWait (only desc_field) mq_close_body (λ desc. request.Do (call.SemWait desc)) (λ x. refl) (λ x. refl) (λ x. refl)
-fields_take op.SemTryWait = takes_by requests op.SemTryWait (only desc_field) mq_close_body (λ desc. request.Do (call.SemTryWait desc)) (λ x. refl) (λ x. refl) (λ x. refl)
-fields_take op.SemGetvalue = takes_by requests op.SemGetvalue (only desc_field) mq_close_body (λ desc. request.Do (call.SemGetvalue desc)) (λ x. refl) (λ x. refl) (λ x. refl)
-fields_take op.ListNames = takes_by requests op.ListNames (only (family_field ⊗ u32 ⊗ u16)) list_names_body (λ x. request.Do (call.ListNames x.0 x.1.0 x.1.1)) (λ x. refl) (λ x. refl) (λ x. refl)
-fields_take op.StatName = takes_by requests op.StatName (only target_field) stat_name_body (λ target. request.Do (call.StatName target)) (λ x. refl) (λ x. refl) (λ x. refl)
-fields_take op.Chmod = takes_by requests op.Chmod (only (mode_field ⊗ target_field)) chmod_body (λ x. request.Do (call.Chmod x.0 x.1)) (λ x. refl) (λ x. refl) (λ x. refl)
-fields_take op.Chown = takes_by requests op.Chown (only (optional uid_field ⊗ optional gid_field ⊗ target_field)) chown_body (λ x. request.Do (call.Chown x.0 x.1.0 x.1.1)) (λ x. refl) (λ x. refl) (λ x. refl)
-fields_take op.SetLimit = takes_by requests op.SetLimit (only (uid_field ⊗ u64)) set_limit_body (λ x. request.Do (call.SetLimit x.0 x.1)) (λ x. refl) (λ x. refl) (λ x. refl)
-fields_take op.Interrupt = takes_by requests op.Interrupt nothing nothing_exact (λ u. request.Do call.Interrupt) (λ x. refl) (λ x. refl) (λ x. refl)
-fields_take op.Audit = takes_by requests op.Audit (only (u64 ⊗ u16)) audit_body (λ x. request.Do (call.Audit x.0 x.1)) (λ x. refl) (λ x. refl) (λ x. refl)
+fields_take (op.Call asks.Umask) = takes_by requests (op.Call asks.Umask) (only mode_field) umask_body (λ mask. request.Do (call.Umask mask)) (λ x. refl) (λ x. refl) (λ x. refl)
+fields_take (op.Call asks.MqOpen) = takes_by requests (op.Call asks.MqOpen) (only queue_open_field) mq_open_body (λ asked. request.Do (call.MqOpen asked)) (λ x. refl) (λ x. refl) (λ x. refl)
+fields_take (op.Call asks.MqClose) = takes_by requests (op.Call asks.MqClose) (only desc_field) mq_close_body (λ desc. request.Do (call.MqClose desc)) (λ x. refl) (λ x. refl) (λ x. refl)
+fields_take (op.Call asks.MqUnlink) = takes_by requests (op.Call asks.MqUnlink) (only text) hello_body (λ name. request.Do (call.MqUnlink name)) (λ x. refl) (λ x. refl) (λ x. refl)
+fields_take (op.Call asks.MqSend) = takes_by requests (op.Call asks.MqSend) (then_rest (desc_field ⊗ u32)) mq_send_body (λ x. request.Do (call.MqSend x.0.0 x.0.1 x.1)) (λ x. refl) (λ x. refl) (λ x. refl)
+fields_take (op.Call asks.MqReceive) = takes_by requests (op.Call asks.MqReceive) (only (desc_field ⊗ u32)) mq_receive_body (λ x. request.Do (call.MqReceive x.0 x.1)) (λ x. refl) (λ x. refl) (λ x. refl)
+fields_take (op.Call asks.MqGetattr) = takes_by requests (op.Call asks.MqGetattr) (only desc_field) mq_close_body (λ desc. request.Do (call.MqGetattr desc)) (λ x. refl) (λ x. refl) (λ x. refl)
+fields_take (op.Call asks.MqSetattr) = takes_by requests (op.Call asks.MqSetattr) (only (desc_field ⊗ boolean)) mq_setattr_body (λ x. request.Do (call.MqSetattr x.0 x.1)) (λ x. refl) (λ x. refl) (λ x. refl)
+fields_take (op.Call asks.MqNotify) = takes_by requests (op.Call asks.MqNotify) (only (desc_field ⊗ boolean)) mq_setattr_body (λ x. request.Do (call.MqNotify x.0 x.1)) (λ x. refl) (λ x. refl) (λ x. refl)
+fields_take (op.Call asks.SemOpen) = takes_by requests (op.Call asks.SemOpen) (only semaphore_open_field) sem_open_body (λ asked. request.Do (call.SemOpen asked)) (λ x. refl) (λ x. refl) (λ x. refl)
+fields_take (op.Call asks.SemClose) = takes_by requests (op.Call asks.SemClose) (only desc_field) mq_close_body (λ desc. request.Do (call.SemClose desc)) (λ x. refl) (λ x. refl) (λ x. refl)
+fields_take (op.Call asks.SemUnlink) = takes_by requests (op.Call asks.SemUnlink) (only text) hello_body (λ name. request.Do (call.SemUnlink name)) (λ x. refl) (λ x. refl) (λ x. refl)
+fields_take (op.Call asks.SemPost) = takes_by requests (op.Call asks.SemPost) (only desc_field) mq_close_body (λ desc. request.Do (call.SemPost desc)) (λ x. refl) (λ x. refl) (λ x. refl)
+fields_take (op.Call asks.SemWait) = takes_by requests (op.Call asks.SemWait) (only desc_field) mq_close_body (λ desc. request.Do (call.SemWait desc)) (λ x. refl) (λ x. refl) (λ x. refl)
+fields_take (op.Call asks.SemTryWait) = takes_by requests (op.Call asks.SemTryWait) (only desc_field) mq_close_body (λ desc. request.Do (call.SemTryWait desc)) (λ x. refl) (λ x. refl) (λ x. refl)
+fields_take (op.Call asks.SemGetvalue) = takes_by requests (op.Call asks.SemGetvalue) (only desc_field) mq_close_body (λ desc. request.Do (call.SemGetvalue desc)) (λ x. refl) (λ x. refl) (λ x. refl)
+fields_take (op.Call asks.ListNames) = takes_by requests (op.Call asks.ListNames) (only (family_field ⊗ u32 ⊗ u16)) list_names_body (λ x. request.Do (call.ListNames x.0 x.1.0 x.1.1)) (λ x. refl) (λ x. refl) (λ x. refl)
+fields_take (op.Call asks.StatName) = takes_by requests (op.Call asks.StatName) (only target_field) stat_name_body (λ target. request.Do (call.StatName target)) (λ x. refl) (λ x. refl) (λ x. refl)
+fields_take (op.Call asks.Chmod) = takes_by requests (op.Call asks.Chmod) (only (mode_field ⊗ target_field)) chmod_body (λ x. request.Do (call.Chmod x.0 x.1)) (λ x. refl) (λ x. refl) (λ x. refl)
+fields_take (op.Call asks.Chown) = takes_by requests (op.Call asks.Chown) (only (optional uid_field ⊗ optional gid_field ⊗ target_field)) chown_body (λ x. request.Do (call.Chown x.0 x.1.0 x.1.1)) (λ x. refl) (λ x. refl) (λ x. refl)
+fields_take (op.Call asks.SetLimit) = takes_by requests (op.Call asks.SetLimit) (only (uid_field ⊗ u64)) set_limit_body (λ x. request.Do (call.SetLimit x.0 x.1)) (λ x. refl) (λ x. refl) (λ x. refl)
+fields_take (op.Call asks.Interrupt) = takes_by requests (op.Call asks.Interrupt) nothing nothing_exact (λ u. request.Do call.Interrupt) (λ x. refl) (λ x. refl) (λ x. refl)
+fields_take (op.Call asks.Audit) = takes_by requests (op.Call asks.Audit) (only (u64 ⊗ u16)) audit_body (λ x. request.Do (call.Audit x.0 x.1)) (λ x. refl) (λ x. refl) (λ x. refl)
 
 fields_again : (q : Request) (w : List ℕ) → is_plain q ≡ true → request_fields q ≡ Some w → fields_at (op_of_request q) w ≡ Ok q
 unfolding fields_at request_with
@@ -130,66 +133,47 @@ fields_again (request.Do call.Interrupt) = again_by nothing nothing_exact (λ u.
 fields_again (request.Do (call.Audit start count)) = again_by (only (u64 ⊗ u16)) audit_body (λ x. request.Do (call.Audit x.0 x.1)) (start, count)
 
 codes : (o : RequestOp) → request_op (request_opcode o) ≡ Some o
-unfolding request_op
+unfolding request_op call_of_number
 codes op.Hello = refl
-codes op.Umask = refl
-codes op.MqOpen = refl
-codes op.MqClose = refl
-codes op.MqUnlink = refl
-codes op.MqSend = refl
-codes op.MqReceive = refl
-codes op.MqGetattr = refl
-codes op.MqSetattr = refl
-codes op.MqNotify = refl
-codes op.SemOpen = refl
-codes op.SemClose = refl
-codes op.SemUnlink = refl
-codes op.SemPost = refl
-codes op.SemWait = refl
-codes op.SemTryWait = refl
-codes op.SemGetvalue = refl
-codes op.ListNames = refl
-codes op.StatName = refl
-codes op.Chmod = refl
-codes op.Chown = refl
-codes op.SetLimit = refl
-codes op.Interrupt = refl
-codes op.Audit = refl
+codes (op.Call asks.Umask) = refl
+codes (op.Call asks.MqOpen) = refl
+codes (op.Call asks.MqClose) = refl
+codes (op.Call asks.MqUnlink) = refl
+codes (op.Call asks.MqSend) = refl
+codes (op.Call asks.MqReceive) = refl
+codes (op.Call asks.MqGetattr) = refl
+codes (op.Call asks.MqSetattr) = refl
+codes (op.Call asks.MqNotify) = refl
+codes (op.Call asks.SemOpen) = refl
+codes (op.Call asks.SemClose) = refl
+codes (op.Call asks.SemUnlink) = refl
+codes (op.Call asks.SemPost) = refl
+codes (op.Call asks.SemWait) = refl
+codes (op.Call asks.SemTryWait) = refl
+codes (op.Call asks.SemGetvalue) = refl
+codes (op.Call asks.ListNames) = refl
+codes (op.Call asks.StatName) = refl
+codes (op.Call asks.Chmod) = refl
+codes (op.Call asks.Chown) = refl
+codes (op.Call asks.SetLimit) = refl
+codes (op.Call asks.Interrupt) = refl
+codes (op.Call asks.Audit) = refl
+
+call_kind : (b : ℕ) (o : RequestOp) (found : Option CallOp) → call_of_number b ≡ found → option_map op.Call found ≡ Some o → request_opcode o ≡ b
+unfolding call_of_number
+call_kind b o None is e = absurd cc
+call_kind b o (Some asked) is e = subst (λ (z : RequestOp). request_opcode z ≡ b) (some_is (op.Call asked) o e) (among_is call_number every_call b asked is)
+
+kind_at : (b : ℕ) (o : RequestOp) (hello : Bool) → eqb b hello_number ≡ hello → cond hello (Some op.Hello) (option_map op.Call (call_of_number b)) ≡ Some o → request_opcode o ≡ b
+kind_at b o true is e = subst (λ (z : RequestOp). request_opcode z ≡ b) (some_is op.Hello o e) (sym (eqb-true b hello_number is))
+kind_at b o false is e = call_kind b o (call_of_number b) refl e
 
 kinds : (b : ℕ) (o : RequestOp) → request_op b ≡ Some o → request_opcode o ≡ b
 unfolding request_op
-kinds b o e = among_is request_opcode request_opcodes b o e
+kinds b o e = kind_at b o (eqb b hello_number) refl e
 
 pub requests_exact : IsExactFormat requests
 requests_exact = record { takes = fields_take; again = fields_again; codes = codes; kinds = kinds }
-
--- ---- the numbers of the audit
-
-pub one_numbering : (c : Call) → request_opcode (op_of_request (request.Do c)) ≡ op_of c
-unfolding request_with
-one_numbering (call.Umask mask) = refl
-one_numbering (call.MqOpen asked) = refl
-one_numbering (call.MqClose desc) = refl
-one_numbering (call.MqUnlink name) = refl
-one_numbering (call.MqSend desc priority bytes) = refl
-one_numbering (call.MqReceive desc size) = refl
-one_numbering (call.MqGetattr desc) = refl
-one_numbering (call.MqSetattr desc nonblock) = refl
-one_numbering (call.MqNotify desc on) = refl
-one_numbering (call.SemOpen asked) = refl
-one_numbering (call.SemClose desc) = refl
-one_numbering (call.SemUnlink name) = refl
-one_numbering (call.SemPost desc) = refl
-one_numbering (call.SemWait desc) = refl
-one_numbering (call.SemTryWait desc) = refl
-one_numbering (call.SemGetvalue desc) = refl
-one_numbering (call.ListNames family start count) = refl
-one_numbering (call.StatName target) = refl
-one_numbering (call.Chmod mode target) = refl
-one_numbering (call.Chown owner group target) = refl
-one_numbering (call.SetLimit uid bytes) = refl
-one_numbering call.Interrupt = refl
-one_numbering (call.Audit start count) = refl
 
 -- ---- the first request, and the others
 

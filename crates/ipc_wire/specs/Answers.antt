@@ -1,6 +1,7 @@
 -- The table of answers: their opcodes, and the fields of each.
-use Rattle.std.specs.Prelude.{ℕ, List, [], ◌∷◌, Option, Result, Ok, Bool, true}
+use Rattle.std.specs.Prelude.{ℕ, List, Option, Result, Ok, Bool, true}
 use Rattle.ipc_terms.specs.Rules.{every_rule, number_of}
+use Rattle.ipc_terms.specs.Ops.{answer_number, answer_of_number, answer_op}
 use Rattle.ipc_terms.specs.declared.call.Answer.{Answer}
 use Rattle.ipc_terms.specs.declared.call.Answer.TheVariants as answer
 use Rattle.ipc_terms.specs.declared.facts.Facts.{Facts}
@@ -13,8 +14,8 @@ use Rattle.ipc_terms.specs.declared.rule.Rule.{Rule}
 use Rattle.ipc_fields.specs.declared.fault.WireFault.{WireFault}
 use Rattle.ipc_fields.specs.Field.{◌>>=◌, Field, Body, byte, u16, u32, u64, text, boolean, counted, coded, seen, ◌⊗◌, nothing, only, then_rest}
 use Rattle.ipc_fields.specs.Format.{Format, among, body_text, body_read}
-use Rattle.ipc_wire.specs.declared.opcodes.AnswerOp.{AnswerOp}
-use Rattle.ipc_wire.specs.declared.opcodes.AnswerOp.TheVariants as op
+use Rattle.ipc_terms.specs.declared.op.AnswerOp.{AnswerOp}
+use Rattle.ipc_terms.specs.declared.op.AnswerOp.TheVariants as op
 use Rattle.ipc_fields.specs.Terms.{sid_field, desc_field, uid_field, gid_field, mode_field, attributes_field}
 
 abbrev pub facts_of : Uid × (Gid × Mode) → Facts
@@ -42,56 +43,30 @@ rule_of n = among number_of every_rule n
 unfoldable pub rule_field : Field Rule
 rule_field = coded number_of (λ r. true) rule_of u16
 
-abbrev pub answer_opcode : AnswerOp → ℕ
-answer_opcode op.Started = 65
-answer_opcode op.Done = 66
-answer_opcode op.Opened = 67
-answer_opcode op.Mask = 68
-answer_opcode op.Attrs = 69
-answer_opcode op.Sent = 70
-answer_opcode op.Received = 71
-answer_opcode op.Value = 72
-answer_opcode op.Names = 73
-answer_opcode op.Stat = 74
-answer_opcode op.Records = 75
-answer_opcode op.Refused = 76
-answer_opcode op.Interrupted = 77
-answer_opcode op.Notice = 78
-
-abbrev pub answer_opcodes : List AnswerOp
-answer_opcodes = op.Started ∷ op.Done ∷ op.Opened ∷ op.Mask ∷ op.Attrs ∷ op.Sent ∷ op.Received ∷ op.Value ∷ op.Names ∷ op.Stat ∷ op.Records ∷ op.Refused ∷ op.Interrupted ∷ op.Notice ∷ []
-
--- the answer whose opcode is this byte
-unfoldable pub answer_op : ℕ → Option AnswerOp
-answer_op b = among answer_opcode answer_opcodes b
-
--- each answer's opcode, its fields and their values
-unfoldable pub answer_with : {R : Type 0} → ((A : Type 0) → AnswerOp → Body A → A → R) → Answer → R
-answer_with k (answer.Started sid) = k _ op.Started (only sid_field) sid
-answer_with k answer.Done = k _ op.Done nothing tt
-answer_with k (answer.Opened desc) = k _ op.Opened (only desc_field) desc
-answer_with k (answer.Mask mask) = k _ op.Mask (only mode_field) mask
-answer_with k (answer.Attrs nonblock attributes messages) = k _ op.Attrs (only (boolean ⊗ attributes_field ⊗ u32)) (nonblock, (attributes, messages))
-answer_with k answer.Sent = k _ op.Sent nothing tt
-answer_with k (answer.Received priority bytes) = k _ op.Received (then_rest u32) (priority, bytes)
-answer_with k (answer.Value value) = k _ op.Value (only u32) value
-answer_with k (answer.Names names) = k _ op.Names (only (counted text)) names
-answer_with k (answer.Stat facts) = k _ op.Stat (only facts_field) facts
-answer_with k (answer.Records lines) = k _ op.Records (only (counted line_field)) lines
-answer_with k (answer.Refused rule) = k _ op.Refused (only rule_field) rule
-answer_with k answer.Interrupted = k _ op.Interrupted nothing tt
-answer_with k (answer.Notice desc) = k _ op.Notice (only desc_field) desc
-
-abbrev pub op_of_answer : Answer → AnswerOp
-op_of_answer a = answer_with (λ A o b x. o) a
+-- each answer's fields and their values
+unfoldable pub answer_with : {R : Type 0} → ((A : Type 0) → Body A → A → R) → Answer → R
+answer_with k (answer.Started sid) = k _ (only sid_field) sid
+answer_with k answer.Done = k _ nothing tt
+answer_with k (answer.Opened desc) = k _ (only desc_field) desc
+answer_with k (answer.Mask mask) = k _ (only mode_field) mask
+answer_with k (answer.Attrs nonblock attributes messages) = k _ (only (boolean ⊗ attributes_field ⊗ u32)) (nonblock, (attributes, messages))
+answer_with k answer.Sent = k _ nothing tt
+answer_with k (answer.Received priority bytes) = k _ (then_rest u32) (priority, bytes)
+answer_with k (answer.Value value) = k _ (only u32) value
+answer_with k (answer.Names names) = k _ (only (counted text)) names
+answer_with k (answer.Stat facts) = k _ (only facts_field) facts
+answer_with k (answer.Records lines) = k _ (only (counted line_field)) lines
+answer_with k (answer.Refused rule) = k _ (only rule_field) rule
+answer_with k answer.Interrupted = k _ nothing tt
+answer_with k (answer.Notice desc) = k _ (only desc_field) desc
 
 -- what is spelled behind the opcode
 abbrev pub answer_fields : Answer → Option (List ℕ)
-answer_fields a = answer_with (λ A o b x. b.spell x) a
+answer_fields a = answer_with (λ A b x. b.spell x) a
 
 -- each number is within its type
 abbrev pub answer_fits : Answer → Bool
-answer_fits a = answer_with (λ A o b x. b.is_plain x) a
+answer_fits a = answer_with (λ A b x. b.is_plain x) a
 
 -- the answer that stands behind an opcode
 unfoldable pub answer_fields_at : AnswerOp → List ℕ → Result Answer WireFault
@@ -111,7 +86,7 @@ answer_fields_at op.Interrupted w = nothing.read w >>= λ u. Ok answer.Interrupt
 answer_fields_at op.Notice w = (only desc_field).read w >>= λ desc. Ok (answer.Notice desc)
 
 abbrev pub answers : Format AnswerOp Answer
-answers = record { opcode = answer_opcode; kind = answer_op; op_of = op_of_answer; fields = answer_fields; is_plain = answer_fits; read = answer_fields_at }
+answers = record { opcode = answer_number; kind = answer_of_number; op_of = answer_op; fields = answer_fields; is_plain = answer_fits; read = answer_fields_at }
 
 -- an opcode and the fields, in order
 unfoldable pub answer_body : Answer → Option (List ℕ)

@@ -1,5 +1,5 @@
 -- The table of requests: their opcodes, and the fields of each.
-use Rattle.std.specs.Prelude.{ℕ, List, [], ◌∷◌, Option, Result, Ok, Bool, true, false}
+use Rattle.std.specs.Prelude.{ℕ, ◌==◌, List, Option, Some, option_map, if◌then◌else◌, Result, Ok, Bool, true, false}
 use Rattle.ipc_terms.specs.declared.flags.OpenFlags.{OpenFlags}
 use Rattle.ipc_terms.specs.declared.ids.Mode.{Mode}
 use Rattle.ipc_terms.specs.declared.call.Access.{Access}
@@ -7,9 +7,11 @@ use Rattle.ipc_terms.specs.declared.call.Attributes.{Attributes}
 use Rattle.ipc_terms.specs.declared.call.QueueOpen.{QueueOpen}
 use Rattle.ipc_terms.specs.declared.call.SemaphoreOpen.{SemaphoreOpen}
 use Rattle.ipc_terms.specs.declared.call.Call.TheVariants as call
+use Rattle.ipc_terms.specs.declared.op.CallOp.TheVariants as asks
+use Rattle.ipc_terms.specs.Ops.{hello_number, call_number, call_of_number, call_op}
 use Rattle.ipc_fields.specs.declared.fault.WireFault.{WireFault}
 use Rattle.ipc_fields.specs.Field.{◌>>=◌, Field, Body, u16, u32, u64, text, boolean, optional, ◌⊗◌, seen, nothing, only, then_rest}
-use Rattle.ipc_fields.specs.Format.{Format, among, allowed, body_text, body_read}
+use Rattle.ipc_fields.specs.Format.{Format, allowed, body_text, body_read}
 use Rattle.ipc_wire.specs.declared.request.Request.{Request}
 use Rattle.ipc_wire.specs.declared.request.Request.TheVariants as request
 use Rattle.ipc_wire.specs.declared.opcodes.RequestOp.{RequestOp}
@@ -41,103 +43,80 @@ semaphore_open_parts o = (o.name, (o.flags, (o.mode, o.value)))
 unfoldable pub semaphore_open_field : Field SemaphoreOpen
 semaphore_open_field = seen semaphore_open_of semaphore_open_parts (text ⊗ flags_field semaphore_flags ⊗ mode_field ⊗ u32)
 
+-- the opcode of each request: the number of a hello, or of the call
 abbrev pub request_opcode : RequestOp → ℕ
-request_opcode op.Hello = 1
-request_opcode op.Umask = 2
-request_opcode op.MqOpen = 3
-request_opcode op.MqClose = 4
-request_opcode op.MqUnlink = 5
-request_opcode op.MqSend = 6
-request_opcode op.MqReceive = 7
-request_opcode op.MqGetattr = 8
-request_opcode op.MqSetattr = 9
-request_opcode op.MqNotify = 10
-request_opcode op.SemOpen = 11
-request_opcode op.SemClose = 12
-request_opcode op.SemUnlink = 13
-request_opcode op.SemPost = 14
-request_opcode op.SemWait = 15
-request_opcode op.SemTryWait = 16
-request_opcode op.SemGetvalue = 17
-request_opcode op.ListNames = 18
-request_opcode op.StatName = 19
-request_opcode op.Chmod = 20
-request_opcode op.Chown = 21
-request_opcode op.SetLimit = 22
-request_opcode op.Interrupt = 23
-request_opcode op.Audit = 24
-
-abbrev pub request_opcodes : List RequestOp
-request_opcodes = op.Hello ∷ op.Umask ∷ op.MqOpen ∷ op.MqClose ∷ op.MqUnlink ∷ op.MqSend ∷ op.MqReceive ∷ op.MqGetattr ∷ op.MqSetattr ∷ op.MqNotify ∷ op.SemOpen ∷ op.SemClose ∷ op.SemUnlink ∷ op.SemPost ∷ op.SemWait ∷ op.SemTryWait ∷ op.SemGetvalue ∷ op.ListNames ∷ op.StatName ∷ op.Chmod ∷ op.Chown ∷ op.SetLimit ∷ op.Interrupt ∷ op.Audit ∷ []
+request_opcode op.Hello = hello_number
+request_opcode (op.Call asked) = call_number asked
 
 -- the request whose opcode is this byte
 unfoldable pub request_op : ℕ → Option RequestOp
-request_op b = among request_opcode request_opcodes b
-
--- each request's opcode, its fields and their values
-unfoldable pub request_with : {R : Type 0} → ((A : Type 0) → RequestOp → Body A → A → R) → Request → R
-request_with k (request.Hello key) = k _ op.Hello (only text) key
-request_with k (request.Do (call.Umask mask)) = k _ op.Umask (only mode_field) mask
-request_with k (request.Do (call.MqOpen asked)) = k _ op.MqOpen (only queue_open_field) asked
-request_with k (request.Do (call.MqClose desc)) = k _ op.MqClose (only desc_field) desc
-request_with k (request.Do (call.MqUnlink name)) = k _ op.MqUnlink (only text) name
-request_with k (request.Do (call.MqSend desc priority bytes)) = k _ op.MqSend (then_rest (desc_field ⊗ u32)) ((desc, priority), bytes)
-request_with k (request.Do (call.MqReceive desc size)) = k _ op.MqReceive (only (desc_field ⊗ u32)) (desc, size)
-request_with k (request.Do (call.MqGetattr desc)) = k _ op.MqGetattr (only desc_field) desc
-request_with k (request.Do (call.MqSetattr desc nonblock)) = k _ op.MqSetattr (only (desc_field ⊗ boolean)) (desc, nonblock)
-request_with k (request.Do (call.MqNotify desc on)) = k _ op.MqNotify (only (desc_field ⊗ boolean)) (desc, on)
-request_with k (request.Do (call.SemOpen asked)) = k _ op.SemOpen (only semaphore_open_field) asked
-request_with k (request.Do (call.SemClose desc)) = k _ op.SemClose (only desc_field) desc
-request_with k (request.Do (call.SemUnlink name)) = k _ op.SemUnlink (only text) name
-request_with k (request.Do (call.SemPost desc)) = k _ op.SemPost (only desc_field) desc
-request_with k (request.Do (call.SemWait desc)) = k _ op.SemWait (only desc_field) desc
-request_with k (request.Do (call.SemTryWait desc)) = k _ op.SemTryWait (only desc_field) desc
-request_with k (request.Do (call.SemGetvalue desc)) = k _ op.SemGetvalue (only desc_field) desc
-request_with k (request.Do (call.ListNames family start count)) = k _ op.ListNames (only (family_field ⊗ u32 ⊗ u16)) (family, (start, count))
-request_with k (request.Do (call.StatName target)) = k _ op.StatName (only target_field) target
-request_with k (request.Do (call.Chmod mode target)) = k _ op.Chmod (only (mode_field ⊗ target_field)) (mode, target)
-request_with k (request.Do (call.Chown owner group target)) = k _ op.Chown (only (optional uid_field ⊗ optional gid_field ⊗ target_field)) (owner, (group, target))
-request_with k (request.Do (call.SetLimit uid bytes)) = k _ op.SetLimit (only (uid_field ⊗ u64)) (uid, bytes)
-request_with k (request.Do call.Interrupt) = k _ op.Interrupt nothing tt
-request_with k (request.Do (call.Audit start count)) = k _ op.Audit (only (u64 ⊗ u16)) (start, count)
+request_op b = if b == hello_number then Some op.Hello else option_map op.Call (call_of_number b)
 
 abbrev pub op_of_request : Request → RequestOp
-op_of_request q = request_with (λ A o b x. o) q
+op_of_request (request.Hello key) = op.Hello
+op_of_request (request.Do asked) = op.Call (call_op asked)
+
+-- each request's fields and their values
+unfoldable pub request_with : {R : Type 0} → ((A : Type 0) → Body A → A → R) → Request → R
+request_with k (request.Hello key) = k _ (only text) key
+request_with k (request.Do (call.Umask mask)) = k _ (only mode_field) mask
+request_with k (request.Do (call.MqOpen asked)) = k _ (only queue_open_field) asked
+request_with k (request.Do (call.MqClose desc)) = k _ (only desc_field) desc
+request_with k (request.Do (call.MqUnlink name)) = k _ (only text) name
+request_with k (request.Do (call.MqSend desc priority bytes)) = k _ (then_rest (desc_field ⊗ u32)) ((desc, priority), bytes)
+request_with k (request.Do (call.MqReceive desc size)) = k _ (only (desc_field ⊗ u32)) (desc, size)
+request_with k (request.Do (call.MqGetattr desc)) = k _ (only desc_field) desc
+request_with k (request.Do (call.MqSetattr desc nonblock)) = k _ (only (desc_field ⊗ boolean)) (desc, nonblock)
+request_with k (request.Do (call.MqNotify desc on)) = k _ (only (desc_field ⊗ boolean)) (desc, on)
+request_with k (request.Do (call.SemOpen asked)) = k _ (only semaphore_open_field) asked
+request_with k (request.Do (call.SemClose desc)) = k _ (only desc_field) desc
+request_with k (request.Do (call.SemUnlink name)) = k _ (only text) name
+request_with k (request.Do (call.SemPost desc)) = k _ (only desc_field) desc
+request_with k (request.Do (call.SemWait desc)) = k _ (only desc_field) desc
+request_with k (request.Do (call.SemTryWait desc)) = k _ (only desc_field) desc
+request_with k (request.Do (call.SemGetvalue desc)) = k _ (only desc_field) desc
+request_with k (request.Do (call.ListNames family start count)) = k _ (only (family_field ⊗ u32 ⊗ u16)) (family, (start, count))
+request_with k (request.Do (call.StatName target)) = k _ (only target_field) target
+request_with k (request.Do (call.Chmod mode target)) = k _ (only (mode_field ⊗ target_field)) (mode, target)
+request_with k (request.Do (call.Chown owner group target)) = k _ (only (optional uid_field ⊗ optional gid_field ⊗ target_field)) (owner, (group, target))
+request_with k (request.Do (call.SetLimit uid bytes)) = k _ (only (uid_field ⊗ u64)) (uid, bytes)
+request_with k (request.Do call.Interrupt) = k _ nothing tt
+request_with k (request.Do (call.Audit start count)) = k _ (only (u64 ⊗ u16)) (start, count)
 
 -- what is spelled behind the opcode
 abbrev pub request_fields : Request → Option (List ℕ)
-request_fields q = request_with (λ A o b x. b.spell x) q
+request_fields q = request_with (λ A b x. b.spell x) q
 
 -- each number is within its type, and no flag is set that means nothing
 abbrev pub is_plain : Request → Bool
-is_plain q = request_with (λ A o b x. b.is_plain x) q
+is_plain q = request_with (λ A b x. b.is_plain x) q
 
 -- the request that stands behind an opcode
 unfoldable pub fields_at : RequestOp → List ℕ → Result Request WireFault
 fields_at op.Hello w = (only text).read w >>= λ key. Ok (request.Hello key)
-fields_at op.Umask w = (only mode_field).read w >>= λ mask. Ok (request.Do (call.Umask mask))
-fields_at op.MqOpen w = (only queue_open_field).read w >>= λ asked. Ok (request.Do (call.MqOpen asked))
-fields_at op.MqClose w = (only desc_field).read w >>= λ desc. Ok (request.Do (call.MqClose desc))
-fields_at op.MqUnlink w = (only text).read w >>= λ name. Ok (request.Do (call.MqUnlink name))
-fields_at op.MqSend w = (then_rest (desc_field ⊗ u32)).read w >>= λ x. Ok (request.Do (call.MqSend x.0.0 x.0.1 x.1))
-fields_at op.MqReceive w = (only (desc_field ⊗ u32)).read w >>= λ x. Ok (request.Do (call.MqReceive x.0 x.1))
-fields_at op.MqGetattr w = (only desc_field).read w >>= λ desc. Ok (request.Do (call.MqGetattr desc))
-fields_at op.MqSetattr w = (only (desc_field ⊗ boolean)).read w >>= λ x. Ok (request.Do (call.MqSetattr x.0 x.1))
-fields_at op.MqNotify w = (only (desc_field ⊗ boolean)).read w >>= λ x. Ok (request.Do (call.MqNotify x.0 x.1))
-fields_at op.SemOpen w = (only semaphore_open_field).read w >>= λ asked. Ok (request.Do (call.SemOpen asked))
-fields_at op.SemClose w = (only desc_field).read w >>= λ desc. Ok (request.Do (call.SemClose desc))
-fields_at op.SemUnlink w = (only text).read w >>= λ name. Ok (request.Do (call.SemUnlink name))
-fields_at op.SemPost w = (only desc_field).read w >>= λ desc. Ok (request.Do (call.SemPost desc))
-fields_at op.SemWait w = (only desc_field).read w >>= λ desc. Ok (request.Do (call.SemWait desc))
-fields_at op.SemTryWait w = (only desc_field).read w >>= λ desc. Ok (request.Do (call.SemTryWait desc))
-fields_at op.SemGetvalue w = (only desc_field).read w >>= λ desc. Ok (request.Do (call.SemGetvalue desc))
-fields_at op.ListNames w = (only (family_field ⊗ u32 ⊗ u16)).read w >>= λ x. Ok (request.Do (call.ListNames x.0 x.1.0 x.1.1))
-fields_at op.StatName w = (only target_field).read w >>= λ target. Ok (request.Do (call.StatName target))
-fields_at op.Chmod w = (only (mode_field ⊗ target_field)).read w >>= λ x. Ok (request.Do (call.Chmod x.0 x.1))
-fields_at op.Chown w = (only (optional uid_field ⊗ optional gid_field ⊗ target_field)).read w >>= λ x. Ok (request.Do (call.Chown x.0 x.1.0 x.1.1))
-fields_at op.SetLimit w = (only (uid_field ⊗ u64)).read w >>= λ x. Ok (request.Do (call.SetLimit x.0 x.1))
-fields_at op.Interrupt w = nothing.read w >>= λ u. Ok (request.Do call.Interrupt)
-fields_at op.Audit w = (only (u64 ⊗ u16)).read w >>= λ x. Ok (request.Do (call.Audit x.0 x.1))
+fields_at (op.Call asks.Umask) w = (only mode_field).read w >>= λ mask. Ok (request.Do (call.Umask mask))
+fields_at (op.Call asks.MqOpen) w = (only queue_open_field).read w >>= λ asked. Ok (request.Do (call.MqOpen asked))
+fields_at (op.Call asks.MqClose) w = (only desc_field).read w >>= λ desc. Ok (request.Do (call.MqClose desc))
+fields_at (op.Call asks.MqUnlink) w = (only text).read w >>= λ name. Ok (request.Do (call.MqUnlink name))
+fields_at (op.Call asks.MqSend) w = (then_rest (desc_field ⊗ u32)).read w >>= λ x. Ok (request.Do (call.MqSend x.0.0 x.0.1 x.1))
+fields_at (op.Call asks.MqReceive) w = (only (desc_field ⊗ u32)).read w >>= λ x. Ok (request.Do (call.MqReceive x.0 x.1))
+fields_at (op.Call asks.MqGetattr) w = (only desc_field).read w >>= λ desc. Ok (request.Do (call.MqGetattr desc))
+fields_at (op.Call asks.MqSetattr) w = (only (desc_field ⊗ boolean)).read w >>= λ x. Ok (request.Do (call.MqSetattr x.0 x.1))
+fields_at (op.Call asks.MqNotify) w = (only (desc_field ⊗ boolean)).read w >>= λ x. Ok (request.Do (call.MqNotify x.0 x.1))
+fields_at (op.Call asks.SemOpen) w = (only semaphore_open_field).read w >>= λ asked. Ok (request.Do (call.SemOpen asked))
+fields_at (op.Call asks.SemClose) w = (only desc_field).read w >>= λ desc. Ok (request.Do (call.SemClose desc))
+fields_at (op.Call asks.SemUnlink) w = (only text).read w >>= λ name. Ok (request.Do (call.SemUnlink name))
+fields_at (op.Call asks.SemPost) w = (only desc_field).read w >>= λ desc. Ok (request.Do (call.SemPost desc))
+fields_at (op.Call asks.SemWait) w = (only desc_field).read w >>= λ desc. Ok (request.Do (call.SemWait desc))
+fields_at (op.Call asks.SemTryWait) w = (only desc_field).read w >>= λ desc. Ok (request.Do (call.SemTryWait desc))
+fields_at (op.Call asks.SemGetvalue) w = (only desc_field).read w >>= λ desc. Ok (request.Do (call.SemGetvalue desc))
+fields_at (op.Call asks.ListNames) w = (only (family_field ⊗ u32 ⊗ u16)).read w >>= λ x. Ok (request.Do (call.ListNames x.0 x.1.0 x.1.1))
+fields_at (op.Call asks.StatName) w = (only target_field).read w >>= λ target. Ok (request.Do (call.StatName target))
+fields_at (op.Call asks.Chmod) w = (only (mode_field ⊗ target_field)).read w >>= λ x. Ok (request.Do (call.Chmod x.0 x.1))
+fields_at (op.Call asks.Chown) w = (only (optional uid_field ⊗ optional gid_field ⊗ target_field)).read w >>= λ x. Ok (request.Do (call.Chown x.0 x.1.0 x.1.1))
+fields_at (op.Call asks.SetLimit) w = (only (uid_field ⊗ u64)).read w >>= λ x. Ok (request.Do (call.SetLimit x.0 x.1))
+fields_at (op.Call asks.Interrupt) w = nothing.read w >>= λ u. Ok (request.Do call.Interrupt)
+fields_at (op.Call asks.Audit) w = (only (u64 ⊗ u16)).read w >>= λ x. Ok (request.Do (call.Audit x.0 x.1))
 
 abbrev pub requests : Format RequestOp Request
 requests = record { opcode = request_opcode; kind = request_op; op_of = op_of_request; fields = request_fields; is_plain = is_plain; read = fields_at }

@@ -6,16 +6,15 @@ ghost use Rattle.ipc_fields.specs.Given.{Gives};
 ghost use Rattle.ipc_fields.specs.Terms.{sid_field, desc_field, mode_field};
 ghost use Rattle.ipc_wire.specs.Answers.{facts_field, line_field, rule_of, rule_field, answer_fields_at, answer_at};
 ghost use Rattle.ipc_wire.specs.Streams.{answer_front};
-ghost use Rattle.ipc_wire.specs.declared.opcodes.AnswerOp.TheVariants as op;
+ghost use Rattle.ipc_terms.specs.declared.op.AnswerOp.TheVariants as op;
 
-use crate::opcodes::AnswerOp;
 use crate::request_reading::only_description;
 use ipc_fields::{
     ReadFault, WireFault, alone, attributes_at, body_of, bool_at, name_of, text_at, u8_at, u16_at,
     u32_at, u64_at,
 };
 use ipc_terms::{
-    Answer, Bytes, EVERY_RULE, Facts, Gid, Line, Lines, Mode, Name, Names, Rule, Sid, Uid,
+    Answer, AnswerOp, Bytes, EVERY_RULE, Facts, Gid, Line, Lines, Mode, Name, Names, Rule, Sid, Uid,
 };
 use std::alloc::Global;
 
@@ -196,7 +195,7 @@ fn answer_of(alloc: Global, body: &[u8]) -> Result<Answer, ReadFault>
 {
     match body {
         [] => Err(ReadFault::Wire(WireFault::Empty)),
-        [byte, rest @ ..] => match AnswerOp::from_byte(*byte) {
+        [byte, rest @ ..] => match AnswerOp::of_number(*byte) {
             None => Err(ReadFault::Wire(WireFault::BadOpcode)),
             Some(op) => fields_of(alloc, op, rest),
         },

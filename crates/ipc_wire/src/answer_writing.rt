@@ -4,10 +4,9 @@ ghost use Rattle.std.specs.Prelude.{◌≡◌, List, length, Some, None, IfOk, I
 ghost use Rattle.ipc_fields.specs.Field.{◌⊗◌, u32, text, boolean, counted, all_spelled, only, then_rest};
 ghost use Rattle.ipc_fields.specs.Given.{Puts};
 ghost use Rattle.ipc_fields.specs.Terms.{attributes_field};
-ghost use Rattle.ipc_wire.specs.Answers.{facts_field, line_field, op_of_answer, answer_fields, answer_body};
+ghost use Rattle.ipc_wire.specs.Answers.{facts_field, line_field, answer_fields, answer_body};
 ghost use Rattle.ipc_wire.specs.Streams.{spell_answer};
 
-use crate::opcodes::AnswerOp;
 use ipc_fields::{
     WriteFault, framed, put_attributes, put_bool, put_text, put_u16, put_u32, put_u64,
 };
@@ -100,28 +99,6 @@ fn put_facts(out: &mut Vec<u8>, facts: &Facts) -> Result<(), WriteFault>
     put_u16(out, facts.mode.0)
 }
 
-#[tactic(auto, unfolding(crate::specs::Answers::answer_with))]
-fn op_of(answer: &Answer) -> AnswerOp
-    ensures { result ≡ op_of_answer answer.now }
-{
-    match answer {
-        Answer::Started(..) => AnswerOp::Started,
-        Answer::Done => AnswerOp::Done,
-        Answer::Opened(..) => AnswerOp::Opened,
-        Answer::Mask(..) => AnswerOp::Mask,
-        Answer::Attrs { .. } => AnswerOp::Attrs,
-        Answer::Sent => AnswerOp::Sent,
-        Answer::Received { .. } => AnswerOp::Received,
-        Answer::Value(..) => AnswerOp::Value,
-        Answer::Names(..) => AnswerOp::Names,
-        Answer::Stat(..) => AnswerOp::Stat,
-        Answer::Records(..) => AnswerOp::Records,
-        Answer::Refused(..) => AnswerOp::Refused,
-        Answer::Interrupted => AnswerOp::Interrupted,
-        Answer::Notice(..) => AnswerOp::Notice,
-    }
-}
-
 #[tactic(auto, using(ipc_fields::proofs::Joins::joins), unfolding(crate::specs::Answers::answer_with, crate::specs::Answers::rule_field))]
 fn put_fields(out: &mut Vec<u8>, answer: &Answer) -> Result<(), WriteFault>
     ensures { Puts out.old.items out.new.items result (answer_fields answer.now) }
@@ -149,7 +126,7 @@ fn put_fields(out: &mut Vec<u8>, answer: &Answer) -> Result<(), WriteFault>
 fn put_answer(out: &mut Vec<u8>, answer: &Answer) -> Result<(), WriteFault>
     ensures { Puts out.old.items out.new.items result (answer_body answer.now) }
 {
-    out.push(op_of(answer).byte())?;
+    out.push(answer.op().number())?;
     put_fields(out, answer)
 }
 

@@ -1,13 +1,10 @@
 //! Laws of the frames. The functions do nothing when they run: what they ensure is what is proved.
 
 ghost use Rattle.std.specs.Prelude.{◌≡◌, ℕ, ◌<◌, ◌++◌, List, [], Bool, true, Some, Ok, Err, IsTrue, slice_index};
-ghost use Rattle.ipc_terms.specs.Lines.{op_of};
 ghost use Rattle.ipc_terms.specs.declared.call.Answer.{Answer};
-ghost use Rattle.ipc_terms.specs.declared.call.Call.{Call};
 ghost use Rattle.ipc_fields.specs.declared.fault.WireFault.{WireFault};
 ghost use Rattle.ipc_wire.specs.declared.request.Request.{Request};
-ghost use Rattle.ipc_wire.specs.declared.request.Request.TheVariants as request;
-ghost use Rattle.ipc_wire.specs.Requests.{request_opcode, op_of_request, plain, fits, is_hello_request};
+ghost use Rattle.ipc_wire.specs.Requests.{plain, fits, is_hello_request};
 ghost use Rattle.ipc_wire.specs.Answers.{answer_fits};
 ghost use Rattle.ipc_wire.specs.Streams.{spell, front, cut, after, still_first, IsSpelledBy, IsAnswerSpelledBy, IsSpelling, spell_answer, answer_front, is_in_order};
 
@@ -75,9 +72,4 @@ pub fn fault_stays()
 pub fn none_spelled_at_a_fault()
     ensures { (w more text rest : List ℕ) (fault : WireFault) (q : Request) → front (is_hello_request q) w ≡ Err fault →
         IsTrue (fits q) → spell q ≡ Some text → w ++ more ≡ text ++ rest → ⊥ }
-{}
-
-/// Each call's opcode is its number in the audit.
-pub fn one_numbering()
-    ensures { (call : Call) → request_opcode (op_of_request (request.Do call)) ≡ op_of call }
 {}

@@ -5,6 +5,7 @@ ghost use Rattle.ipc_fields.specs.Field.{text, only};
 ghost use Rattle.ipc_fields.specs.Given.{Gives};
 ghost use Rattle.ipc_fields.specs.Terms.{desc_field, target_field};
 ghost use Rattle.ipc_wire.specs.Requests.{queue_open_field, semaphore_open_field, fields_at, opcode_at, request_at};
+ghost use Rattle.ipc_terms.specs.declared.op.CallOp.TheVariants as asks;
 ghost use Rattle.ipc_wire.specs.declared.opcodes.RequestOp.TheVariants as op;
 
 use crate::opcodes::RequestOp;
@@ -14,7 +15,7 @@ use ipc_fields::{
     optional_attributes_at, optional_gid_at, optional_uid_at, target_at, text_at, u16_at, u32_at,
     u64_at,
 };
-use ipc_terms::{Bytes, Call, Desc, Mode, Name, QueueOpen, SemaphoreOpen, Target, Uid};
+use ipc_terms::{Bytes, Call, CallOp, Desc, Mode, Name, QueueOpen, SemaphoreOpen, Target, Uid};
 use std::alloc::Global;
 
 /// The flags of a queue's open: `CREATE`, `EXCLUSIVE` and `NONBLOCK`.
@@ -52,7 +53,7 @@ fn only_target(alloc: Global, bytes: &[u8]) -> Result<Target, ReadFault>
 
 #[tactic(auto, unfolding(crate::specs::Requests::fields_at))]
 fn umask_at(bytes: &[u8]) -> Result<Request, ReadFault>
-    ensures { Gives (λ x. x) result (fields_at op.Umask bytes.now) }
+    ensures { Gives (λ x. x) result (fields_at (op.Call asks.Umask) bytes.now) }
 {
     let (mask, rest) = u16_at(bytes)?;
     alone(Request::Do(Call::Umask(Mode(mask))), rest)
@@ -96,7 +97,7 @@ fn semaphore_open_at(alloc: Global, bytes: &[u8]) -> Result<SemaphoreOpen, ReadF
 
 #[tactic(auto, unfolding(crate::specs::Requests::fields_at))]
 fn send_at(alloc: Global, bytes: &[u8]) -> Result<Request, ReadFault>
-    ensures { Gives (λ x. x) result (fields_at op.MqSend bytes.now) }
+    ensures { Gives (λ x. x) result (fields_at (op.Call asks.MqSend) bytes.now) }
 {
     let (desc, rest) = u64_at(bytes)?;
     let (priority, rest) = u32_at(rest)?;
@@ -109,7 +110,7 @@ fn send_at(alloc: Global, bytes: &[u8]) -> Result<Request, ReadFault>
 
 #[tactic(auto, unfolding(crate::specs::Requests::fields_at))]
 fn receive_at(bytes: &[u8]) -> Result<Request, ReadFault>
-    ensures { Gives (λ x. x) result (fields_at op.MqReceive bytes.now) }
+    ensures { Gives (λ x. x) result (fields_at (op.Call asks.MqReceive) bytes.now) }
 {
     let (desc, rest) = u64_at(bytes)?;
     let (length, rest) = u32_at(rest)?;
@@ -122,7 +123,7 @@ fn receive_at(bytes: &[u8]) -> Result<Request, ReadFault>
 
 #[tactic(auto, unfolding(crate::specs::Requests::fields_at))]
 fn setattr_at(bytes: &[u8]) -> Result<Request, ReadFault>
-    ensures { Gives (λ x. x) result (fields_at op.MqSetattr bytes.now) }
+    ensures { Gives (λ x. x) result (fields_at (op.Call asks.MqSetattr) bytes.now) }
 {
     let (desc, rest) = u64_at(bytes)?;
     let (nonblock, rest) = bool_at(rest)?;
@@ -135,7 +136,7 @@ fn setattr_at(bytes: &[u8]) -> Result<Request, ReadFault>
 
 #[tactic(auto, unfolding(crate::specs::Requests::fields_at))]
 fn notify_at(bytes: &[u8]) -> Result<Request, ReadFault>
-    ensures { Gives (λ x. x) result (fields_at op.MqNotify bytes.now) }
+    ensures { Gives (λ x. x) result (fields_at (op.Call asks.MqNotify) bytes.now) }
 {
     let (desc, rest) = u64_at(bytes)?;
     let (on, rest) = bool_at(rest)?;
@@ -148,7 +149,7 @@ fn notify_at(bytes: &[u8]) -> Result<Request, ReadFault>
 
 #[tactic(auto, unfolding(crate::specs::Requests::fields_at))]
 fn list_names_at(bytes: &[u8]) -> Result<Request, ReadFault>
-    ensures { Gives (λ x. x) result (fields_at op.ListNames bytes.now) }
+    ensures { Gives (λ x. x) result (fields_at (op.Call asks.ListNames) bytes.now) }
 {
     let (family, rest) = family_at(bytes)?;
     let (start, rest) = u32_at(rest)?;
@@ -163,7 +164,7 @@ fn list_names_at(bytes: &[u8]) -> Result<Request, ReadFault>
 
 #[tactic(auto, unfolding(crate::specs::Requests::fields_at))]
 fn chmod_at(alloc: Global, bytes: &[u8]) -> Result<Request, ReadFault>
-    ensures { Gives (λ x. x) result (fields_at op.Chmod bytes.now) }
+    ensures { Gives (λ x. x) result (fields_at (op.Call asks.Chmod) bytes.now) }
 {
     let (mode, rest) = u16_at(bytes)?;
     let target = only_target(alloc, rest)?;
@@ -175,7 +176,7 @@ fn chmod_at(alloc: Global, bytes: &[u8]) -> Result<Request, ReadFault>
 
 #[tactic(auto, unfolding(crate::specs::Requests::fields_at))]
 fn chown_at(alloc: Global, bytes: &[u8]) -> Result<Request, ReadFault>
-    ensures { Gives (λ x. x) result (fields_at op.Chown bytes.now) }
+    ensures { Gives (λ x. x) result (fields_at (op.Call asks.Chown) bytes.now) }
 {
     let (owner, rest) = optional_uid_at(bytes)?;
     let (group, rest) = optional_gid_at(rest)?;
@@ -189,7 +190,7 @@ fn chown_at(alloc: Global, bytes: &[u8]) -> Result<Request, ReadFault>
 
 #[tactic(auto, unfolding(crate::specs::Requests::fields_at))]
 fn set_limit_at(bytes: &[u8]) -> Result<Request, ReadFault>
-    ensures { Gives (λ x. x) result (fields_at op.SetLimit bytes.now) }
+    ensures { Gives (λ x. x) result (fields_at (op.Call asks.SetLimit) bytes.now) }
 {
     let (uid, rest) = u32_at(bytes)?;
     let (limit, rest) = u64_at(rest)?;
@@ -202,14 +203,14 @@ fn set_limit_at(bytes: &[u8]) -> Result<Request, ReadFault>
 
 #[tactic(auto, unfolding(crate::specs::Requests::fields_at))]
 fn interrupt_at(bytes: &[u8]) -> Result<Request, ReadFault>
-    ensures { Gives (λ x. x) result (fields_at op.Interrupt bytes.now) }
+    ensures { Gives (λ x. x) result (fields_at (op.Call asks.Interrupt) bytes.now) }
 {
     alone(Request::Do(Call::Interrupt), bytes)
 }
 
 #[tactic(auto, unfolding(crate::specs::Requests::fields_at))]
 fn audit_at(bytes: &[u8]) -> Result<Request, ReadFault>
-    ensures { Gives (λ x. x) result (fields_at op.Audit bytes.now) }
+    ensures { Gives (λ x. x) result (fields_at (op.Call asks.Audit) bytes.now) }
 {
     let (start, rest) = u64_at(bytes)?;
     let (count, rest) = u16_at(rest)?;
@@ -222,31 +223,34 @@ fn audit_at(bytes: &[u8]) -> Result<Request, ReadFault>
 fn fields_of(alloc: Global, op: RequestOp, bytes: &[u8]) -> Result<Request, ReadFault>
     ensures { Gives (λ x. x) result (fields_at op bytes.now) }
 {
-    match op {
-        RequestOp::Hello => Ok(Request::Hello(only_text(alloc, bytes)?)),
-        RequestOp::Umask => umask_at(bytes),
-        RequestOp::MqOpen => Ok(Request::Do(Call::MqOpen(queue_open_at(alloc, bytes)?))),
-        RequestOp::MqClose => Ok(Request::Do(Call::MqClose(only_description(bytes)?))),
-        RequestOp::MqUnlink => Ok(Request::Do(Call::MqUnlink(only_name(alloc, bytes)?))),
-        RequestOp::MqSend => send_at(alloc, bytes),
-        RequestOp::MqReceive => receive_at(bytes),
-        RequestOp::MqGetattr => Ok(Request::Do(Call::MqGetattr(only_description(bytes)?))),
-        RequestOp::MqSetattr => setattr_at(bytes),
-        RequestOp::MqNotify => notify_at(bytes),
-        RequestOp::SemOpen => Ok(Request::Do(Call::SemOpen(semaphore_open_at(alloc, bytes)?))),
-        RequestOp::SemClose => Ok(Request::Do(Call::SemClose(only_description(bytes)?))),
-        RequestOp::SemUnlink => Ok(Request::Do(Call::SemUnlink(only_name(alloc, bytes)?))),
-        RequestOp::SemPost => Ok(Request::Do(Call::SemPost(only_description(bytes)?))),
-        RequestOp::SemWait => Ok(Request::Do(Call::SemWait(only_description(bytes)?))),
-        RequestOp::SemTryWait => Ok(Request::Do(Call::SemTryWait(only_description(bytes)?))),
-        RequestOp::SemGetvalue => Ok(Request::Do(Call::SemGetvalue(only_description(bytes)?))),
-        RequestOp::ListNames => list_names_at(bytes),
-        RequestOp::StatName => Ok(Request::Do(Call::StatName(only_target(alloc, bytes)?))),
-        RequestOp::Chmod => chmod_at(alloc, bytes),
-        RequestOp::Chown => chown_at(alloc, bytes),
-        RequestOp::SetLimit => set_limit_at(bytes),
-        RequestOp::Interrupt => interrupt_at(bytes),
-        RequestOp::Audit => audit_at(bytes),
+    let asked = match op {
+        RequestOp::Hello => return Ok(Request::Hello(only_text(alloc, bytes)?)),
+        RequestOp::Call(asked) => asked,
+    };
+    match asked {
+        CallOp::Umask => umask_at(bytes),
+        CallOp::MqOpen => Ok(Request::Do(Call::MqOpen(queue_open_at(alloc, bytes)?))),
+        CallOp::MqClose => Ok(Request::Do(Call::MqClose(only_description(bytes)?))),
+        CallOp::MqUnlink => Ok(Request::Do(Call::MqUnlink(only_name(alloc, bytes)?))),
+        CallOp::MqSend => send_at(alloc, bytes),
+        CallOp::MqReceive => receive_at(bytes),
+        CallOp::MqGetattr => Ok(Request::Do(Call::MqGetattr(only_description(bytes)?))),
+        CallOp::MqSetattr => setattr_at(bytes),
+        CallOp::MqNotify => notify_at(bytes),
+        CallOp::SemOpen => Ok(Request::Do(Call::SemOpen(semaphore_open_at(alloc, bytes)?))),
+        CallOp::SemClose => Ok(Request::Do(Call::SemClose(only_description(bytes)?))),
+        CallOp::SemUnlink => Ok(Request::Do(Call::SemUnlink(only_name(alloc, bytes)?))),
+        CallOp::SemPost => Ok(Request::Do(Call::SemPost(only_description(bytes)?))),
+        CallOp::SemWait => Ok(Request::Do(Call::SemWait(only_description(bytes)?))),
+        CallOp::SemTryWait => Ok(Request::Do(Call::SemTryWait(only_description(bytes)?))),
+        CallOp::SemGetvalue => Ok(Request::Do(Call::SemGetvalue(only_description(bytes)?))),
+        CallOp::ListNames => list_names_at(bytes),
+        CallOp::StatName => Ok(Request::Do(Call::StatName(only_target(alloc, bytes)?))),
+        CallOp::Chmod => chmod_at(alloc, bytes),
+        CallOp::Chown => chown_at(alloc, bytes),
+        CallOp::SetLimit => set_limit_at(bytes),
+        CallOp::Interrupt => interrupt_at(bytes),
+        CallOp::Audit => audit_at(bytes),
     }
 }
 
