@@ -11,8 +11,13 @@ use ipc_terms::NoMemory;
 use std::alloc::Global;
 use std::marker::Model;
 
-/// The request in front, as soon as its frame is whole, and what follows it.
-fn front_of(alloc: Global, first: bool, bytes: &[u8]) -> Result<Option<(Request, &[u8])>, ReadFault>
+/// The request in front, as soon as its frame is whole, and what follows it. The first request of a stream
+/// is a hello, and no other is.
+pub fn read_request(
+    alloc: Global,
+    first: bool,
+    bytes: &[u8],
+) -> Result<Option<(Request, &[u8])>, ReadFault>
     ensures { Gives (option_map (λ x. (x.0, x.1.now))) result (front first bytes.now) }
 {
     match body_of(bytes)? {
@@ -35,7 +40,7 @@ fn cut_of(
     let mut requests = Vec::new(alloc);
     let mut rest = bytes;
     'frames: loop {
-        match front_of(alloc, first, rest) {
+        match read_request(alloc, first, rest) {
             Ok(Some((request, after))) => {
                 requests.push(request)?;
                 first = false;
