@@ -1,10 +1,15 @@
 -- Frames are spelled and read alike, and no frame begins another.
-use Rattle.std.proofs.Common.{◌≡◌, ℕ, ◌<◌, ◌≤◌, Bool, true, false, cond, leb, List, [], ◌++◌, length, take, drop, Option, Some, None, Ok, refl, sym, ap, subst, ◌∙◌, append_assoc, arith}
+use Rattle.std.proofs.Common.{◌≡◌, ℕ, ◌+◌, ◌<◌, ◌≤◌, Bool, true, false, cond, leb, List, [], ◌++◌, length, take, drop, Option, Some, None, Result, Ok, refl, sym, ap, subst, ◌∙◌, append_assoc, arith}
 use Rattle.std.specs.Int.{w32, to_be_bytes, from_be_bytes}
 use Rattle.std.proofs.lemmas.Bool.{ltb-false, le-ltb, leb-true, le-leb, ne_eqb}
 use Rattle.std.proofs.lemmas.List.{take_at, drop_at, take-append-drop, length-append, length-take, nil_from_length}
+use Rattle.ipc_fields.specs.declared.fault.WriteFault.{WriteFault}
+use Rattle.ipc_fields.specs.declared.fault.WriteFault.TheVariants as writing
+use Rattle.ipc_fields.specs.Field.{◌⊕◌, u32}
+use Rattle.ipc_fields.specs.Given.{Begins, Lacks, Puts}
 use Rattle.ipc_fields.specs.Frame.{max_body, frame, framed, body_of, body_at}
-use Rattle.ipc_fields.proofs.FieldLemmas.{IsBytes, IsBytes-take, IsBytes-drop, wide32}
+use Rattle.ipc_fields.proofs.FieldLemmas.{some_is, join_some, IsBytes, IsBytes-take, IsBytes-drop, wide32}
+use Rattle.ipc_fields.proofs.Beginning.{begun}
 use Rattle.ipc_fields.proofs.FrontLemmas.{at_header, body_of_is, body_at_some}
 
 -- a frame's text is that of a body of this length
@@ -66,3 +71,40 @@ no_frame_begins a b s t x y =
     let b-is = wide32.again (length b) (omega (arith, y.small)) in
     let lengths : length a ≡ length b = sym a-is ∙ ap (from_be_bytes w32) heads ∙ b-is in
     nil_from_length t (omega (arith, lengths, length-append (frame a) t, length-append head_a a, length-append head_b b, long))
+
+-- ---- a frame that is put behind what stands in a buffer: room for its length, its body, and then its length
+
+pub frame_put : {X : Type 0} (old empty full new : List ℕ) (start : ℕ) (body : Option (List ℕ)) (result : Result X WriteFault) → start ≡ length old → (Some old ⊕ u32.spell 0) ≡ Some empty → (Some empty ⊕ body) ≡ Some full
+    → Puts (take start full) new result (framed (Some (drop (start + 4) full))) → Puts old new result (framed body)
+frame_put old empty full new start body result begins room put closed =
+    let head : List ℕ = to_be_bytes w32 0 in
+    let empty_is : old ++ head ≡ empty = some_is _ _ room in
+    let j = join_some (Some empty) body full put in
+    let parts : full ≡ empty ++ j.1 = j.4 ∙ ap (λ (x : List ℕ). x ++ j.1) (sym (some_is _ _ j.2)) in
+    let whole : full ≡ old ++ (head ++ j.1) = parts ∙ ap (λ (x : List ℕ). x ++ j.1) (sym empty_is) ∙ append_assoc old head j.1 in
+    let before : take start full ≡ old = ap (take start) whole ∙ take_at old (head ++ j.1) start (sym begins) in
+    let len : length empty ≡ start + 4 = ap length (sym empty_is) ∙ length-append old head ∙ ap (λ (n : ℕ). n + 4) (sym begins) in
+    let behind : drop (start + 4) full ≡ j.1 = ap (drop (start + 4)) parts ∙ drop_at empty j.1 (start + 4) len in
+    subst (λ (o : List ℕ). Puts o new result (framed body)) before (subst (λ (t : Option (List ℕ)). Puts (take start full) new result (framed t)) (ap (λ (x : List ℕ). Some x) behind ∙ sym j.3) closed)
+
+pub frame_lacks : (e : WriteFault) (body : Option (List ℕ)) → Lacks e body → Lacks e (framed body)
+unfolding framed
+frame_lacks writing.NoMemory body lacks = tt
+frame_lacks writing.TooLong body lacks = ap framed lacks
+
+pub frame_begins : (old full new : List ℕ) (start : ℕ) → start ≡ length old → Begins old full → Begins (take start full) new → Begins old new
+frame_begins old full new start is before behind = subst (λ (o : List ℕ). Begins o new) (begun start (sym is) before) behind
+
+-- there is room for the length
+pub frame_room : (old empty full : List ℕ) (start : ℕ) → start ≡ length old → (Some old ⊕ u32.spell 0) ≡ Some empty → Begins empty full → start + 4 ≤ length full
+frame_room old empty full start is room behind =
+    let head : List ℕ = to_be_bytes w32 0 in
+    let empty_is : old ++ head ≡ empty = some_is _ _ room in
+    omega (arith, is, ap length (sym empty_is) ∙ length-append old head, ap length behind.parts ∙ length-append empty behind.more)
+
+-- what is put into an empty buffer is all
+pub put_first : (old new : List ℕ) (text : Option (List ℕ)) → old ≡ [] → (Some old ⊕ text) ≡ Some new → text ≡ Some new
+put_first old new text none put =
+    let j = join_some (Some old) text new put in
+    let front : j.0 ≡ [] = sym (some_is _ _ j.2) ∙ none in
+    j.3 ∙ ap (λ (x : List ℕ). Some x) (sym (j.4 ∙ ap (λ (x : List ℕ). x ++ j.1) front))

@@ -1,3 +1,4 @@
+pub mod Beginning
 pub mod FrontLemmas
 pub mod FieldLemmas
 pub mod FramingLemmas

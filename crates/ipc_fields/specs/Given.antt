@@ -1,6 +1,5 @@
 -- What functions give that may run out of memory.
-use Rattle.std.specs.Prelude.{◌≡◌, ℕ, List, Option, Some, None, Result, Ok, Err}
-use Rattle.std.specs.Global.{Vec}
+use Rattle.std.specs.Prelude.{◌≡◌, ℕ, List, ◌++◌, Option, Some, None, Result, Ok, Err}
 use Rattle.ipc_fields.specs.declared.fault.WireFault.{WireFault}
 use Rattle.ipc_fields.specs.declared.fault.ReadFault.{ReadFault}
 use Rattle.ipc_fields.specs.declared.fault.ReadFault.TheVariants as reading
@@ -17,6 +16,11 @@ abbrev pub Gives : {X Y : Type 0} → (X → Y) → Result X ReadFault → Resul
 Gives view (Ok x) read = read ≡ Ok (view x)
 Gives view (Err e) read = Fails e read
 
+-- The old bytes stand in front of the new ones.
+pub record Begins (old new : List ℕ) : Type 0 where
+  pub more : List ℕ
+  pub parts : new ≡ old ++ more
+
 -- The text stands behind old now, or there is none, unless memory ran out.
 abbrev pub Lacks : WriteFault → Option (List ℕ) → Type 0
 Lacks writing.TooLong text = text ≡ None
@@ -25,8 +29,3 @@ Lacks writing.NoMemory text = Unit {0}
 abbrev pub Puts : {X : Type 0} → List ℕ → List ℕ → Result X WriteFault → Option (List ℕ) → Type 0
 Puts old new (Ok x) text = ((Some old) ⊕ text) ≡ Some new
 Puts old new (Err e) text = Lacks e text
-
--- The bytes are the text, or there is none, unless memory ran out.
-abbrev pub Writes : Result (Vec ℕ) WriteFault → Option (List ℕ) → Type 0
-Writes (Ok bytes) text = text ≡ Some bytes.items
-Writes (Err e) text = Lacks e text

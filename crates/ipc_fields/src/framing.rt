@@ -1,11 +1,11 @@
 //! Frames: four bytes of length, the highest first, and the body.
 
-ghost use Rattle.std.specs.Prelude.{◌≡◌, Some, option_map};
+ghost use Rattle.std.specs.Prelude.{◌≡◌, ℕ, ◌+◌, ◌≤◌, ◌++◌, length, take, drop, vec_len, Some, option_map, OnErr};
+ghost use Rattle.std.specs.Int.{w32, to_be_bytes};
 ghost use Rattle.ipc_fields.specs.Frame.{body_at, framed};
-ghost use Rattle.ipc_fields.specs.Given.{Gives, Writes};
+ghost use Rattle.ipc_fields.specs.Given.{Begins, Gives, Puts};
 
 use crate::fault::{ReadFault, WireFault, WriteFault};
-use std::alloc::Global;
 
 /// The longest body that a frame may have.
 pub const MAX_BODY: usize = 16_777_300;
@@ -33,16 +33,26 @@ pub fn body_of(bytes: &[u8]) -> Result<Option<(&[u8], &[u8])>, ReadFault>
     Ok(Some(rest.split_at(len)))
 }
 
-/// The frame of this body.
-#[tactic(auto, using(crate::proofs::Joins::joins), unfolding(crate::specs::Frame::framed))]
-pub fn framed(alloc: Global, body: &[u8]) -> Result<Vec<u8>, WriteFault>
-    ensures { Writes result (framed (Some body.now)) }
+fn set_length(bytes: &mut [u8], start: usize, len: u32)
+    requires { start + 4 ≤ length bytes.old }
+    ensures { bytes.new ≡ take start bytes.old ++ to_be_bytes w32 len ++ drop (start + 4) bytes.old }
 {
-    if body.len() > MAX_BODY {
+    bytes[start..start + 4].copy_from_slice(&len.to_be_bytes());
+}
+
+/// Sets the length of the frame that began at `start`: four bytes of any value and the body stand there. `TooLong`
+/// where the body has more than `MAX_BODY` bytes.
+#[tactic(auto, using(crate::proofs::Joins::joins), unfolding(crate::specs::Frame::framed))]
+pub fn close_frame(out: &mut Vec<u8>, start: usize) -> Result<(), WriteFault>
+    requires { start + 4 ≤ vec_len out.old }
+    ensures puts { Puts (take start out.old.items) out.new.items result (framed (Some (drop (start + 4) out.old.items))) }
+    ensures begins { Begins (take start out.old.items) out.new.items }
+    ensures err { OnErr result (out.new.items ≡ out.old.items) }
+{
+    let body_len = out.len() - start - 4;
+    if body_len > MAX_BODY {
         return Err(WriteFault::TooLong);
     }
-    let mut out = Vec::new(alloc);
-    out.extend_from_slice(&(body.len() as u32).to_be_bytes())?;
-    out.extend_from_slice(body)?;
-    Ok(out)
+    set_length(out, start, body_len as u32);
+    Ok(())
 }

@@ -1,14 +1,16 @@
 //! Writing answers.
 
-ghost use Rattle.std.specs.Prelude.{◌≡◌, List, length, Some, None, IfOk, IsErrOf};
-ghost use Rattle.ipc_fields.specs.Field.{◌⊗◌, u32, text, boolean, counted, all_spelled, only, then_rest};
-ghost use Rattle.ipc_fields.specs.Given.{Puts};
+ghost use Rattle.std.specs.Prelude.{◌≡◌, List, length, Some, None, IfOk, IsErrOf, OnOk, OnErr};
+ghost use Rattle.ipc_fields.specs.Field.{◌⊕◌, ◌⊗◌, u32, text, boolean, counted, all_spelled, only, then_rest};
+ghost use Rattle.ipc_fields.specs.Given.{Begins, Puts};
 ghost use Rattle.ipc_fields.specs.Terms.{attributes_field};
 ghost use Rattle.ipc_wire.specs.Answers.{facts_field, line_field, answer_fields, answer_body};
 ghost use Rattle.ipc_wire.specs.Streams.{spell_answer};
 
+use crate::request_writing::USUAL_FRAME;
 use ipc_fields::{
-    WriteFault, framed, put_attributes, put_bool, put_text, put_u16, put_u32, put_u64,
+    WriteFault, close_frame, put_attributes, put_bool, put_bytes, put_text, put_u8, put_u16,
+    put_u32, put_u64,
 };
 use ipc_terms::{Answer, Attributes, Bytes, Facts, Line, Name};
 use std::alloc::Global;
@@ -17,7 +19,8 @@ use std::alloc::Global;
 const MAX_COUNT: usize = 65_535;
 
 fn put_each_name(out: &mut Vec<u8>, names: &[Name]) -> Result<(), WriteFault>
-    ensures { Puts out.old.items out.new.items result (all_spelled text names.now) }
+    ensures puts { Puts out.old.items out.new.items result (all_spelled text names.now) }
+    ensures begins { Begins out.old.items out.new.items }
 {
     for name in names {
         put_text(out, name.as_slice())?;
@@ -27,7 +30,8 @@ fn put_each_name(out: &mut Vec<u8>, names: &[Name]) -> Result<(), WriteFault>
 
 #[tactic(auto, using(ipc_fields::proofs::Joins::joins), unfolding(ipc_fields::specs::Field::counted))]
 fn put_names(out: &mut Vec<u8>, names: &[Name]) -> Result<(), WriteFault>
-    ensures { Puts out.old.items out.new.items result ((counted text).spell names.now) }
+    ensures puts { Puts out.old.items out.new.items result ((counted text).spell names.now) }
+    ensures begins { Begins out.old.items out.new.items }
 {
     if names.len() > MAX_COUNT {
         return Err(WriteFault::TooLong);
@@ -38,17 +42,19 @@ fn put_names(out: &mut Vec<u8>, names: &[Name]) -> Result<(), WriteFault>
 
 #[tactic(auto, using(ipc_fields::proofs::Joins::joins), unfolding(crate::specs::Answers::line_field))]
 fn put_line(out: &mut Vec<u8>, line: &Line) -> Result<(), WriteFault>
-    ensures { Puts out.old.items out.new.items result (line_field.spell line.now) }
+    ensures puts { Puts out.old.items out.new.items result (line_field.spell line.now) }
+    ensures begins { Begins out.old.items out.new.items }
 {
     put_u64(out, line.place)?;
     put_u64(out, line.sid.0)?;
-    out.push(line.op)?;
+    put_u8(out, line.op)?;
     put_u16(out, line.rule)?;
     put_text(out, line.name.as_slice())
 }
 
 fn put_each_line(out: &mut Vec<u8>, lines: &[Line]) -> Result<(), WriteFault>
-    ensures { Puts out.old.items out.new.items result (all_spelled line_field lines.now) }
+    ensures puts { Puts out.old.items out.new.items result (all_spelled line_field lines.now) }
+    ensures begins { Begins out.old.items out.new.items }
 {
     for line in lines {
         put_line(out, line)?;
@@ -58,7 +64,8 @@ fn put_each_line(out: &mut Vec<u8>, lines: &[Line]) -> Result<(), WriteFault>
 
 #[tactic(auto, using(ipc_fields::proofs::Joins::joins), unfolding(ipc_fields::specs::Field::counted))]
 fn put_lines(out: &mut Vec<u8>, lines: &[Line]) -> Result<(), WriteFault>
-    ensures { Puts out.old.items out.new.items result ((counted line_field).spell lines.now) }
+    ensures puts { Puts out.old.items out.new.items result ((counted line_field).spell lines.now) }
+    ensures begins { Begins out.old.items out.new.items }
 {
     if lines.len() > MAX_COUNT {
         return Err(WriteFault::TooLong);
@@ -74,7 +81,8 @@ fn put_attrs(
     attributes: Attributes,
     messages: u32,
 ) -> Result<(), WriteFault>
-    ensures { Puts out.old.items out.new.items result ((only (boolean ⊗ attributes_field ⊗ u32)).spell (nonblock, (attributes, messages))) }
+    ensures puts { Puts out.old.items out.new.items result ((only (boolean ⊗ attributes_field ⊗ u32)).spell (nonblock, (attributes, messages))) }
+    ensures begins { Begins out.old.items out.new.items }
 {
     put_bool(out, nonblock)?;
     put_attributes(out, attributes)?;
@@ -83,16 +91,17 @@ fn put_attrs(
 
 #[tactic(auto, using(ipc_fields::proofs::Joins::joins))]
 fn put_received(out: &mut Vec<u8>, priority: u32, bytes: &Bytes) -> Result<(), WriteFault>
-    ensures { Puts out.old.items out.new.items result ((then_rest u32).spell (priority, bytes.now)) }
+    ensures puts { Puts out.old.items out.new.items result ((then_rest u32).spell (priority, bytes.now)) }
+    ensures begins { Begins out.old.items out.new.items }
 {
     put_u32(out, priority)?;
-    out.extend_from_slice(bytes.as_slice())?;
-    Ok(())
+    put_bytes(out, bytes.as_slice())
 }
 
 #[tactic(auto, using(ipc_fields::proofs::Joins::joins), unfolding(crate::specs::Answers::facts_field))]
 fn put_facts(out: &mut Vec<u8>, facts: &Facts) -> Result<(), WriteFault>
-    ensures { Puts out.old.items out.new.items result (facts_field.spell facts.now) }
+    ensures puts { Puts out.old.items out.new.items result (facts_field.spell facts.now) }
+    ensures begins { Begins out.old.items out.new.items }
 {
     put_u32(out, facts.owner.0)?;
     put_u32(out, facts.group.0)?;
@@ -101,7 +110,8 @@ fn put_facts(out: &mut Vec<u8>, facts: &Facts) -> Result<(), WriteFault>
 
 #[tactic(auto, using(ipc_fields::proofs::Joins::joins), unfolding(crate::specs::Answers::answer_with, crate::specs::Answers::rule_field))]
 fn put_fields(out: &mut Vec<u8>, answer: &Answer) -> Result<(), WriteFault>
-    ensures { Puts out.old.items out.new.items result (answer_fields answer.now) }
+    ensures puts { Puts out.old.items out.new.items result (answer_fields answer.now) }
+    ensures begins { Begins out.old.items out.new.items }
 {
     match answer {
         Answer::Started(sid) => put_u64(out, sid.0),
@@ -123,21 +133,49 @@ fn put_fields(out: &mut Vec<u8>, answer: &Answer) -> Result<(), WriteFault>
 }
 
 #[tactic(auto, using(ipc_fields::proofs::Joins::joins), unfolding(crate::specs::Answers::answer_body))]
-fn put_answer(out: &mut Vec<u8>, answer: &Answer) -> Result<(), WriteFault>
-    ensures { Puts out.old.items out.new.items result (answer_body answer.now) }
+fn put_body(out: &mut Vec<u8>, answer: &Answer) -> Result<(), WriteFault>
+    ensures puts { Puts out.old.items out.new.items result (answer_body answer.now) }
+    ensures begins { Begins out.old.items out.new.items }
 {
-    out.push(answer.op().number())?;
+    put_u8(out, answer.op().number())?;
     put_fields(out, answer)
 }
 
-/// The one frame of an answer. `TooLong` where a text has more than 65,535 bytes, a list more than 65,535
-/// items, or the body more than `MAX_BODY` bytes.
-#[tactic(auto, unfolding(ipc_fields::specs::Frame::framed))]
+#[tactic(auto, using(ipc_fields::proofs::Joins::joins))]
+fn put_frame(out: &mut Vec<u8>, answer: &Answer) -> Result<(), WriteFault>
+    ensures puts { Puts out.old.items out.new.items result (spell_answer answer.now) }
+    ensures begins { Begins out.old.items out.new.items }
+{
+    let start = out.len();
+    put_u32(out, 0)?;
+    put_body(out, answer)?;
+    close_frame(out, start)
+}
+
+/// Puts the one frame of an answer behind what stands in the buffer. `TooLong` where a text has more than
+/// 65,535 bytes, a list more than 65,535 items, or the body more than `MAX_BODY` bytes. An `Err` leaves the
+/// bytes as they were.
+pub fn put_answer(out: &mut Vec<u8>, answer: &Answer) -> Result<(), WriteFault>
+    ensures put { OnOk result ((Some out.old.items ⊕ spell_answer answer.now) ≡ Some out.new.items) }
+    ensures too_long { IsErrOf result WriteFault.TooLong → spell_answer answer.now ≡ None }
+    ensures err { OnErr result (out.new.items ≡ out.old.items) }
+{
+    let before = out.len();
+    match put_frame(out, answer) {
+        Ok(()) => Ok(()),
+        Err(fault) => {
+            out.truncate(before);
+            Err(fault)
+        }
+    }
+}
+
+/// The one frame of an answer, as `put_answer` puts it.
 pub fn write_answer(alloc: Global, answer: &Answer) -> Result<Vec<u8>, WriteFault>
     ensures spelled { IfOk result (λ bytes. spell_answer answer.now ≡ Some bytes.items) }
     ensures too_long { IsErrOf result WriteFault.TooLong → spell_answer answer.now ≡ None }
 {
-    let mut body = Vec::new(alloc);
-    put_answer(&mut body, answer)?;
-    framed(alloc, &body)
+    let mut frame = Vec::with_capacity(alloc, USUAL_FRAME)?;
+    put_answer(&mut frame, answer)?;
+    Ok(frame)
 }

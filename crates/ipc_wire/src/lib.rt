@@ -11,8 +11,8 @@ mod request_reading;
 mod request_writing;
 
 pub use answer_reading::read_answer;
-pub use answer_writing::write_answer;
+pub use answer_writing::{put_answer, write_answer};
 pub use frames::{Frames, read_request};
 pub use ipc_fields::{MAX_BODY, ReadFault, WireFault, WriteFault};
 pub use request::Request;
-pub use request_writing::write_request;
+pub use request_writing::{put_request, write_request};

@@ -1,8 +1,8 @@
 //! Writing requests.
 
-ghost use Rattle.std.specs.Prelude.{◌≡◌, List, length, Some, None, IfOk, IsErrOf};
-ghost use Rattle.ipc_fields.specs.Field.{◌⊗◌, u16, u32, u64, boolean, optional, only, then_rest};
-ghost use Rattle.ipc_fields.specs.Given.{Puts};
+ghost use Rattle.std.specs.Prelude.{◌≡◌, List, length, Some, None, IfOk, IsErrOf, OnOk, OnErr};
+ghost use Rattle.ipc_fields.specs.Field.{◌⊕◌, ◌⊗◌, u16, u32, u64, boolean, optional, only, then_rest};
+ghost use Rattle.ipc_fields.specs.Given.{Begins, Puts};
 ghost use Rattle.ipc_fields.specs.Terms.{desc_field, family_field, mode_field, uid_field, gid_field, target_field};
 ghost use Rattle.ipc_wire.specs.Requests.{queue_open_field, semaphore_open_field, request_fields, request_body};
 ghost use Rattle.ipc_wire.specs.Streams.{spell};
@@ -10,15 +10,20 @@ ghost use Rattle.ipc_wire.specs.Streams.{spell};
 use crate::request::Request;
 use crate::request_reading::{QUEUE_FLAGS, SEMAPHORE_FLAGS};
 use ipc_fields::{
-    WriteFault, framed, put_access, put_bool, put_family, put_flags, put_optional_attributes,
-    put_optional_gid, put_optional_uid, put_target, put_text, put_u16, put_u32, put_u64,
+    WriteFault, close_frame, put_access, put_bool, put_bytes, put_family, put_flags,
+    put_optional_attributes, put_optional_gid, put_optional_uid, put_target, put_text, put_u8,
+    put_u16, put_u32, put_u64,
 };
 use ipc_terms::{Bytes, Call, Desc, Family, Gid, Mode, QueueOpen, SemaphoreOpen, Target, Uid};
 use std::alloc::Global;
 
+/// Room for most frames.
+pub(crate) const USUAL_FRAME: usize = 128;
+
 #[tactic(auto, using(ipc_fields::proofs::Joins::joins), unfolding(crate::specs::Requests::queue_open_field))]
 fn put_queue_open(out: &mut Vec<u8>, asked: &QueueOpen) -> Result<(), WriteFault>
-    ensures { Puts out.old.items out.new.items result (queue_open_field.spell asked.now) }
+    ensures puts { Puts out.old.items out.new.items result (queue_open_field.spell asked.now) }
+    ensures begins { Begins out.old.items out.new.items }
 {
     put_text(out, asked.name.as_slice())?;
     put_access(out, asked.access)?;
@@ -29,7 +34,8 @@ fn put_queue_open(out: &mut Vec<u8>, asked: &QueueOpen) -> Result<(), WriteFault
 
 #[tactic(auto, using(ipc_fields::proofs::Joins::joins), unfolding(crate::specs::Requests::semaphore_open_field))]
 fn put_semaphore_open(out: &mut Vec<u8>, asked: &SemaphoreOpen) -> Result<(), WriteFault>
-    ensures { Puts out.old.items out.new.items result (semaphore_open_field.spell asked.now) }
+    ensures puts { Puts out.old.items out.new.items result (semaphore_open_field.spell asked.now) }
+    ensures begins { Begins out.old.items out.new.items }
 {
     put_text(out, asked.name.as_slice())?;
     put_flags(out, SEMAPHORE_FLAGS, asked.flags)?;
@@ -39,17 +45,18 @@ fn put_semaphore_open(out: &mut Vec<u8>, asked: &SemaphoreOpen) -> Result<(), Wr
 
 #[tactic(auto, using(ipc_fields::proofs::Joins::joins))]
 fn put_send(out: &mut Vec<u8>, desc: Desc, priority: u32, bytes: &Bytes) -> Result<(), WriteFault>
-    ensures { Puts out.old.items out.new.items result ((then_rest (desc_field ⊗ u32)).spell ((desc, priority), bytes.now)) }
+    ensures puts { Puts out.old.items out.new.items result ((then_rest (desc_field ⊗ u32)).spell ((desc, priority), bytes.now)) }
+    ensures begins { Begins out.old.items out.new.items }
 {
     put_u64(out, desc.0)?;
     put_u32(out, priority)?;
-    out.extend_from_slice(bytes.as_slice())?;
-    Ok(())
+    put_bytes(out, bytes.as_slice())
 }
 
 #[tactic(auto, using(ipc_fields::proofs::Joins::joins))]
 fn put_receive(out: &mut Vec<u8>, desc: Desc, length: u32) -> Result<(), WriteFault>
-    ensures { Puts out.old.items out.new.items result ((only (desc_field ⊗ u32)).spell (desc, length)) }
+    ensures puts { Puts out.old.items out.new.items result ((only (desc_field ⊗ u32)).spell (desc, length)) }
+    ensures begins { Begins out.old.items out.new.items }
 {
     put_u64(out, desc.0)?;
     put_u32(out, length)
@@ -57,7 +64,8 @@ fn put_receive(out: &mut Vec<u8>, desc: Desc, length: u32) -> Result<(), WriteFa
 
 #[tactic(auto, using(ipc_fields::proofs::Joins::joins))]
 fn put_described_flag(out: &mut Vec<u8>, desc: Desc, flag: bool) -> Result<(), WriteFault>
-    ensures { Puts out.old.items out.new.items result ((only (desc_field ⊗ boolean)).spell (desc, flag)) }
+    ensures puts { Puts out.old.items out.new.items result ((only (desc_field ⊗ boolean)).spell (desc, flag)) }
+    ensures begins { Begins out.old.items out.new.items }
 {
     put_u64(out, desc.0)?;
     put_bool(out, flag)
@@ -65,7 +73,8 @@ fn put_described_flag(out: &mut Vec<u8>, desc: Desc, flag: bool) -> Result<(), W
 
 #[tactic(auto, using(ipc_fields::proofs::Joins::joins))]
 fn put_listing(out: &mut Vec<u8>, family: Family, start: u32, count: u16) -> Result<(), WriteFault>
-    ensures { Puts out.old.items out.new.items result ((only (family_field ⊗ u32 ⊗ u16)).spell (family, (start, count))) }
+    ensures puts { Puts out.old.items out.new.items result ((only (family_field ⊗ u32 ⊗ u16)).spell (family, (start, count))) }
+    ensures begins { Begins out.old.items out.new.items }
 {
     put_family(out, family)?;
     put_u32(out, start)?;
@@ -74,7 +83,8 @@ fn put_listing(out: &mut Vec<u8>, family: Family, start: u32, count: u16) -> Res
 
 #[tactic(auto, using(ipc_fields::proofs::Joins::joins))]
 fn put_chmod(out: &mut Vec<u8>, mode: Mode, target: &Target) -> Result<(), WriteFault>
-    ensures { Puts out.old.items out.new.items result ((only (mode_field ⊗ target_field)).spell (mode, target.now)) }
+    ensures puts { Puts out.old.items out.new.items result ((only (mode_field ⊗ target_field)).spell (mode, target.now)) }
+    ensures begins { Begins out.old.items out.new.items }
 {
     put_u16(out, mode.0)?;
     put_target(out, target)
@@ -87,7 +97,8 @@ fn put_chown(
     group: Option<Gid>,
     target: &Target,
 ) -> Result<(), WriteFault>
-    ensures { Puts out.old.items out.new.items result ((only (optional uid_field ⊗ optional gid_field ⊗ target_field)).spell (owner, (group, target.now))) }
+    ensures puts { Puts out.old.items out.new.items result ((only (optional uid_field ⊗ optional gid_field ⊗ target_field)).spell (owner, (group, target.now))) }
+    ensures begins { Begins out.old.items out.new.items }
 {
     put_optional_uid(out, owner)?;
     put_optional_gid(out, group)?;
@@ -96,7 +107,8 @@ fn put_chown(
 
 #[tactic(auto, using(ipc_fields::proofs::Joins::joins))]
 fn put_set_limit(out: &mut Vec<u8>, uid: Uid, limit: u64) -> Result<(), WriteFault>
-    ensures { Puts out.old.items out.new.items result ((only (uid_field ⊗ u64)).spell (uid, limit)) }
+    ensures puts { Puts out.old.items out.new.items result ((only (uid_field ⊗ u64)).spell (uid, limit)) }
+    ensures begins { Begins out.old.items out.new.items }
 {
     put_u32(out, uid.0)?;
     put_u64(out, limit)
@@ -104,7 +116,8 @@ fn put_set_limit(out: &mut Vec<u8>, uid: Uid, limit: u64) -> Result<(), WriteFau
 
 #[tactic(auto, using(ipc_fields::proofs::Joins::joins))]
 fn put_audit(out: &mut Vec<u8>, start: u64, count: u16) -> Result<(), WriteFault>
-    ensures { Puts out.old.items out.new.items result ((only (u64 ⊗ u16)).spell (start, count)) }
+    ensures puts { Puts out.old.items out.new.items result ((only (u64 ⊗ u16)).spell (start, count)) }
+    ensures begins { Begins out.old.items out.new.items }
 {
     put_u64(out, start)?;
     put_u16(out, count)
@@ -112,7 +125,8 @@ fn put_audit(out: &mut Vec<u8>, start: u64, count: u16) -> Result<(), WriteFault
 
 #[tactic(auto, using(ipc_fields::proofs::Joins::joins), unfolding(crate::specs::Requests::request_with))]
 fn put_fields(out: &mut Vec<u8>, request: &Request) -> Result<(), WriteFault>
-    ensures { Puts out.old.items out.new.items result (request_fields request.now) }
+    ensures puts { Puts out.old.items out.new.items result (request_fields request.now) }
+    ensures begins { Begins out.old.items out.new.items }
 {
     let call = match request {
         Request::Hello(key) => return put_text(out, key.as_slice()),
@@ -157,21 +171,49 @@ fn put_fields(out: &mut Vec<u8>, request: &Request) -> Result<(), WriteFault>
 }
 
 #[tactic(auto, using(ipc_fields::proofs::Joins::joins), unfolding(crate::specs::Requests::request_body))]
-fn put_request(out: &mut Vec<u8>, request: &Request) -> Result<(), WriteFault>
-    ensures { Puts out.old.items out.new.items result (request_body request.now) }
+fn put_body(out: &mut Vec<u8>, request: &Request) -> Result<(), WriteFault>
+    ensures puts { Puts out.old.items out.new.items result (request_body request.now) }
+    ensures begins { Begins out.old.items out.new.items }
 {
-    out.push(request.op().byte())?;
+    put_u8(out, request.op().byte())?;
     put_fields(out, request)
 }
 
-/// The one frame of a request. Flags that mean nothing to the call are left out. `TooLong` where a text
-/// has more than 65,535 bytes, or the body more than `MAX_BODY`.
-#[tactic(auto, unfolding(ipc_fields::specs::Frame::framed))]
+#[tactic(auto, using(ipc_fields::proofs::Joins::joins))]
+fn put_frame(out: &mut Vec<u8>, request: &Request) -> Result<(), WriteFault>
+    ensures puts { Puts out.old.items out.new.items result (spell request.now) }
+    ensures begins { Begins out.old.items out.new.items }
+{
+    let start = out.len();
+    put_u32(out, 0)?;
+    put_body(out, request)?;
+    close_frame(out, start)
+}
+
+/// Puts the one frame of a request behind what stands in the buffer. Flags that mean nothing to the call
+/// are left out. `TooLong` where a text has more than 65,535 bytes, or the body more than `MAX_BODY`. An
+/// `Err` leaves the bytes as they were.
+pub fn put_request(out: &mut Vec<u8>, request: &Request) -> Result<(), WriteFault>
+    ensures put { OnOk result ((Some out.old.items ⊕ spell request.now) ≡ Some out.new.items) }
+    ensures too_long { IsErrOf result WriteFault.TooLong → spell request.now ≡ None }
+    ensures err { OnErr result (out.new.items ≡ out.old.items) }
+{
+    let before = out.len();
+    match put_frame(out, request) {
+        Ok(()) => Ok(()),
+        Err(fault) => {
+            out.truncate(before);
+            Err(fault)
+        }
+    }
+}
+
+/// The one frame of a request, as `put_request` puts it.
 pub fn write_request(alloc: Global, request: &Request) -> Result<Vec<u8>, WriteFault>
     ensures spelled { IfOk result (λ bytes. spell request.now ≡ Some bytes.items) }
     ensures too_long { IsErrOf result WriteFault.TooLong → spell request.now ≡ None }
 {
-    let mut body = Vec::new(alloc);
-    put_request(&mut body, request)?;
-    framed(alloc, &body)
+    let mut frame = Vec::with_capacity(alloc, USUAL_FRAME)?;
+    put_request(&mut frame, request)?;
+    Ok(frame)
 }

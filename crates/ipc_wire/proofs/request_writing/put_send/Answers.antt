@@ -1,9 +1,12 @@
-use Rattle.std.proofs.Common.{ℕ, List, ◌++◌, ap, ◌∙◌}
-use Rattle.std.specs.Int.{w32, w64, to_be_bytes}
-use Rattle.ipc_fields.proofs.Joins.{three_put}
+use Rattle.std.proofs.Common.{Some, Ok}
+use Rattle.ipc_fields.specs.Field.{◌⊕◌, u32, u64}
+use Rattle.ipc_fields.proofs.Many.{puts_on}
 use Rattle.ipc_wire.proofs.request_writing.put_send.Goals as goal
 
-pub returns : goal.returns
-returns c =
-    let rest = c.in_ok-extend_from_slice.ensures.items ∙ ap (λ (x : List ℕ). c.put_u32.new.out.items ++ x) c.as_slice.ensures in
-    three_put c.args.out.now.items (to_be_bytes w64 c.args.desc.0) (to_be_bytes w32 c.args.priority) c.args.bytes.now _ _ _ c.in_ok-put_u64.ensures c.in_ok-put_u32.ensures rest
+pub returns-clause-puts : goal.returns-clause-puts
+returns-clause-puts c =
+    let desc = u64.spell c.args.desc.0 in
+    let priority = u32.spell c.args.priority in
+    let rest = Some c.args.bytes.now in
+    puts_on c.args.out.now.items c.put_u32.new.out.items c.put_bytes.new.out.items c.put_bytes.result (desc ⊕ priority) rest (puts_on {X = Unit {0}} c.args.out.now.items c.put_u64.new.out.items c.put_u32.new.out.items (Ok tt) desc priority c.in_ok-put_u64.ensures.puts c.in_ok-put_u32.ensures.puts)
+    (rw c.as_slice.ensures at c.put_bytes.ensures.puts)
