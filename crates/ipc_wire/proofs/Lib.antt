@@ -3,3 +3,4 @@ pub mod AnswerLemmas
 pub mod SpellingLemmas
 pub mod CutLemmas
 pub mod OrderLemmas
+pub mod Removing

@@ -1,6 +1,6 @@
 //! A stream of frames, in whatever pieces it comes.
 
-ghost use Rattle.std.specs.Prelude.{◌≡◌, ℕ, List, [], ◌++◌, length, drop, Some, option_map, IsSome, IsNone, IfOk, IsOkAnd, OnErr, ◌≤◌, vec_len};
+ghost use Rattle.std.specs.Prelude.{◌≡◌, ℕ, List, [], ◌++◌, length, drop, Some, option_map, IsSome, IsNone, IfOk, IsOkAnd, OnErr, ◌≤◌, vec_len, vec_capacity};
 ghost use Rattle.ipc_fields.specs.Given.{Gives};
 ghost use Rattle.ipc_wire.specs.Streams.{front, cut, Feeds, new_stream, still_first};
 
@@ -60,13 +60,23 @@ fn still_first(first: bool, requests: &[Request]) -> bool
     first && requests.is_empty()
 }
 
-fn remove_front(bytes: &mut Vec<u8>, n: usize)
+/// The most memory that a stream keeps while nothing waits in it: 1 MiB.
+const KEPT_ROOM: usize = 1_048_576;
+
+/// Takes the first bytes away. A buffer that has grown large is given back once it is empty.
+fn remove_front(alloc: Global, bytes: &mut Vec<u8>, n: usize)
     requires { n ≤ vec_len bytes.old }
-    ensures { bytes.new.items ≡ drop n bytes.old.items }
+    ensures rest { bytes.new.items ≡ drop n bytes.old.items }
+    ensures given_back { n ≡ vec_len bytes.old → vec_capacity bytes.new ≤ KEPT_ROOM }
 {
-    // A drain of nothing would still move every byte.
-    if n > 0 {
-        drop(bytes.drain(..n));
+    let left = bytes.len() - n;
+    if left > 0 {
+        bytes.copy_within(n.., 0);
+        bytes.truncate(left);
+    } else if bytes.capacity() > KEPT_ROOM {
+        *bytes = Vec::new(alloc);
+    } else {
+        bytes.clear();
     }
 }
 
@@ -123,7 +133,7 @@ impl Frames {
         match cut_of(alloc, self.first, &self.kept) {
             Ok((requests, rest, fault)) => {
                 let taken = self.kept.len() - rest.len();
-                remove_front(&mut self.kept, taken);
+                remove_front(alloc, &mut self.kept, taken);
                 self.first = still_first(self.first, &requests);
                 self.fault = fault;
                 Ok(requests)

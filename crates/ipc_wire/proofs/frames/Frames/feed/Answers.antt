@@ -16,5 +16,5 @@ returns-in-Ok-clause-cut c =
     let items = c.in_ok-extend_from_slice.ensures.items in
     rw (← c.self.view_is) (λ none. feeds (record { kept = c.self.inside.kept.items; first = c.self.inside.first; fault = c.self.inside.fault }) c.args.piece.now cut_is c.deref.result.now c.remove_front.new.bytes.items c.len.result c.still_first-self-inside.result
     (whole ∙ items) c.in-Ok.ensures (omega (arith, c.len.ensures, c.deref.ensures.len))
-    (c.remove_front.ensures ∙ ap (drop (c.len.result - length c.in-Ok.rest.now)) (sym whole))
+    (c.remove_front.ensures.rest ∙ ap (drop (c.len.result - length c.in-Ok.rest.now)) (sym whole))
     (c.still_first-self-inside.ensures ∙ ap (still_first c.self.inside.first) c.deref-in-Ok.ensures.value))
