@@ -4,3 +4,4 @@ pub mod SpellingLemmas
 pub mod CutLemmas
 pub mod OrderLemmas
 pub mod Removing
+pub mod SmallAnswers

@@ -1,6 +1,7 @@
 //! Laws of the frames. The functions do nothing when they run: what they ensure is what is proved.
 
-ghost use Rattle.std.specs.Prelude.{◌≡◌, ℕ, ◌<◌, ◌++◌, List, [], Bool, true, Some, Ok, Err, IsTrue, slice_index};
+ghost use Rattle.std.specs.Prelude.{◌≡◌, ℕ, ◌<◌, ◌≤◌, ◌++◌, List, [], Bool, true, Some, Ok, Err, IsTrue, slice_index};
+ghost use Rattle.ipc_terms.specs.Sizes.{IsSmall};
 ghost use Rattle.ipc_terms.specs.declared.call.Answer.{Answer};
 ghost use Rattle.ipc_fields.specs.declared.fault.WireFault.{WireFault};
 ghost use Rattle.ipc_wire.specs.declared.request.Request.{Request};
@@ -72,4 +73,11 @@ pub fn fault_stays()
 pub fn none_spelled_at_a_fault()
     ensures { (w more text rest : List ℕ) (fault : WireFault) (q : Request) → front (is_hello_request q) w ≡ Err fault →
         IsTrue (fits q) → spell q ≡ Some text → w ++ more ≡ text ++ rest → ⊥ }
+{}
+
+/// Every answer whose parts are small has a spelling, so it is never too long: its message has at most 16 MiB,
+/// or its page at most 1,000 entries with names of at most 256 bytes.
+pub fn small_answers_are_spelled()
+    ensures { (most : ℕ) (a : Answer) → most ≤ 16777216 → IsSmall most a →
+        (text : List ℕ) × (spell_answer a ≡ Some text) }
 {}
