@@ -5,6 +5,7 @@ use ipc_access::UserFault;
 use ipc_core::Field;
 use ipc_script::ScriptFault;
 use ipc_terms::NoMemory;
+use ipc_wire::{ReadFault, WireFault, WriteFault};
 use ipc_words::WordFault;
 use std::test::Fail;
 
@@ -40,5 +41,13 @@ fn other_faults_have_words(rt: HostRuntime) -> Result<(), Fail> {
     shows(rt.alloc(), &WordFault::BadValue("access"), "value access")?;
     shows(rt.alloc(), &WordFault::NoMemory, "memory")?;
     shows(rt.alloc(), &UserFault::NoMemory, "memory")?;
+    shows(rt.alloc(), &WireFault::TooLong, "frame too long")?;
+    shows(rt.alloc(), &WireFault::BadOpcode, "opcode not allowed here")?;
+    shows(rt.alloc(), &WriteFault::TooLong, "message too long")?;
+    shows(
+        rt.alloc(),
+        &ReadFault::Wire(WireFault::BadField),
+        "bad field",
+    )?;
     shows(rt.alloc(), &NoMemory, "memory")
 }

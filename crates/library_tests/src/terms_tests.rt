@@ -1,8 +1,10 @@
-//! Bytes, names, flags and rules.
+//! Bytes, names, flags, rules, and the numbers of calls and answers.
 
 use crate::made::{joined, name, names};
 use bitflags::Flags;
-use ipc_terms::{Bytes, Names, NoMemory, OpenFlags, Rule, push_within};
+use ipc_terms::{
+    Answer, AnswerOp, Bytes, Call, CallOp, Desc, Names, NoMemory, OpenFlags, Rule, push_within,
+};
 use std::alloc::Global;
 use std::test::Fail;
 
@@ -94,6 +96,36 @@ fn rules_have_numbers_and_error_words(_rt: HostRuntime) -> Result<(), Fail> {
         }
     }
     Ok(())
+}
+
+/// Whether the number is that of a call or of an answer, and stands for itself.
+fn stands_for_itself(number: u8) -> bool {
+    let call = CallOp::of_number(number).map(|op| op.number());
+    let answer = AnswerOp::of_number(number).map(|op| op.number());
+    let (known_call, known_answer) = match number {
+        2..=24 => (Some(number), None),
+        65..=78 => (None, Some(number)),
+        _ => (None, None),
+    };
+    call == known_call && answer == known_answer
+}
+
+#[test]
+fn calls_are_2_to_24_and_answers_65_to_78(_rt: HostRuntime) -> Result<(), Fail> {
+    for number in 0..=u8::MAX {
+        if !stands_for_itself(number) {
+            return Err(Fail::new(format_args!("at {number}")));
+        }
+    }
+    Ok(())
+}
+
+#[test]
+fn a_call_and_an_answer_say_which_they_are(rt: HostRuntime) {
+    assert!(rt; Call::SemTryWait(Desc(7)).op() == CallOp::SemTryWait);
+    assert!(rt; Call::Interrupt.op().number() == 23);
+    assert!(rt; Answer::Notice(Desc(7)).op() == AnswerOp::Notice);
+    assert!(rt; Answer::Done.op().number() == 66);
 }
 
 /// Bits, and whether they create, exclude, and refuse where others wait.

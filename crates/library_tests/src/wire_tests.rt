@@ -1,8 +1,11 @@
 //! Frames: streams of requests in whatever pieces they come, answers, and the memory that they take.
 
 use crate::made::{act, send};
-use ipc_terms::{Answer, Bytes, Call, Desc, Event, Family, Gid, NoMemory, Sid, Target, Uid};
-use ipc_wire::{Frames, Request, WireFault, WriteFault, read_answer, write_answer, write_request};
+use ipc_terms::{Answer, Bytes, Call, Desc, Event, Family, Gid, Name, NoMemory, Sid, Target, Uid};
+use ipc_wire::{
+    Frames, Request, WireFault, WriteFault, put_answer, put_request, read_answer, read_request,
+    write_answer, write_request,
+};
 use std::alloc::Global;
 use std::fs;
 use std::test::Fail;
@@ -226,6 +229,26 @@ fn answers_are_read_as_they_are_spelled(rt: HostRuntime) -> Result<(), Fail> {
     Ok(())
 }
 
+/// Whether the answer of this text is put behind what stands in a buffer.
+fn is_put_behind(alloc: Global, text: &[u8]) -> Result<bool, Fail> {
+    let Some((answer, _taken)) = read_answer(alloc, text)? else {
+        return Ok(false);
+    };
+    let mut out = Vec::from_slice(alloc, b"before")?;
+    put_answer(&mut out, &answer)?;
+    Ok(out.get(..6) == Some(b"before".as_slice()) && out.get(6..) == Some(text))
+}
+
+#[test]
+fn answers_are_put_behind_what_stands_there(rt: HostRuntime) -> Result<(), Fail> {
+    for (at, text) in ANSWERS.iter().enumerate() {
+        if !is_put_behind(rt.alloc(), text)? {
+            return Err(Fail::new(format_args!("answer {at}")));
+        }
+    }
+    Ok(())
+}
+
 #[test]
 fn a_start_is_read_with_its_length(rt: HostRuntime) -> Result<(), Fail> {
     let found = read_answer(rt.alloc(), b"\0\0\0\x09\x41\0\0\0\0\0\0\0\0\0")?;
@@ -254,6 +277,42 @@ fn hello_length(alloc: Global, length: usize) -> Result<usize, WriteFault> {
 fn a_text_of_65536_bytes_has_no_spelling(rt: HostRuntime) {
     assert!(rt; matches!(hello_length(rt.alloc(), 65_535), Ok(65_542)));
     assert!(rt; matches!(hello_length(rt.alloc(), 65_536), Err(WriteFault::TooLong)));
+}
+
+/// A request on a name of so many bytes.
+fn unlink_of(alloc: Global, length: usize) -> Result<Request, WriteFault> {
+    let name = Vec::from_elem(alloc, b'a', length)?;
+    Ok(Request::Do(Call::SemUnlink(Name::new(Bytes::new(name)))))
+}
+
+/// Whether a request on a name of so many bytes is read as it was written, and nothing is left.
+fn comes_back(alloc: Global, length: usize) -> Result<bool, Fail> {
+    let frame = write_request(alloc, &unlink_of(alloc, length)?)?;
+    let found = read_request(alloc, false, &frame)?;
+    match &found {
+        Some((Request::Do(Call::SemUnlink(name)), rest)) => Ok(
+            rest.is_empty()
+                && name.as_slice().len() == length
+                && name.as_slice().iter().all(|byte| *byte == b'a'),
+        ),
+        _ => Ok(false),
+    }
+}
+
+#[test]
+fn long_names_come_back(rt: HostRuntime) -> Result<(), Fail> {
+    assert!(rt; comes_back(rt.alloc(), 257)?);
+    assert!(rt; comes_back(rt.alloc(), 65_535)?);
+    Ok(())
+}
+
+#[test]
+fn a_name_of_65536_bytes_leaves_the_buffer(rt: HostRuntime) -> Result<(), Fail> {
+    let mut out = Vec::from_slice(rt.alloc(), b"before")?;
+    let request = unlink_of(rt.alloc(), 65_536)?;
+    assert!(rt; matches!(put_request(&mut out, &request), Err(WriteFault::TooLong)));
+    assert!(rt; out.as_slice() == b"before".as_slice());
+    Ok(())
 }
 
 /// The bytes that an event sends.
@@ -315,6 +374,41 @@ fn values_are_read_from_their_fields(rt: HostRuntime) -> Result<(), Fail> {
     let mut frames = Frames::new(rt.alloc());
     let requests = frames.feed(rt.alloc(), WRITTEN)?;
     assert!(rt; are_as_written(&requests));
+    Ok(())
+}
+
+/// The frames of the requests, put one behind another.
+fn put_all(alloc: Global, requests: &[Request]) -> Result<Vec<u8>, WriteFault> {
+    let mut out = Vec::new(alloc);
+    for request in requests {
+        put_request(&mut out, request)?;
+    }
+    Ok(out)
+}
+
+#[test]
+fn requests_are_put_one_behind_another(rt: HostRuntime) -> Result<(), Fail> {
+    let mut frames = Frames::new(rt.alloc());
+    let requests = frames.feed(rt.alloc(), WRITTEN)?;
+    assert!(rt; put_all(rt.alloc(), &requests)?.as_slice() == WRITTEN);
+    Ok(())
+}
+
+/// Whether a hello by the key `ka1` stands in front, and what is written behind it follows.
+fn begins_with_a_hello(alloc: Global, bytes: &[u8]) -> Result<bool, Fail> {
+    let found = read_request(alloc, true, bytes)?;
+    match &found {
+        Some((Request::Hello(key), rest)) => {
+            Ok(key.as_slice() == b"ka1".as_slice() && bytes.get(10..) == Some(*rest))
+        }
+        _ => Ok(false),
+    }
+}
+
+#[test]
+fn a_request_is_read_in_front(rt: HostRuntime) -> Result<(), Fail> {
+    assert!(rt; begins_with_a_hello(rt.alloc(), WRITTEN)?);
+    assert!(rt; read_request(rt.alloc(), true, b"\0\0\0\x06\x01\0\x03ka")?.is_none());
     Ok(())
 }
 
