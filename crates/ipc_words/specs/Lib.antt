@@ -8,3 +8,4 @@ pub mod Usage
 pub mod Calls
 pub mod Printing
 pub mod Answers
+pub mod FaultLines

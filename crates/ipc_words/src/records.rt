@@ -1,61 +1,70 @@
 //! Lines of the audit in a line.
 
-ghost use Rattle.std.specs.Prelude.{◌≡◌, IfOk};
+ghost use Rattle.std.specs.Prelude.{◌≡◌, ◌++◌, OnOk};
 ghost use Rattle.std.specs.String.{string_bytes};
 ghost use Rattle.ipc_terms.specs.declared.call.Answer.TheVariants.{Records};
-ghost use Rattle.ipc_words.specs.Answers.{answer_line, event_text, line_text, session_text};
+ghost use Rattle.ipc_words.specs.Answers.{answer_line, event_text, line_text, session_text, spaced_lines};
 
 use crate::commands::form_of_op;
-use crate::printing::print_bytes;
+use crate::printing::put_bytes;
 use ipc_terms::{Line, Sid};
-use std::alloc::{AllocError, Global};
+use std::alloc::AllocError;
 
-/// The line of an answer that has these lines.
+/// Adds the line of an answer that has these lines.
 #[tactic(auto, unfolding(crate::specs::Answers::answer_line))]
-pub fn line_of_records(alloc: Global, lines: &[Line]) -> Result<String, AllocError>
-    ensures { IfOk result (λ text. string_bytes text ≡ answer_line (Records lines.now)) }
+pub fn put_records(text: &mut String, lines: &[Line]) -> Result<(), AllocError>
+    ensures { OnOk result (string_bytes text.new ≡ string_bytes text.old ++ answer_line (Records lines.now)) }
 {
-    let mut text = format!(in alloc; "records {}", lines.len())?;
+    write!(text, "records {}", lines.len())?;
+    put_spaced_lines(text, lines)
+}
+
+/// Adds each line behind a space.
+fn put_spaced_lines(text: &mut String, lines: &[Line]) -> Result<(), AllocError>
+    ensures { OnOk result (string_bytes text.new ≡ string_bytes text.old ++ spaced_lines lines.now) }
+{
     for line in lines {
         text.push_str(" ")?;
-        text.push_str(print_line(alloc, line)?.as_str())?;
+        put_record(text, line)?;
     }
-    Ok(text)
+    Ok(())
 }
 
 /// `PLACE:SESSION:EVENT:RULE:NAME`.
 #[tactic(auto, unfolding(crate::specs::Answers::line_text))]
-fn print_line(alloc: Global, line: &Line) -> Result<String, AllocError>
-    ensures { IfOk result (λ text. string_bytes text ≡ line_text line.now) }
+fn put_record(text: &mut String, line: &Line) -> Result<(), AllocError>
+    ensures { OnOk result (string_bytes text.new ≡ string_bytes text.old ++ line_text line.now) }
 {
-    let session = print_session(alloc, line.sid)?;
-    let event = print_event(alloc, line.op)?;
-    let name = print_bytes(alloc, line.name.as_slice())?;
-    format!(in alloc; "{}:{session}:{event}:{}:{name}", line.place, line.rule)
+    write!(text, "{}:", line.place)?;
+    put_session(text, line.sid)?;
+    text.push_str(":")?;
+    put_event(text, line.op)?;
+    write!(text, ":{}:", line.rule)?;
+    put_bytes(text, line.name.as_slice())
 }
 
 /// The session's number, or `-` for nobody.
-fn print_session(alloc: Global, session: Sid) -> Result<String, AllocError>
-    ensures { IfOk result (λ text. string_bytes text ≡ session_text session) }
+fn put_session(text: &mut String, session: Sid) -> Result<(), AllocError>
+    ensures { OnOk result (string_bytes text.new ≡ string_bytes text.old ++ session_text session) }
 {
     if session == Sid::NOBODY {
-        String::from_str(alloc, "-")
+        text.push_str("-")
     } else {
-        format!(in alloc; "{}", session.0)
+        write!(text, "{}", session.0)
     }
 }
 
 /// The word of the command whose call has this number, `hello` or `hangup`; the number where none has it.
 #[tactic(auto, unfolding(crate::specs::Answers::event_text))]
-fn print_event(alloc: Global, op: u8) -> Result<String, AllocError>
-    ensures { IfOk result (λ text. string_bytes text ≡ event_text op) }
+fn put_event(text: &mut String, op: u8) -> Result<(), AllocError>
+    ensures { OnOk result (string_bytes text.new ≡ string_bytes text.old ++ event_text op) }
 {
     match op {
-        1 => String::from_str(alloc, "hello"),
-        25 => String::from_str(alloc, "hangup"),
+        1 => text.push_str("hello"),
+        25 => text.push_str("hangup"),
         _ => match form_of_op(op) {
-            Some(form) => String::from_str(alloc, form.word),
-            None => format!(in alloc; "{op}"),
+            Some(form) => text.push_str(form.word),
+            None => write!(text, "{op}"),
         },
     }
 }
