@@ -4,8 +4,8 @@ use Rattle.ipc_access.specs.declared.fault.UserFault.{UserFault}
 use Rattle.ipc_access.specs.declared.fault.UserFault.TheVariants.{NoMemory}
 use Rattle.ipc_core.specs.declared.fault.CoreFault.{CoreFault}
 use Rattle.ipc_core.specs.declared.fault.CoreFault.TheVariants.{BadConfig}
-use Rattle.ipc_script.specs.declared.lines.LineFault.{LineFault}
-use Rattle.ipc_script.specs.declared.lines.LineFault.TheVariants.{Read as NoRead, Memory as NoGrowth, Bad}
+use Rattle.ipc_lines.specs.declared.fault.LineFault.{LineFault}
+use Rattle.ipc_lines.specs.declared.fault.LineFault.TheVariants.{Read as NoRead, Write as NoWrite, Memory as NoGrowth, Bad}
 use Rattle.ipc_script.specs.declared.fault.ScriptFault.{ScriptFault}
 use Rattle.ipc_script.specs.declared.fault.ScriptFault.TheVariants.{Users, Config, Read, Write, Memory, Line}
 
@@ -29,6 +29,7 @@ of_core fault = Memory
 
 abbrev pub of_line : LineFault → ScriptFault
 of_line NoRead = Read
+of_line NoWrite = Write
 of_line NoGrowth = Memory
 of_line (Bad number) = Line number
 

@@ -4,9 +4,9 @@ ghost use Rattle.std.specs.Prelude.{◌≡◌};
 ghost use Rattle.ipc_script.specs.declared.fault.ScriptFault.TheVariants.{Memory};
 ghost use Rattle.ipc_script.specs.Faults.{status_of, of_users, of_core, of_line};
 
-use crate::lines::LineFault;
 use ipc_access::UserFault;
 use ipc_core::{CoreFault, Field};
+use ipc_lines::LineFault;
 use ipc_terms::NoMemory;
 use std::alloc::{AllocError, AllocFailed};
 use thiserror::Error;
@@ -77,6 +77,7 @@ impl From<LineFault> for ScriptFault {
     fn from(fault: LineFault) -> Self {
         match fault {
             LineFault::Read => ScriptFault::Read,
+            LineFault::Write => ScriptFault::Write,
             LineFault::Memory => ScriptFault::Memory,
             LineFault::Bad(number) => ScriptFault::Line(number),
         }

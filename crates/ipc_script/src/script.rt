@@ -8,13 +8,13 @@ ghost use Rattle.ipc_script.specs.Steps.{AsksFor, labelled_line};
 
 use crate::fault::ScriptFault;
 use crate::labels::{Labels, is_label};
-use crate::lines::Lines;
 use ipc_access::Users;
 use ipc_core::{Config, Core, Limits};
+use ipc_lines::{Lines, Output, words_of};
 use ipc_terms::{Answer, Event, NoMemory, Sid};
 use ipc_words::{WordFault, call_of_words, line_of_answer};
 use std::alloc::{AllocError, Global};
-use std::io::{BufWriter, ErrorKind, Read, Write};
+use std::io::{Read, Write};
 
 /// Runs a script.
 ///
@@ -82,20 +82,13 @@ fn read_user_file<R: Read + Drop>(
     Err(ScriptFault::Line(lines.next_number()))
 }
 
-/// The words of a line, parted by runs of spaces and tabs.
-fn words_of(alloc: Global, line: &str) -> Result<Vec<&str>, AllocError> {
-    line.split([' ', '\t'])
-        .filter(|word| !word.is_empty())
-        .collect(alloc)
-}
-
 /// A script that runs.
 #[derive(Drop)]
 struct Script<W: Write + Drop> {
     alloc: Global,
     core: Core,
     labels: Labels,
-    writer: BufWriter<W>,
+    output: Output<W>,
     /// The line that is written next.
     line: String,
 }
@@ -116,16 +109,13 @@ impl<W: Write + Drop> Script<W> {
     fn new(alloc: Global, core: Core, writer: W) -> Result<Self, ScriptFault>
         ensures { IfErr result (λ fault. is_users_memory fault ≡ false) }
     {
-        match BufWriter::new(alloc, writer) {
-            Ok(writer) => Ok(Script {
-                alloc,
-                core,
-                labels: Labels::new(alloc),
-                writer,
-                line: String::new(alloc),
-            }),
-            Err(error) => Err(fault_of_writer(error)),
-        }
+        Ok(Script {
+            alloc,
+            core,
+            labels: Labels::new(alloc),
+            output: Output::new(alloc, writer)?,
+            line: String::new(alloc),
+        })
     }
 
     /// Takes all lines, and writes what was answered before the run ended, however it ended.
@@ -133,7 +123,7 @@ impl<W: Write + Drop> Script<W> {
         ensures { IfErr result (λ fault. is_users_memory fault ≡ false) }
     {
         let outcome = self.run(lines);
-        self.flush()?;
+        self.output.flush()?;
         outcome
     }
 
@@ -142,10 +132,7 @@ impl<W: Write + Drop> Script<W> {
         ensures { IfErr result (λ fault. is_users_memory fault ≡ false) }
     {
         for _ in 0..u64::MAX {
-            if !lines.is_at_hand() {
-                self.flush()?;
-            }
-            match lines.next_line()? {
+            match lines.next_line_after(&mut self.output)? {
                 Some(line) => self.take_line(line)?,
                 None => break,
             }
@@ -258,27 +245,11 @@ impl<W: Write + Drop> Script<W> {
         self.put()
     }
 
-    /// Writes the line that was laid out, into the block.
+    /// Puts the line that was laid out into the block.
     fn put(&mut self) -> Result<(), ScriptFault>
         ensures { IfErr result (λ fault. is_users_memory fault ≡ false) }
     {
-        self.writer
-            .write_all(self.line.as_bytes())
-            .map_err(fault_of_writer)
-    }
-
-    fn flush(&mut self) -> Result<(), ScriptFault>
-        ensures { IfErr result (λ fault. is_users_memory fault ≡ false) }
-    {
-        self.writer.flush().map_err(fault_of_writer)
-    }
-}
-
-fn fault_of_writer(error: std::io::Error) -> ScriptFault
-    ensures { is_users_memory result ≡ false }
-{
-    match error.kind() {
-        ErrorKind::OutOfMemory => ScriptFault::Memory,
-        _ => ScriptFault::Write,
+        self.output.put(self.line.as_str())?;
+        Ok(())
     }
 }

@@ -3,7 +3,8 @@
 
 use ipc_access::UserFault;
 use ipc_core::{Field, Limits};
-use ipc_script::{ScriptFault, limits_of_words, run_script};
+use ipc_program::limits_of_words;
+use ipc_script::{ScriptFault, run_script};
 use std::alloc::{AllocError, Global};
 use std::cell::Cell;
 use std::io;

@@ -5,7 +5,8 @@
 mod guidance;
 
 use guidance::{help_text, hint};
-use ipc_script::{ProgramFault, limits_of_words, run_script};
+use ipc_program::{ProgramFault, limits_of_words};
+use ipc_script::run_script;
 use std::env;
 use std::process::ExitCode;
 

@@ -1,6 +1,7 @@
 //! One script, and what it must write.
 
-use ipc_script::{ProgramFault, limits_of_words, run_script};
+use ipc_program::{ProgramFault, limits_of_words};
+use ipc_script::run_script;
 use std::alloc::{AllocError, Global};
 use std::rt::Files;
 use std::{fs, io};

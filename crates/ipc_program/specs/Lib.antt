@@ -1,0 +1,3 @@
+pub mod Options
+pub mod Faults
+pub mod Statuses

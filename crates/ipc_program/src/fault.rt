@@ -1,0 +1,105 @@
+//! Why a program that runs a script ends.
+
+ghost use Rattle.std.specs.Prelude.{◌≡◌};
+ghost use Rattle.std.specs.IoError.{error_kind};
+ghost use Rattle.clap.specs.Words.{kind_of};
+ghost use Rattle.ipc_script.specs.declared.fault.ScriptFault.TheVariants.{Memory};
+ghost use Rattle.ipc_program.specs.declared.fault.ProgramFault.TheVariants.{Script};
+ghost use Rattle.ipc_program.specs.Faults.{of_arguments, of_reading};
+ghost use Rattle.ipc_program.specs.Statuses.{status_of_fault, status_of_arguments};
+
+use clap::error::ErrorKind;
+use ipc_script::ScriptFault;
+use std::alloc::AllocError;
+use std::{fmt, io};
+
+/// Why a program ends before the end of its script, or without one.
+#[derive(Debug, Drop)]
+pub enum ProgramFault {
+    /// The arguments ask for nothing that there is, or for help.
+    Arguments(clap::Error),
+    /// An argument isn't UTF-8.
+    NotUtf8,
+    Script(ScriptFault),
+}
+
+impl ProgramFault {
+    /// The status to exit with.
+    pub fn status(&self) -> u8
+        ensures { result ≡ status_of_fault self.now }
+    {
+        match self {
+            ProgramFault::Arguments(error) => status_of_arguments(error.kind()),
+            ProgramFault::NotUtf8 => 2,
+            ProgramFault::Script(fault) => fault.status(),
+        }
+    }
+
+    /// Says why: help and the version on standard output, all else on standard error. One that can't
+    /// be written to is passed over.
+    pub fn print(&self, rt: &(impl Print + Eprint)) {
+        let _ = match self.status() {
+            0 => rt.print(self),
+            _ => rt.eprint(self),
+        };
+    }
+}
+
+/// The text for a person, with its line ends.
+impl fmt::Display for ProgramFault {
+    fn fmt<W: fmt::Write>(&self, f: &mut fmt::Formatter<W>) -> fmt::Result {
+        match self {
+            ProgramFault::Arguments(error) => write!(f, "{error}"),
+            ProgramFault::NotUtf8 => f.write_str("error: an argument is not UTF-8\n"),
+            ProgramFault::Script(fault) => writeln!(f, "mqserve: {fault}"),
+        }
+    }
+}
+
+fn status_of_arguments(kind: ErrorKind) -> u8
+    ensures { result ≡ status_of_arguments kind }
+{
+    match kind {
+        ErrorKind::DisplayHelp | ErrorKind::DisplayVersion => 0,
+        _ => 2,
+    }
+}
+
+impl From<AllocError> for ProgramFault {
+    ghost from_gives = { λ _ made. made ≡ Script Memory };
+
+    fn from(_error: AllocError) -> Self {
+        ProgramFault::Script(ScriptFault::Memory)
+    }
+}
+
+impl From<clap::Error> for ProgramFault {
+    ghost from_gives = { λ error made. made ≡ of_arguments error (kind_of error) };
+
+    fn from(error: clap::Error) -> Self {
+        match error.kind() {
+            ErrorKind::OutOfMemory => ProgramFault::Script(ScriptFault::Memory),
+            _ => ProgramFault::Arguments(error),
+        }
+    }
+}
+
+/// Of reading the arguments.
+impl From<io::Error> for ProgramFault {
+    ghost from_gives = { λ error made. made ≡ of_reading (error_kind error) };
+
+    fn from(error: io::Error) -> Self {
+        match error.kind() {
+            io::ErrorKind::OutOfMemory => ProgramFault::Script(ScriptFault::Memory),
+            _ => ProgramFault::NotUtf8,
+        }
+    }
+}
+
+impl From<ScriptFault> for ProgramFault {
+    ghost from_gives = { λ fault made. made ≡ Script fault };
+
+    fn from(fault: ScriptFault) -> Self {
+        ProgramFault::Script(fault)
+    }
+}

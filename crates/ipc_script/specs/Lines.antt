@@ -1,9 +1,0 @@
--- What is left of a reader's reads.
-use Rattle.std.specs.Prelude.{ℕ}
-use Rattle.std.specs.Io.Buffered.{reader_inner}
-use Rattle.std.specs.Io.Take.{take_inner}
-use Rattle.ipc_script.specs.declared.lines.Lines.{Lines}
-
--- how many more reads are made at most
-abbrev pub reads_left : {R : Type 0} → Lines R → ℕ
-reads_left lines = (reader_inner (take_inner lines.input)).left
