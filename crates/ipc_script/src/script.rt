@@ -5,6 +5,7 @@ ghost use Rattle.std.specs.String.{string_bytes};
 ghost use Rattle.ipc_script.specs.Faults.{is_users_memory};
 ghost use Rattle.ipc_script.specs.Labels.{label_for, newest_of};
 ghost use Rattle.ipc_script.specs.Steps.{AsksFor, labelled_line};
+ghost use Rattle.ipc_words.specs.FaultLines.{fault_line};
 
 use crate::fault::ScriptFault;
 use crate::labels::{Labels, is_label};
@@ -12,7 +13,7 @@ use ipc_access::Users;
 use ipc_core::{Config, Core, Limits};
 use ipc_lines::{Lines, Output, words_of};
 use ipc_terms::{Answer, Event, NoMemory, Sid};
-use ipc_words::{WordFault, call_of_words, line_of_answer};
+use ipc_words::{WordFault, call_of_words, put_fault, put_line};
 use std::alloc::{AllocError, Global};
 use std::io::{Read, Write};
 
@@ -93,14 +94,32 @@ struct Script<W: Write + Drop> {
     line: String,
 }
 
-/// Lays out a line: a label, a text, and a line end.
-fn lay_line(line: &mut String, label: &str, text: &str) -> Result<(), AllocError>
-    ensures { OnOk result (string_bytes line.new ≡ label.now ++ codes " " ++ text.now ++ codes "\n") }
+/// Begins a line: a label, and a space.
+fn begin_line(line: &mut String, label: &str) -> Result<(), AllocError>
+    ensures { OnOk result (string_bytes line.new ≡ label.now ++ codes " ") }
 {
     line.clear();
     line.push_str(label)?;
     line.push_str(" ")?;
-    line.push_str(text)?;
+    Ok(())
+}
+
+/// Lays out a line: a label, an answer, and a line end.
+fn lay_answer(line: &mut String, label: &str, answer: &Answer) -> Result<(), NoMemory>
+    ensures { OnOk result (string_bytes line.new ≡ labelled_line label.now answer.now) }
+{
+    begin_line(line, label)?;
+    put_line(line, answer)?;
+    line.push_str("\n")?;
+    Ok(())
+}
+
+/// Lays out a line: a label, the fault of the words behind it, and a line end.
+fn lay_fault(line: &mut String, label: &str, fault: &WordFault) -> Result<(), NoMemory>
+    ensures { OnOk result (string_bytes line.new ≡ label.now ++ codes " " ++ fault_line fault.now ++ codes "\n") }
+{
+    begin_line(line, label)?;
+    put_fault(line, fault)?;
     line.push_str("\n")?;
     Ok(())
 }
@@ -149,7 +168,10 @@ impl<W: Write + Drop> Script<W> {
         let words = words_of(self.alloc, line)?;
         match words.split_first() {
             Some((label, asked)) if is_label(label) => self.ask(label, asked),
-            _ => self.write_line("-", "fault line"),
+            _ => {
+                self.output.put("- fault line\n")?;
+                Ok(())
+            }
         }
     }
 
@@ -161,8 +183,8 @@ impl<W: Write + Drop> Script<W> {
             Ok(event) => self.step(label, event),
             Err(WordFault::NoMemory) => Err(ScriptFault::Memory),
             Err(fault) => {
-                let text = format!(in self.alloc; "fault {fault}")?;
-                self.write_line(label, text.as_str())
+                lay_fault(&mut self.line, label, &fault)?;
+                self.put()
             }
         }
     }
@@ -232,17 +254,8 @@ impl<W: Write + Drop> Script<W> {
         ensures { OnOk result (string_bytes self.new.line
             ≡ labelled_line (label_for self.old.labels label.now sid) answer.now) }
     {
-        let text = line_of_answer(self.alloc, answer)?;
         let label = self.labels.starter(sid).unwrap_or(label);
-        lay_line(&mut self.line, label, text.as_str())?;
-        Ok(())
-    }
-
-    fn write_line(&mut self, label: &str, text: &str) -> Result<(), ScriptFault>
-        ensures { IfErr result (λ fault. is_users_memory fault ≡ false) }
-    {
-        lay_line(&mut self.line, label, text)?;
-        self.put()
+        lay_answer(&mut self.line, label, answer)
     }
 
     /// Puts the line that was laid out into the block.
