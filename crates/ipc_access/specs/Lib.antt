@@ -4,3 +4,4 @@ pub mod UserLine
 pub mod UserFile
 pub mod Sticky
 pub mod Ownership
+pub mod Places

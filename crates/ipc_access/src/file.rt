@@ -2,12 +2,13 @@
 
 ghost use Rattle.std.specs.Prelude.{◌≡◌, ◌+◌, ◌≢◌, IfOk, IfErr, Some, None, length, map, nat_lt};
 ghost use Rattle.ipc_access.specs.UserLine.{user_of};
-ghost use Rattle.ipc_access.specs.UserFile.{ends_empty, lines_of, users_of, has_name, has_key, has_uid, fault_after, fault_of_user, user_fault};
+ghost use Rattle.ipc_access.specs.Places.{AreOf, fault_among};
+ghost use Rattle.ipc_access.specs.UserFile.{ends_empty, lines_of, users_of, fault_after, user_fault};
 
 use crate::fault::UserFault;
 use crate::line::{parts_of, user_of};
+use crate::seen::Seen;
 use crate::users::{User, Users};
-use ipc_terms::Uid;
 use std::alloc::{AllocError, Global};
 
 /// The most users that a file may have.
@@ -29,11 +30,14 @@ impl Users {
     {
         let lines = lines_of(alloc, bytes)?;
         let mut rows = Vec::new(alloc);
+        let mut seen = Seen::new(alloc);
         for line in &lines {
-            let user = next_user(alloc, &rows, line)?;
+            let user = next_user(alloc, &seen, &rows, line)?;
+            seen.add(alloc, &user)?;
             rows.push(user)?;
         }
-        Ok(Users::from_rows(rows))
+        let Seen { keys, ids, .. } = seen;
+        Ok(Users::from_parts(rows, keys, ids))
     }
 }
 
@@ -57,9 +61,11 @@ fn ends_empty(pieces: &[&[u8]]) -> bool
 }
 
 /// The user that the next line spells, after lines that spell these users.
-fn next_user(alloc: Global, earlier: &[User], line: &[u8]) -> Result<User, UserFault>
+fn next_user(alloc: Global, seen: &Seen, earlier: &[User], line: &[u8]) -> Result<User, UserFault>
+    requires { AreOf seen.now earlier.now }
     ensures user { IfOk result (λ user. user_of line.now ≡ Some user) }
     ensures faultless { IfOk result (λ _. fault_after earlier.now (length earlier.now + 1) line.now ≡ None) }
+    ensures unseen { IfOk result (λ user. fault_among seen.now 0 user ≡ None) }
     ensures fault { IfErr result (λ fault. fault ≢ UserFault.NoMemory → fault_after earlier.now (length earlier.now + 1) line.now ≡ Some fault) }
 {
     if is_full(earlier) {
@@ -69,7 +75,7 @@ fn next_user(alloc: Global, earlier: &[User], line: &[u8]) -> Result<User, UserF
     let Some(user) = user_of(alloc, line)? else {
         return Err(UserFault::BadLine(number));
     };
-    match fault_of(earlier, number, &user) {
+    match seen.fault_of(number, &user) {
         Some(fault) => Err(fault),
         None => Ok(user),
     }
@@ -80,37 +86,4 @@ fn is_full(users: &[User]) -> bool
     ensures { result ≡ nat_lt 4096 (length users.now + 1) }
 {
     users.len() >= MOST_USERS
-}
-
-/// What is wrong with the user of the line of this number, behind these.
-fn fault_of(earlier: &[User], number: u64, user: &User) -> Option<UserFault>
-    ensures { result ≡ fault_of_user earlier.now number (Some user.now) }
-{
-    if has_name(earlier, user.name.as_slice()) {
-        Some(UserFault::DuplicateName(number))
-    } else if has_key(earlier, user.key.as_slice()) {
-        Some(UserFault::DuplicateKey(number))
-    } else if has_uid(earlier, user.cred.uid) {
-        Some(UserFault::DuplicateUid(number))
-    } else {
-        None
-    }
-}
-
-fn has_name(users: &[User], name: &[u8]) -> bool
-    ensures { result ≡ has_name users.now name.now }
-{
-    users.iter().any(|user| user.name.as_slice() == name)
-}
-
-fn has_key(users: &[User], key: &[u8]) -> bool
-    ensures { result ≡ has_key users.now key.now }
-{
-    users.iter().any(|user| user.key.as_slice() == key)
-}
-
-fn has_uid(users: &[User], uid: Uid) -> bool
-    ensures { result ≡ has_uid users.now uid.0 }
-{
-    users.iter().any(|user| user.cred.uid.0 == uid.0)
 }

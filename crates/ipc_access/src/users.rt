@@ -2,10 +2,11 @@
 
 ghost use Rattle.std.specs.Prelude.{◌≡◌};
 ghost use Rattle.std.specs.Option.{option_copied};
-ghost use Rattle.ipc_terms.specs.Names.{same_name};
 ghost use Rattle.ipc_access.specs.Users.{user_of_key, cred_of};
+ghost use Rattle.ipc_access.specs.Places.{ids_of, Follow};
 
 use crate::class::Cred;
+use crate::places::{Texts, UserIds};
 use ipc_terms::{Bytes, Uid};
 use std::marker::Model;
 
@@ -17,27 +18,34 @@ pub struct User {
     pub cred: Cred,
 }
 
-/// All users, in the order of the user file; seen as their list.
+/// All users, in the order of the user file; seen as their list. None is looked for by a walk.
 #[derive(Drop)]
 pub struct Users {
     rows: Vec<User>,
+    keys: Texts,
+    ids: UserIds,
 }
 
 impl Model for Users {
     ghost use Rattle.std.specs.Prelude.{List};
     ghost use Rattle.ipc_access.specs.declared.users.User.{User};
+    ghost use Rattle.ipc_access.specs.Places.{Follow};
 
     ghost Value = { List User };
 
     ghost view = { λ a. a.rows.items };
+
+    ghost invariant = { λ a. Follow a.keys a.ids a.rows.items };
 }
 
 impl Users {
-    /// These users. Only `read` makes them, so that no two share a name, a key or a user ID.
-    pub(crate) fn from_rows(rows: Vec<User>) -> Self
+    /// These users, with their keys and IDs. Only `read` makes them, so that no two share a name, a key or a user
+    /// ID. Takes no memory.
+    pub(crate) fn from_parts(rows: Vec<User>, keys: Texts, ids: UserIds) -> Self
+        requires { Follow keys ids rows.items }
         ensures { result ≡ rows.items }
     {
-        Users { rows }
+        Users { rows, keys, ids }
     }
 
     pub fn as_slice(&self) -> &[User]
@@ -46,39 +54,28 @@ impl Users {
         self.rows.as_slice()
     }
 
+    /// Their user IDs, in their order.
+    pub fn ids(&self) -> &UserIds
+        ensures { result.now ≡ ids_of self.now }
+    {
+        &self.ids
+    }
+
     /// The user whose key this is.
     pub fn find(&self, key: &[u8]) -> Option<Uid>
         ensures { result ≡ user_of_key self.now key.now }
     {
-        find_key(&self.rows, key)
+        let place = self.keys.place(key)?;
+        let user = self.rows.get(place)?;
+        Some(user.cred.uid)
     }
 
     /// The credentials of the user of this ID.
     pub fn cred(&self, uid: Uid) -> Option<&Cred>
         ensures { option_copied result ≡ cred_of self.now uid }
     {
-        find_cred(&self.rows, uid)
+        let place = self.ids.place(uid)?;
+        let user = self.rows.get(place)?;
+        Some(&user.cred)
     }
-}
-
-fn find_key(rows: &[User], key: &[u8]) -> Option<Uid>
-    ensures { result ≡ user_of_key rows.now key.now }
-{
-    rows.iter()
-        .find(|user| is_key(user, key))
-        .map(|user| user.cred.uid)
-}
-
-fn is_key(user: &User, key: &[u8]) -> bool
-    ensures { result ≡ same_name user.now.key key.now }
-{
-    user.key.as_slice() == key
-}
-
-fn find_cred(rows: &[User], uid: Uid) -> Option<&Cred>
-    ensures { option_copied result ≡ cred_of rows.now uid }
-{
-    rows.iter()
-        .find(|user| user.cred.uid.0 == uid.0)
-        .map(|user| &user.cred)
 }

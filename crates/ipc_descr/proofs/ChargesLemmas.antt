@@ -1,17 +1,16 @@
 -- What is known of a user's charge is known of the one at its place, and where the charges stand.
-use Rattle.std.proofs.Common.{◌≡◌, ℕ, ◌+◌, ◌-◌, ◌≤◌, ◌<◌, cond, List, Option, Some, get_or, drop, length, find, position, sym, ap, ◌∙◌, subst, arith}
-use Rattle.std.specs.BTreeMap.{is_at}
-use Rattle.std.specs.List.{position_from}
-use Rattle.std.specs.Ordering.{nat_cmp}
+use Rattle.std.proofs.Common.{◌≡◌, ℕ, zero, suc, ◌+◌, ◌≤◌, List, [], ◌∷◌, Option, Some, get_or, set, map, nat_eq, find, position, refl, sym, ap, ◌∙◌, subst, arith}
 use Rattle.std.specs.Option.{option_map_or}
-use Rattle.std.proofs.lemmas.Iterator.Adapters.{position_from-zero}
-use Rattle.std.proofs.lemmas.List.{drop_more}
+use Rattle.std.proofs.lemmas.Bool.Decides.{nat_tests}
 use Rattle.std.proofs.lemmas.List.Quantifiers.{position-Some}
 use Rattle.std.proofs.lemmas.Option.{slice_get-get_or, get_or_from_slice_get}
 use Rattle.ipc_terms.proofs.Changing.{place_found}
 use Rattle.ipc_descr.specs.declared.charges.Charge.{Charge}
-use Rattle.ipc_descr.specs.Charges.{is_user, charge_of, used_of, limit_of}
-use Rattle.ipc_descr.proofs.PlacesLemmas.{is_at_number}
+use Rattle.ipc_access.specs.declared.users.User.{User}
+use Rattle.ipc_access.specs.Places.{ids_of}
+use Rattle.ipc_access.proofs.PlaceLemmas.{position_map}
+use Rattle.ipc_descr.specs.Charges.{is_user, charge_of, used_of, limit_of, uncharged}
+use Rattle.ipc_descr.specs.UserPlaces.{AreOfCharges}
 
 found : (rows charges : List Charge) (u i : ℕ) (x : Charge) → rows ≡ charges → position (is_user u) rows ≡ Some i → x ≡ get_or rows i x → charge_of charges u ≡ Some x
 found rows charges u i x same place is = ap (find (is_user u)) (sym same) ∙ place_found (is_user u) rows i x place is
@@ -33,15 +32,28 @@ at_place rows u i d e =
     let within = position-Some (is_user u) rows i d e in
     sym (place_found (is_user u) rows i charge e (sym (get_or_from_slice_get rows i charge charge (slice_get-get_or rows i d within.0))))
 
--- ---- the places are entered from the last on
+-- ---- where the charges stand
 
-step : (rows : List Charge) (i u : ℕ) (d : Charge) (later : Option ℕ) → i < length rows → later ≡ position_from (is_user u) (i + 1) (drop (i + 1) rows) → cond (is_at (nat_cmp (get_or rows i d).uid.0) u) (Some i) later ≡ position_from (is_user u) i (drop i rows)
-step rows i u d later within is = rw (is_at_number (get_or rows i d).uid.0 u, is) (sym (ap (position_from (is_user u) i) (drop_more rows i d within)))
+id_turned : (u : ℕ) (charge : Charge) → nat_eq u charge.uid.0 ≡ is_user u charge
+id_turned u charge = grind (arith, nat_tests)
 
-pub one_entered : (rows : List Charge) (n u : ℕ) (d : Charge) (later : Option ℕ) → 1 ≤ n → n ≤ length rows → later ≡ position_from (is_user u) n (drop n rows) → cond (is_at (nat_cmp (get_or rows (n - 1) d).uid.0) u) (Some (n - 1)) later ≡ position_from (is_user u) (n - 1) (drop (n - 1) rows)
-one_entered rows n u d later some within is =
-    let same : n ≡ n - 1 + 1 = omega arith in
-    step rows (n - 1) u d later (omega arith) (is ∙ ap (λ i. position_from (is_user u) i (drop i rows)) same)
+-- an ID stands among the charges' IDs where its charge stands
+pub leads : (ids : List ℕ) (charges : List Charge) (u : ℕ) → AreOfCharges ids charges → position (nat_eq u) ids ≡ position (is_user u) charges
+leads ids charges u are = ap (position (nat_eq u)) are ∙ position_map (is_user u) (nat_eq u) (λ charge. charge.uid.0) charges (id_turned u)
 
-pub all_entered : (rows : List Charge) (n u : ℕ) → n ≤ 0 → position_from (is_user u) n (drop n rows) ≡ position (is_user u) rows
-all_entered rows n u none = let first : n ≡ 0 = omega arith in rw first (sym (position_from-zero (is_user u) rows))
+uncharged_ids : (users : List User) → ids_of users ≡ map (λ (charge : Charge). charge.uid.0) (map uncharged users)
+uncharged_ids [] = refl
+uncharged_ids (user ∷ users) = ap (λ l. user.cred.uid.0 ∷ l) (uncharged_ids users)
+
+-- the users' IDs are those of their charges before any has queues
+pub ids_of_users : (ids : List ℕ) (users : List User) (charges : List Charge) → ids ≡ ids_of users → charges ≡ map uncharged users → AreOfCharges ids charges
+ids_of_users ids users charges are all = are ∙ uncharged_ids users ∙ ap (map (λ (charge : Charge). charge.uid.0)) (sym all)
+
+ids_set : (charges : List Charge) (i : ℕ) (x y : Charge) → x ≡ get_or charges i x → y.uid.0 ≡ x.uid.0 → map (λ (charge : Charge). charge.uid.0) (set charges i y) ≡ map (λ charge. charge.uid.0) charges
+ids_set [] i x y is same = refl
+ids_set (charge ∷ charges) zero x y is same = ap (λ u. u ∷ map (λ (charge : Charge). charge.uid.0) charges) (same ∙ ap (λ (charge : Charge). charge.uid.0) is)
+ids_set (charge ∷ charges) (suc i) x y is same = ap (λ l. charge.uid.0 ∷ l) (ids_set charges i x y is same)
+
+-- a charge that changes stays its user's
+pub ids_stay : (ids : List ℕ) (charges : List Charge) (i : ℕ) (x y : Charge) → AreOfCharges ids charges → x ≡ get_or charges i x → y.uid.0 ≡ x.uid.0 → AreOfCharges ids (set charges i y)
+ids_stay ids charges i x y are is same = are ∙ sym (ids_set charges i x y is same)

@@ -1,11 +1,7 @@
--- Where the charge of each user stands.
-use Rattle.std.specs.Prelude.{◌≡◌, ℕ, List, position}
-use Rattle.std.specs.Ordering.{nat_cmp}
-use Rattle.std.specs.BTreeMap.{BTreeMap}
-use Rattle.std.specs.BTreeMap as tree
+-- Whose the charges are.
+use Rattle.std.specs.Prelude.{◌≡◌, ℕ, List, map}
 use Rattle.ipc_descr.specs.declared.charges.Charge.{Charge}
-use Rattle.ipc_descr.specs.Charges.{is_user}
 
--- a user ID leads to its first charge, and one that has none nowhere
-abbrev pub LeadsToUsers : BTreeMap ℕ ℕ → List Charge → Type 0
-LeadsToUsers places charges = (u : ℕ) → tree.get nat_cmp places u ≡ position (is_user u) charges
+-- these are the user IDs of the charges, in their order
+abbrev pub AreOfCharges : List ℕ → List Charge → Type 0
+AreOfCharges ids charges = ids ≡ map (λ charge. charge.uid.0) charges

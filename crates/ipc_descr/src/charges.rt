@@ -1,16 +1,13 @@
 //! How many bytes each user's queues take, and how many they may.
 
 ghost use Rattle.std.specs.Prelude.{◌≡◌, ◌+◌, ◌≤◌, ◌^◌, nat_lt, if◌then◌else◌, Some, None, map, IsSome, IfOk};
-ghost use Rattle.std.specs.BTreeMap as tree;
 ghost use Rattle.std.specs.Option.{option_copied};
-ghost use Rattle.std.specs.Ordering.{nat_cmp};
 ghost use Rattle.ipc_descr.specs.Charges.{charge_of, used_of, limit_of, uncharged, raised, with_limit, with_added, with_less, bytes_of};
-ghost use Rattle.ipc_descr.specs.UserPlaces.{LeadsToUsers};
+ghost use Rattle.ipc_descr.specs.UserPlaces.{AreOfCharges};
 
-use ipc_access::{User, Users};
+use ipc_access::{User, UserIds, Users};
 use ipc_terms::{NoMemory, Uid};
 use std::alloc::Global;
-use std::collections::BTreeMap;
 use std::marker::Model;
 
 /// The bytes that a message has beside its own, and those that a priority has (`getrlimit(2)`,
@@ -29,25 +26,25 @@ pub struct Charge {
     pub used: u64,
 }
 
-/// The charge of each user, in the order of the user file; seen as their list. A map leads from a
-/// user ID to the place of its charge, so that no look-up scans. An ID that is no user's has nothing
+/// The charge of each user, in the order of the user file; seen as their list. Their user IDs are
+/// kept beside them, so that no look-up scans. An ID that is no user's has nothing
 /// used and the limit 0, which no call changes. Only `new` takes memory.
 #[derive(Drop)]
 pub struct Charges {
     rows: Vec<Charge>,
-    places: BTreeMap<u32, usize>,
+    ids: UserIds,
 }
 
 impl Model for Charges {
     ghost use Rattle.std.specs.Prelude.{List};
     ghost use Rattle.ipc_descr.specs.declared.charges.Charge.{Charge};
-    ghost use Rattle.ipc_descr.specs.UserPlaces.{LeadsToUsers};
+    ghost use Rattle.ipc_descr.specs.UserPlaces.{AreOfCharges};
 
     ghost Value = { List Charge };
 
     ghost view = { λ a. a.rows.items };
 
-    ghost invariant = { λ a. LeadsToUsers a.places a.rows.items };
+    ghost invariant = { λ a. AreOfCharges a.ids a.rows.items };
 }
 
 impl Charges {
@@ -56,29 +53,29 @@ impl Charges {
         ensures { IfOk result (λ charges. charges ≡ map uncharged users.now) }
     {
         let rows = uncharged_all(alloc, users.as_slice())?;
-        let places = places_of(alloc, &rows)?;
-        Ok(Charges { rows, places })
+        let ids = users.ids().clone()?;
+        Ok(Charges { rows, ids })
     }
 
     /// How many bytes the user's queues take.
     pub fn used(&self, uid: Uid) -> u64
         ensures { result ≡ used_of self.now uid.0 }
     {
-        find_charge(&self.rows, &self.places, uid).map_or(0, |charge| charge.used)
+        find_charge(&self.rows, &self.ids, uid).map_or(0, |charge| charge.used)
     }
 
     /// How many bytes the user's queues may take (`getrlimit(2)`, `RLIMIT_MSGQUEUE`).
     pub fn limit(&self, uid: Uid) -> u64
         ensures { result ≡ limit_of self.now uid.0 }
     {
-        find_charge(&self.rows, &self.places, uid).map_or(0, |charge| charge.limit)
+        find_charge(&self.rows, &self.ids, uid).map_or(0, |charge| charge.limit)
     }
 
     /// Sets how many bytes the user's queues may take; what they take stays, though it be more.
     pub fn set_limit(&mut self, uid: Uid, bytes: u64)
         ensures { self.new ≡ with_limit self.old uid.0 bytes }
     {
-        if let Some(place) = place_of(&self.places, uid) {
+        if let Some(place) = self.ids.place(uid) {
             let charge = &mut self.rows[place];
             charge.limit = bytes;
         }
@@ -89,7 +86,7 @@ impl Charges {
         requires { used_of self.old uid.0 + bytes ≤ limit_of self.old uid.0 }
         ensures { self.new ≡ with_added self.old uid.0 bytes }
     {
-        if let Some(place) = place_of(&self.places, uid) {
+        if let Some(place) = self.ids.place(uid) {
             let charge = self.rows[place];
             self.rows[place] = raised(charge, bytes);
         }
@@ -100,7 +97,7 @@ impl Charges {
         requires { bytes ≤ used_of self.old uid.0 }
         ensures { self.new ≡ with_less self.old uid.0 bytes }
     {
-        if let Some(place) = place_of(&self.places, uid) {
+        if let Some(place) = self.ids.place(uid) {
             let charge = self.rows[place];
             self.rows[place] = Charge {
                 used: charge.used - bytes,
@@ -164,32 +161,10 @@ fn raised(charge: Charge, bytes: u64) -> Charge
     }
 }
 
-fn find_charge<'a>(
-    rows: &'a [Charge],
-    places: &BTreeMap<u32, usize>,
-    uid: Uid,
-) -> Option<&'a Charge>
-    requires { LeadsToUsers places.now rows.now }
+fn find_charge<'a>(rows: &'a [Charge], ids: &UserIds, uid: Uid) -> Option<&'a Charge>
+    requires { AreOfCharges ids.now rows.now }
     ensures { option_copied result ≡ charge_of rows.now uid.0 }
 {
-    let place = place_of(places, uid)?;
+    let place = ids.place(uid)?;
     Some(&rows[place])
-}
-
-fn place_of(places: &BTreeMap<u32, usize>, uid: Uid) -> Option<usize>
-    ensures { result ≡ tree.get nat_cmp places.now uid.0 }
-{
-    places.get(&uid.0).copied()
-}
-
-/// Where each user's charge stands. From the last on, so that the first of an ID is the one that
-/// stays.
-fn places_of(alloc: Global, rows: &[Charge]) -> Result<BTreeMap<u32, usize>, NoMemory>
-    ensures { IfOk result (λ places. LeadsToUsers places rows.now) }
-{
-    let mut places = BTreeMap::new(alloc);
-    for place in (0..rows.len()).rev() {
-        places.insert(rows[place].uid.0, place)?;
-    }
-    Ok(places)
 }

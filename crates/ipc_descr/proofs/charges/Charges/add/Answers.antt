@@ -1,22 +1,26 @@
-use Rattle.std.proofs.Common.{◌∙◌, sym}
+use Rattle.std.proofs.Common.{◌∙◌, sym, ap}
 use Rattle.ipc_terms.proofs.Changing.{place_changed, none_changed}
+use Rattle.ipc_descr.specs.declared.charges.Charge.{Charge}
 use Rattle.ipc_descr.specs.Charges.{is_user, raised}
-use Rattle.ipc_descr.proofs.ChargesLemmas.{room}
+use Rattle.ipc_descr.proofs.ChargesLemmas.{room, leads, ids_stay}
 use Rattle.ipc_descr.proofs.charges.Charges.add.Goals as goal
 
 pub raised-requires : goal.raised-requires
 raised-requires c =
-    let place = sym (c.self.invariant c.args.uid.0) ∙ sym c.place_of.ensures ∙ c.in-Some.is in
+    let place = sym (leads c.self.inside.ids c.self.inside.rows.items c.args.uid.0 c.self.invariant) ∙ sym c.place.ensures ∙ c.in-Some.is in
     room c.self.inside.rows.items c.args.self.now c.args.uid.0 c.args.bytes c.in-Some.place c.index-charge.result.now c.self.view_is place c.index-charge.ensures c.requires
 
 pub returns-in-Some : goal.returns-in-Some
 returns-in-Some c =
     let user = is_user c.args.uid.0 in
-    let place = sym (c.self.invariant c.args.uid.0) ∙ sym c.place_of.ensures ∙ c.in-Some.is in
+    let place = sym (leads c.self.inside.ids c.self.inside.rows.items c.args.uid.0 c.self.invariant) ∙ sym c.place.ensures ∙ c.in-Some.is in
     rw (← c.self.view_is, c.raised.ensures) (place_changed user (raised c.args.bytes) c.self.inside.rows.items c.in-Some.place c.index-charge.result.now place c.index-charge.ensures)
 
 pub returns-in_default : goal.returns-in_default
 returns-in_default c =
     let user = is_user c.args.uid.0 in
-    let place = sym (c.self.invariant c.args.uid.0) ∙ sym c.place_of.ensures ∙ c.in_default.is in
+    let place = sym (leads c.self.inside.ids c.self.inside.rows.items c.args.uid.0 c.self.invariant) ∙ sym c.place.ensures ∙ c.in_default.is in
     rw (← c.self.view_is) (sym (none_changed user (raised c.args.bytes) c.self.inside.rows.items place))
+
+pub invariant_of-self : goal.invariant_of-self
+invariant_of-self c = ids_stay c.self.inside.ids c.self.inside.rows.items c.in-Some.place c.index-charge.result.now c.raised.result c.self.invariant c.index-charge.ensures (ap (λ (charge : Charge). charge.uid.0) c.raised.ensures)
