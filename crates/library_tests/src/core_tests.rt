@@ -257,4 +257,9 @@ fn the_laws_are_there(_rt: HostRuntime) {
     laws::within_limit();
     laws::confined();
     laws::once();
+    laws::each_is_added();
+    laws::all_is_kept();
+    laws::take_is_its_own();
+    laws::answered();
+    laws::sized();
 }

@@ -2,7 +2,7 @@
 
 use crate::made::shows;
 use ipc_access::UserFault;
-use ipc_core::Field;
+use ipc_core::{CoreFault, Field};
 use ipc_script::ScriptFault;
 use ipc_terms::NoMemory;
 use ipc_wire::{ReadFault, WireFault, WriteFault};
@@ -31,6 +31,21 @@ fn faults_have_words_and_statuses(rt: HostRuntime) -> Result<(), Fail> {
         if fault.status() != *status {
             return Err(Fail::new(format_args!("{words} has another status")));
         }
+    }
+    Ok(())
+}
+
+static CORE_FAULTS: [(CoreFault, &str); 4] = [
+    (CoreFault::BadConfig(Field::MsgMax), "config MsgMax"),
+    (CoreFault::BadConfig(Field::MsgsizeMax), "config MsgsizeMax"),
+    (CoreFault::BadConfig(Field::QueuesMax), "config QueuesMax"),
+    (CoreFault::NoMemory, "memory"),
+];
+
+#[test]
+fn core_faults_have_words(rt: HostRuntime) -> Result<(), Fail> {
+    for (fault, words) in &CORE_FAULTS {
+        shows(rt.alloc(), fault, words)?;
     }
     Ok(())
 }
