@@ -1,0 +1,42 @@
+use Rattle.std.proofs.Common.{Ok, Some, None, Err}
+use Rattle.ipc_wire.proofs.CutLemmas.{front-shorter}
+use Rattle.ipc_wire.proofs.OrderLemmas.{front_stands}
+use Rattle.std.specs.Prelude.{is_none}
+use Rattle.ipc_hub.proofs.StepLemmas.{at_front, front_on, left_behind, hello_refused, cut_waits, cut_fails}
+use Rattle.ipc_hub.proofs.stepping.step_frames.Goals as goal
+
+pub step_request-requires : goal.step_request-requires
+step_request-requires c =
+    let found = at_front c.frames.session c.is_none.result c.frames.rest.now (Ok (Some (c.in-Ok-Some.request, c.in-Ok-Some.behind.now))) c.is_none.ensures (rw c.in-Ok-Some.field-0-is at c.in-Ok-Some.ensures) in
+    front_stands (is_none c.frames.session) c.frames.rest.now c.in-Ok-Some.request c.in-Ok-Some.behind.now found
+
+pub frames-smaller : goal.frames-smaller
+frames-smaller c = front-shorter c.is_none.result c.frames.rest.now c.in-Ok-Some.request c.in-Ok-Some.behind.now (rw c.in-Ok-Some.field-0-is at c.in-Ok-Some.ensures)
+
+pub frames-preserved : goal.frames-preserved
+frames-preserved c =
+    let found = at_front c.frames.session c.is_none.result c.frames.rest.now (Ok (Some (c.in-Ok-Some.request, c.in-Ok-Some.behind.now))) c.is_none.ensures (rw c.in-Ok-Some.field-0-is at c.in-Ok-Some.ensures) in
+    record {
+      frames = front_on c.args.core.now c.frames.core c.step_request.new.core c.args.session.now c.frames.session c.args.bytes.now c.frames.rest.now c.in-Ok-Some.behind.now c.in-Ok-Some.request c.in-Ok-Some-step_request.sid c.frames.invariant.frames found (rw c.in-Ok-Some-step_request.field-0-is at c.in-Ok-Some-step_request.ensures.session) c.in-Ok-Some-step_request.ensures.ok;
+      rest = left_behind (is_none c.frames.session) c.args.bytes.now c.frames.rest.now c.in-Ok-Some.behind.now c.in-Ok-Some.request c.frames.invariant.rest found;
+    }
+
+pub returns-in-Ok-None-step_request-clause-steps : goal.returns-in-Ok-None-step_request-clause-steps
+returns-in-Ok-None-step_request-clause-steps c =
+    let found = at_front c.frames.session c.is_none.result c.frames.rest.now (Ok (Some (c.in-Ok-Some.request, c.in-Ok-Some.behind.now))) c.is_none.ensures (rw c.in-Ok-Some.field-0-is at c.in-Ok-Some.ensures) in
+    hello_refused c.args.core.now c.frames.core c.step_request.new.core c.args.session.now c.frames.session c.args.bytes.now c.frames.rest.now c.in-Ok-Some.behind.now c.in-Ok-Some.request c.frames.invariant.frames found (rw c.in-Ok-None-step_request.field-0-is at c.in-Ok-None-step_request.ensures.session) c.in-Ok-None-step_request.ensures.ok
+
+pub returns-in-Ok-None-clause-steps : goal.returns-in-Ok-None-clause-steps
+returns-in-Ok-None-clause-steps c =
+    let found = at_front c.frames.session c.is_none.result c.frames.rest.now (Ok None) c.is_none.ensures (rw c.in-Ok-None.field-0-is at c.in-Ok-None.ensures) in
+    (c.frames.invariant.frames, cut_waits (is_none c.frames.session) c.frames.rest.now found)
+
+pub returns-in-Ok-clause-steps : goal.returns-in-Ok-clause-steps
+returns-in-Ok-clause-steps c =
+    let found = at_front c.frames.session c.is_none.result c.frames.rest.now (Err c.in-Err-Wire.fault) c.is_none.ensures (rw c.in-Err-Wire.field-0-is at c.in-Err-Wire.ensures) in
+    record {
+      middle = c.frames.core;
+      frames = c.frames.invariant.frames;
+      fault_is = cut_fails (is_none c.frames.session) c.frames.rest.now c.in-Err-Wire.fault found;
+      hung_up = c.in-Ok.ensures.ok;
+    }

@@ -1,0 +1,192 @@
+-- A hub: many connections over one core. What is seen of it, and what each of its calls makes of it, in the words of
+-- frames (`cut`, `spell_answer`) and of the core (`after_steps`).
+use Rattle.std.specs.Prelude.{◌≡◌, Bool, true, false, ℕ, List, [], ◌∷◌, ◌++◌, map, take, slice_get, slice_set, Option, Some, None, is_none, is_some, unwrap_or, if◌then◌else◌, MatchOption}
+use Rattle.ipc_terms.specs.Lists.{changed}
+use Rattle.ipc_terms.specs.declared.ids.Sid.{Sid}
+use Rattle.ipc_terms.specs.declared.call.Answer.{Answer}
+use Rattle.ipc_terms.specs.declared.call.Answer.TheVariants.{Refused}
+use Rattle.ipc_terms.specs.declared.record.Event.{Event}
+use Rattle.ipc_terms.specs.declared.record.Event.TheVariants as event
+use Rattle.ipc_terms.specs.declared.rule.Rule.TheVariants as rule
+use Rattle.ipc_access.specs.Users.{user_of_key}
+use Rattle.ipc_policy.specs.declared.config.Config.{Config}
+use Rattle.ipc_policy.specs.Sessions.{hellos}
+use Rattle.ipc_policy.specs.Verdict.{verdict}
+use Rattle.ipc_core.specs.Boxes.{box_at, taken}
+use Rattle.ipc_core.specs.Outboxes.{after_steps}
+use Rattle.ipc_core.specs.State.{State}
+use Rattle.ipc_fields.specs.Field.{◌⊕◌}
+use Rattle.ipc_fields.specs.declared.fault.WireFault.{WireFault}
+use Rattle.ipc_wire.specs.declared.request.Request.{Request}
+use Rattle.ipc_wire.specs.declared.request.Request.TheVariants as request
+use Rattle.ipc_wire.specs.Streams.{Cut, cut, after, spell_answer}
+use Rattle.ipc_hub.specs.declared.fed.Fed.{Fed}
+use Rattle.ipc_hub.specs.declared.fed.Fed.TheVariants.{Done, Short, Over}
+use Rattle.ipc_hub.specs.declared.fed.End.TheVariants.{Wire, BadKey}
+use Rattle.ipc_hub.specs.declared.fed.HubFault.{HubFault}
+use Rattle.ipc_hub.specs.declared.fed.HubFault.TheVariants.{NoSuchConn, Ended, NoMemory}
+
+-- ---- what is seen of a hub
+
+-- kept: its stream from the first frame on that was not stepped yet. session: the one that its hello started.
+-- has_refusal: whether its hello was refused, and the refusal was not taken yet. is_over: whether it was hung up, a
+-- fault came, or its hello was refused.
+pub record Connection : Type 0 where
+  pub kept : List ℕ
+  pub session : Option Sid
+  pub has_refusal : Bool
+  pub is_over : Bool
+
+-- the connections stand by their numbers
+pub record Hub : Type 0 where
+  pub core : State
+  pub connections : List Connection
+
+-- a connection of which nothing has come
+abbrev pub new_connection : Connection
+new_connection = record { kept = []; session = None; has_refusal = false; is_over = false }
+
+-- a hub with nothing in its trail and no connection
+abbrev pub new_hub : Config → Hub
+new_hub c = record { core = record { config = c; history = []; untaken = [] }; connections = [] }
+
+-- one more connection
+abbrev pub with_connection : Hub → Hub
+with_connection hub = record hub { connections = hub.connections ++ new_connection ∷ [] }
+
+-- ---- its answers
+
+-- what a session was answered and has not taken; nothing, where there is none
+abbrev pub untaken_of : State → Option Sid → List Answer
+untaken_of a None = []
+untaken_of a (Some sid) = box_at a.untaken sid.0
+
+-- what a connection was answered and has not taken: its refusal alone, or what its session was answered
+abbrev pub untaken : State → Connection → List Answer
+untaken a x = if x.has_refusal then Refused rule.BadKey ∷ [] else untaken_of a x.session
+
+-- the spellings of answers, one after another; none, where an answer has none
+abbrev pub spell_answers : List Answer → Option (List ℕ)
+spell_answers [] = Some []
+spell_answers (answer ∷ answers) = spell_answer answer ⊕ spell_answers answers
+
+-- ---- its requests
+
+-- the session whose requests a connection's are: its own, or, before its hello, the next to start
+abbrev pub session_or_next : State → Option Sid → Sid
+session_or_next a session = unwrap_or session (record { 0 = hellos a.history })
+
+-- a request of a session as an event: a hello finds the user whose key it brings
+abbrev pub event_of : Config → Sid → Request → Event
+event_of c sid (request.Hello key) = event.Hello (user_of_key c.users key)
+event_of c sid (request.Do call) = event.Do sid call
+
+abbrev pub events_of : State → Option Sid → List Request → List Event
+events_of a session requests = map (event_of a.config (session_or_next a session)) requests
+
+-- the hang-up of a session, where there is one
+abbrev pub hang_up_of : Option Sid → List Event
+hang_up_of None = []
+hang_up_of (Some sid) = event.Hangup sid ∷ []
+
+-- whether the first of these requests is a hello that is refused
+abbrev pub is_hello_refused : State → Option Sid → List Request → Bool
+is_hello_refused a (Some sid) requests = false
+is_hello_refused a None [] = false
+is_hello_refused a None (hello ∷ requests) = is_some (verdict a.config a.history (event_of a.config (session_or_next a None) hello))
+
+-- the session of a connection whose requests these were
+abbrev pub session_after : State → Option Sid → List Request → Option Sid
+session_after a session [] = session
+session_after a session (first ∷ requests) = Some (session_or_next a session)
+
+-- the requests are stepped in order, and no hello among them is refused
+pub record Steps (a : State) (session : Option Sid) (requests : List Request) (b : State) (session' : Option Sid) : Type 0 where
+  pub accepted : is_hello_refused a session requests ≡ false
+  pub core : b ≡ after_steps (events_of a session requests) a
+  pub session_is : session' ≡ session_after a session requests
+
+-- ---- what a feed answers: from core a and connection x, whose stream is cut so, to core b and connection y
+
+-- all requests of the whole frames are stepped, and the rest is kept; no fault stands in front of it
+pub record StepsAll (a : State) (x : Connection) (c : Cut) (b : State) (y : Connection) : Type 0 where
+  pub steps : Steps a x.session c.requests b y.session
+  pub no_fault : c.fault ≡ None
+  pub connection : y ≡ record x { kept = c.rest; session = y.session }
+
+-- the first of them are stepped, and what is kept is cut into the others
+pub record StepsSome (a : State) (x : Connection) (c : Cut) (b : State) (y : Connection) : Type 0 where
+  pub done : List Request
+  pub steps : Steps a x.session done b y.session
+  pub others : c ≡ after done (cut (is_none y.session) y.kept)
+  pub connection : y ≡ record x { kept = y.kept; session = y.session }
+
+-- all before the fault are stepped, and then the session is hung up, if there is one
+pub record EndsAtFault (fault : WireFault) (a : State) (x : Connection) (c : Cut) (b : State) (y : Connection) : Type 0 where
+  pub middle : State
+  pub steps : Steps a x.session c.requests middle y.session
+  pub hung_up : b ≡ after_steps (hang_up_of y.session) middle
+  pub fault_is : c.fault ≡ Some fault
+  pub connection : y ≡ record x { kept = []; session = y.session; is_over = true }
+
+-- the hello is stepped and refused, and nothing behind it is stepped
+pub record EndsAtHello (a : State) (x : Connection) (c : Cut) (b : State) (y : Connection) : Type 0 where
+  pub refused : is_hello_refused a x.session c.requests ≡ true
+  pub core : b ≡ after_steps (take 1 (events_of a x.session c.requests)) a
+  pub connection : y ≡ record x { kept = []; has_refusal = true; is_over = true }
+
+abbrev pub IsOutcome : Fed → State → Connection → Cut → State → Connection → Type 0
+IsOutcome Done a x c b y = StepsAll a x c b y
+IsOutcome Short a x c b y = StepsSome a x c b y
+IsOutcome (Over (Wire fault)) a x c b y = EndsAtFault fault a x c b y
+IsOutcome (Over BadKey) a x c b y = EndsAtHello a x c b y
+
+-- ---- the calls
+
+-- connection i was x and is y, and no other changes
+pub record ChangesOnly (old new : Hub) (i : ℕ) (x y : Connection) : Type 0 where
+  pub was : slice_get old.connections i ≡ Some x
+  pub others : new.connections ≡ slice_set old.connections i y
+
+-- connection i, which was not over, was fed the piece: what it kept and the piece are cut and stepped
+pub record Feeds (old : Hub) (i : ℕ) (piece : List ℕ) (fed : Fed) (new : Hub) : Type 0 where
+  pub before : Connection
+  pub later : Connection
+  pub changes : ChangesOnly old new i before later
+  pub open_before : before.is_over ≡ false
+  pub outcome : IsOutcome fed old.core before (cut (is_none before.session) (before.kept ++ piece)) new.core later
+
+-- connection i, which was not over, is; its session is hung up, if there is one, and what was not stepped is dropped
+pub record HangsUp (old : Hub) (i : ℕ) (new : Hub) : Type 0 where
+  pub before : Connection
+  pub changes : ChangesOnly old new i before (record before { kept = []; is_over = true })
+  pub open_before : before.is_over ≡ false
+  pub core : new.core ≡ after_steps (hang_up_of before.session) old.core
+
+-- the core once all that a session had not taken is taken
+abbrev pub core_after_take : State → Option Sid → State
+core_after_take a None = a
+core_after_take a (Some sid) = record a { untaken = changed taken a.untaken sid.0 }
+
+-- connection i gave the spellings of all that it had not taken
+pub record Takes (old : Hub) (i : ℕ) (bytes : List ℕ) (new : Hub) : Type 0 where
+  pub before : Connection
+  pub changes : ChangesOnly old new i before (record before { has_refusal = false })
+  pub given : spell_answers (untaken old.core before) ≡ Some bytes
+  pub core : new.core ≡ core_after_take old.core before.session
+
+-- ---- their faults
+
+-- the fault of a feed or a hang-up of this connection, apart from out of memory
+abbrev pub fault_of_change : Option Connection → Option HubFault
+fault_of_change None = Some NoSuchConn
+fault_of_change (Some x) = if x.is_over then Some Ended else None
+
+-- the fault of a take
+abbrev pub fault_of_take : Option Connection → Option HubFault
+fault_of_take None = Some NoSuchConn
+fault_of_take (Some x) = None
+
+-- the one that there is, or out of memory where there is none
+abbrev pub IsFaultOr : Option HubFault → HubFault → Type 0
+IsFaultOr found fault = MatchOption found (fault ≡ NoMemory) (λ first. fault ≡ first)

@@ -1,0 +1,4 @@
+pub mod Hub
+pub mod Sessions
+pub mod Stepping
+pub mod Laws

@@ -1,0 +1,132 @@
+//! The hub.
+
+ghost use Rattle.std.specs.Prelude.{◌≡◌, slice_get, None, length, IfOk, IfErr, OnOk, OnErr, MatchOption};
+ghost use Rattle.ipc_state.specs.Ranges.{first_bad};
+ghost use Rattle.ipc_policy.specs.Verdict.{Legal};
+ghost use Rattle.ipc_core.specs.Outboxes.{BoxesAgree};
+ghost use Rattle.ipc_hub.specs.Hub.{new_hub, with_connection, fault_of_change, fault_of_take, IsFaultOr, Feeds, HangsUp, Takes};
+ghost use Rattle.ipc_hub.specs.Sessions.{EachHasItsOwn};
+ghost use Rattle.ipc_hub.specs.declared.fed.HubFault.TheVariants.{NoMemory as Refused};
+
+use crate::connection::Connection;
+use crate::fed::{Fed, HubFault};
+use ipc_core::{Config, Core, CoreFault};
+use std::alloc::Global;
+use std::marker::Model;
+
+/// A connection of a hub, by its number: how many were opened before. No number is used twice.
+#[derive(Clone, Copy, PartialEq, Eq)]
+pub struct Conn(pub u64);
+
+/// One core and many connections. Each connection is a stream of bytes in, which are a hello's frame and then
+/// calls' frames, and a stream of bytes out, which are the frames of all that its session is answered.
+#[derive(Drop)]
+pub struct Hub {
+    core: Core,
+    connections: Vec<Connection>,
+}
+
+impl Model for Hub {
+    ghost use Rattle.ipc_hub.specs.Hub.{Hub};
+
+    ghost Value = { Hub };
+
+    ghost use Rattle.ipc_hub.specs.Sessions.{EachHasItsOwn};
+
+    ghost view = { λ h. record { core = h.core; connections = h.connections.items } };
+
+    ghost invariant = { λ h. EachHasItsOwn h.core h.connections.items };
+}
+
+impl Hub {
+    /// A hub with an empty trail and no connection, or the first limit that is out of its range, in the order
+    /// `msg_max`, `msgsize_max`, `queues_max`. An `Err` drops the configuration.
+    pub fn new(alloc: Global, config: Config) -> Result<Hub, CoreFault>
+        ensures ok { IfOk result (λ hub. hub ≡ new_hub config) }
+        ensures in_range { OnOk result (first_bad config.limits ≡ None) }
+        ensures bad { IfErr result (λ fault. MatchOption (first_bad config.limits) (fault ≡ CoreFault.NoMemory) (λ field. fault ≡ CoreFault.BadConfig field)) }
+    {
+        let core = Core::new(alloc, config)?;
+        Ok(Hub {
+            core,
+            connections: Vec::new(alloc),
+        })
+    }
+
+    /// The trail is legal, what is untaken is the last of what each session was answered while it was live, no
+    /// two connections have one session, and a session is live exactly as long as its connection is not over.
+    /// Does nothing; facts of every hub.
+    pub fn is_sound(&self)
+        ensures legal { Legal self.now.core.config self.now.core.history }
+        ensures last { BoxesAgree self.now.core.config self.now.core.history self.now.core.untaken }
+        ensures sessions { EachHasItsOwn self.now.core self.now.connections }
+    {
+        self.core.is_legal();
+        self.core.keeps_the_last();
+    }
+
+    /// A new connection. An `Err` changes nothing.
+    pub fn open(&mut self, alloc: Global) -> Result<Conn, HubFault>
+        ensures number { IfOk result (λ conn. conn.0 ≡ length self.old.connections) }
+        ensures ok { OnOk result (self.new ≡ with_connection self.old) }
+        ensures err { OnErr result (self.new ≡ self.old) }
+        ensures fault { IfErr result (λ fault. fault ≡ Refused) }
+    {
+        let conn = Conn(self.connections.len() as u64);
+        self.connections.push(Connection::new(alloc))?;
+        Ok(conn)
+    }
+
+    /// Takes a piece of the connection's stream, and steps the requests of the frames that are whole now. How far
+    /// a `Short` went is not said. An `Err` takes nothing of the piece and changes nothing.
+    pub fn feed(&mut self, alloc: Global, conn: Conn, piece: &[u8]) -> Result<Fed, HubFault>
+        ensures ok { IfOk result (λ fed. Feeds self.old conn.0 piece.now fed self.new) }
+        ensures err { OnErr result (self.new ≡ self.old) }
+        ensures fault { IfErr result (λ fault. IsFaultOr (fault_of_change (slice_get self.old.connections conn.0)) fault) }
+    {
+        let i = conn.0 as usize;
+        if self.connections.len() <= i {
+            return Err(HubFault::NoSuchConn);
+        }
+        let connection = &mut self.connections[i];
+        if connection.is_over() {
+            return Err(HubFault::Ended);
+        }
+        Ok(connection.feed(&mut self.core, alloc, piece)?)
+    }
+
+    /// Ends the connection and hangs its session up, if there is one. What was fed and not stepped is dropped;
+    /// what was answered can still be taken. An `Err` changes nothing.
+    pub fn hang_up(&mut self, alloc: Global, conn: Conn) -> Result<(), HubFault>
+        ensures ok { OnOk result (HangsUp self.old conn.0 self.new) }
+        ensures err { OnErr result (self.new ≡ self.old) }
+        ensures fault { IfErr result (λ fault. IsFaultOr (fault_of_change (slice_get self.old.connections conn.0)) fault) }
+    {
+        let i = conn.0 as usize;
+        if self.connections.len() <= i {
+            return Err(HubFault::NoSuchConn);
+        }
+        let connection = &mut self.connections[i];
+        if connection.is_over() {
+            return Err(HubFault::Ended);
+        }
+        Ok(connection.hang_up(&mut self.core, alloc)?)
+    }
+
+    /// Gives the frames of all that the connection was answered and has not taken, and leaves none; also of a
+    /// connection that is over. An `Err` changes nothing.
+    pub fn take(&mut self, alloc: Global, conn: Conn) -> Result<Vec<u8>, HubFault>
+        ensures ok { IfOk result (λ bytes. Takes self.old conn.0 bytes.items self.new) }
+        ensures err { OnErr result (self.new ≡ self.old) }
+        ensures fault { IfErr result (λ fault. IsFaultOr (fault_of_take (slice_get self.old.connections conn.0)) fault) }
+    {
+        let i = conn.0 as usize;
+        if self.connections.len() <= i {
+            return Err(HubFault::NoSuchConn);
+        }
+        self.core.is_legal();
+        self.core.keeps_the_last();
+        let connection = &mut self.connections[i];
+        Ok(connection.take(&mut self.core, alloc)?)
+    }
+}

@@ -1,0 +1,21 @@
+//! Laws of hubs. The functions do nothing when they run: what they ensure is what is proved.
+
+ghost use Rattle.ipc_hub.specs.Laws.{CutAnyWay, EachStreamIsStepped, EachOutputIsTheOutbox};
+
+/// What was stepped of a stream and what is kept of it go on, whatever comes, as if the stream had come in one
+/// piece: so a connection steps the requests of its whole stream, however that was cut.
+pub fn cut_any_way()
+    ensures { CutAnyWay }
+{}
+
+/// Whatever calls a hub made, the requests of a connection's stream that were stepped are its hello and then the calls of
+/// its session in the trail, these and no others, in order; and what is kept goes on with the next.
+pub fn stream_is_stepped()
+    ensures { EachStreamIsStepped }
+{}
+
+/// Whatever calls a hub made, what a connection gave and what it has left are together the spellings of all that its
+/// session was answered while it was live, however its stream was cut.
+pub fn output_is_the_outbox()
+    ensures { EachOutputIsTheOutbox }
+{}
