@@ -1,6 +1,6 @@
 //! What a hub keeps of a connection.
 
-ghost use Rattle.std.specs.Prelude.{◌≡◌, ◌++◌, [], false, true, length, ◌≤◌, drop, is_none, Some, IsSome, IfOk, OnOk, OnErr, vec_len};
+ghost use Rattle.std.specs.Prelude.{◌≡◌, ◌++◌, [], false, true, length, ◌≤◌, drop, is_none, Some, IsSome, IfOk, OnOk, OnErr};
 ghost use Rattle.ipc_core.specs.Outboxes.{after_steps};
 ghost use Rattle.ipc_wire.specs.Streams.{cut};
 ghost use Rattle.ipc_hub.specs.Hub.{new_connection, untaken, spell_answers, hang_up_of, IsOutcome, core_after_take};
@@ -11,6 +11,7 @@ use crate::spelling::spell_answers;
 use crate::stepping::{hang_up, step_frames};
 use ipc_core::Core;
 use ipc_terms::{Answer, NoMemory, Rule, Sid};
+use ipc_wire::remove_front;
 use std::alloc::Global;
 use std::marker::Model;
 use std::slice;
@@ -30,16 +31,6 @@ impl Model for Connection {
     ghost Value = { Connection };
 
     ghost view = { λ x. record { kept = x.kept.items; session = x.session; has_refusal = x.has_refusal; is_over = x.is_over } };
-}
-
-fn remove_front(bytes: &mut Vec<u8>, n: usize)
-    requires { n ≤ vec_len bytes.old }
-    ensures { bytes.new.items ≡ drop n bytes.old.items }
-{
-    // A drain of nothing would still move every byte.
-    if n > 0 {
-        drop(bytes.drain(..n));
-    }
 }
 
 impl Connection {
@@ -81,7 +72,7 @@ impl Connection {
         ensures { self.new ≡ connection_after fed (record self.old { kept = drop stepped self.old.kept }) }
     {
         let Fed::Over(end) = fed else {
-            remove_front(&mut self.kept, stepped);
+            remove_front(alloc, &mut self.kept, stepped);
             return;
         };
         self.kept = Vec::new(alloc);

@@ -61,10 +61,10 @@ fn still_first(first: bool, requests: &[Request]) -> bool
 }
 
 /// The most memory that a stream keeps while nothing waits in it: 1 MiB.
-const KEPT_ROOM: usize = 1_048_576;
+pub const KEPT_ROOM: usize = 1_048_576;
 
-/// Takes the first bytes away. A buffer that has grown large is given back once it is empty.
-fn remove_front(alloc: Global, bytes: &mut Vec<u8>, n: usize)
+/// Takes the first bytes of a stream away. A buffer that has grown large is given back once it is empty.
+pub fn remove_front(alloc: Global, bytes: &mut Vec<u8>, n: usize)
     requires { n ≤ vec_len bytes.old }
     ensures rest { bytes.new.items ≡ drop n bytes.old.items }
     ensures given_back { n ≡ vec_len bytes.old → vec_capacity bytes.new ≤ KEPT_ROOM }

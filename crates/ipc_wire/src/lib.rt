@@ -12,7 +12,7 @@ mod request_writing;
 
 pub use answer_reading::read_answer;
 pub use answer_writing::{put_answer, write_answer};
-pub use frames::{Frames, read_request};
+pub use frames::{Frames, KEPT_ROOM, read_request, remove_front};
 pub use ipc_fields::{MAX_BODY, ReadFault, WireFault, WriteFault};
 pub use request::Request;
 pub use request_writing::{put_request, write_request};
