@@ -6,11 +6,15 @@ mod access_tests;
 #[cfg(test)]
 mod charges_tests;
 #[cfg(test)]
+mod client_tests;
+#[cfg(test)]
 mod core_tests;
 #[cfg(test)]
 mod descriptions_tests;
 #[cfg(test)]
 mod fault_tests;
+#[cfg(test)]
+mod input_tests;
 #[cfg(test)]
 mod lines_tests;
 #[cfg(test)]

@@ -5,7 +5,7 @@ use ipc_terms::{
     Answer, Attributes, Bytes, Desc, EVERY_RULE, Facts, Gid, Line, Lines, Mode, NoMemory, Rule,
     Sid, Uid,
 };
-use ipc_words::line_of_answer;
+use ipc_words::{WordFault, line_of_answer, put_fault, put_line};
 use std::alloc::Global;
 use std::test::Fail;
 
@@ -201,6 +201,18 @@ fn answers_have_lines(rt: HostRuntime) -> Result<(), Fail> {
             return Err(Fail::new(format_args!("row {row} has another line")));
         }
     }
+    Ok(())
+}
+
+#[test]
+fn lines_are_added_to_a_text(rt: HostRuntime) -> Result<(), Fail> {
+    let mut text = String::from_str(rt.alloc(), "a ")?;
+    put_line(&mut text, &Answer::Value(7))?;
+    assert!(rt; text.as_str() == "a value 7");
+    put_fault(&mut text, &WordFault::BadValue("mode"))?;
+    assert!(rt; text.as_str() == "a value 7fault value mode");
+    put_fault(&mut text, &WordFault::Usage)?;
+    assert!(rt; text.as_str() == "a value 7fault value modefault usage");
     Ok(())
 }
 
