@@ -1,0 +1,44 @@
+//! What a hub answers to calls, a line a call.
+
+use ipc_hub::{Conn, Hub};
+use std::alloc::{AllocError, Global};
+
+/// A call of a hub on one connection.
+#[derive(Clone, Copy)]
+pub enum Call<'a> {
+    Feed(&'a [u8]),
+    HangUp,
+    /// What is taken is shown as hexadecimal digits.
+    Take,
+}
+
+pub fn line_of(alloc: Global, hub: &mut Hub, conn: Conn, call: Call) -> Result<String, AllocError> {
+    match call {
+        Call::Feed(piece) => {
+            let answer = hub.feed(alloc, conn, piece);
+            format!(in alloc; "feed {answer:?}\n")
+        }
+        Call::HangUp => {
+            let answer = hub.hang_up(alloc, conn);
+            format!(in alloc; "hang_up {answer:?}\n")
+        }
+        Call::Take => match hub.take(alloc, conn) {
+            Ok(bytes) => format!(in alloc; "take Ok({})\n", hex::encode(alloc, bytes)?),
+            Err(fault) => format!(in alloc; "take Err({fault:?})\n"),
+        },
+    }
+}
+
+/// Adds the answers to the calls.
+pub fn put_lines(
+    lines: &mut String,
+    alloc: Global,
+    hub: &mut Hub,
+    conn: Conn,
+    calls: &[Call],
+) -> Result<(), AllocError> {
+    for call in calls {
+        lines.push_str(line_of(alloc, hub, conn, *call)?.as_str())?;
+    }
+    Ok(())
+}

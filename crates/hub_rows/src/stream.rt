@@ -1,0 +1,98 @@
+//! One stream, and what a hub answers to it.
+
+use crate::answers::{Call, put_lines};
+use crate::common::{bytes_of, first_difference, new_hub, read};
+use crate::feeds::Feeds;
+use anyhow::Result;
+use ipc_hub::Hub;
+use std::alloc::{AllocError, Global};
+use std::rt::Files;
+
+/// The calls that follow the feeds of a stream.
+const CALLS: [Call; 6] = [
+    Call::Take,
+    Call::Take,
+    Call::Feed(b""),
+    Call::HangUp,
+    Call::Feed(b""),
+    Call::Take,
+];
+
+/// What the feeds came to, and the answers to the calls that follow.
+fn answers_behind(alloc: Global, hub: &mut Hub, feeds: Feeds) -> Result<String, AllocError> {
+    let mut lines = feeds.line(alloc)?;
+    put_lines(&mut lines, alloc, hub, feeds.conn, &CALLS)?;
+    Ok(lines)
+}
+
+/// What a hub answers where the stream comes in these pieces.
+fn answers_to(alloc: Global, pieces: &[&[u8]]) -> Result<String> {
+    let mut hub = new_hub(alloc)?;
+    let mut feeds = Feeds::new(hub.open(alloc)?);
+    for piece in pieces {
+        feeds.feed(&mut hub, alloc, piece);
+    }
+    Ok(answers_behind(alloc, &mut hub, feeds)?)
+}
+
+/// The same where the stream comes byte by byte, in turn with another connection's; and then what that is answered.
+fn answers_in_turn(alloc: Global, stream: &[u8], beside: &[u8]) -> Result<String> {
+    let mut hub = new_hub(alloc)?;
+    let mut feeds = Feeds::new(hub.open(alloc)?);
+    let mut others = Feeds::new(hub.open(alloc)?);
+    for at in 0..stream.len().max(beside.len()) {
+        if let Some(byte) = stream.get(at) {
+            feeds.feed(&mut hub, alloc, &[*byte]);
+        }
+        if let Some(byte) = beside.get(at) {
+            others.feed(&mut hub, alloc, &[*byte]);
+        }
+    }
+    let mut lines = answers_behind(alloc, &mut hub, feeds)?;
+    lines.push_str(others.line(alloc)?.as_str())?;
+    put_lines(&mut lines, alloc, &mut hub, others.conn, &[Call::Take])?;
+    Ok(lines)
+}
+
+/// The pieces of a stream: at 0 it is whole, and past its end it comes byte by byte.
+fn pieces_at(alloc: Global, stream: &[u8], at: usize) -> Result<Vec<&[u8]>, AllocError> {
+    if at > stream.len() {
+        return stream.chunks(1).collect(alloc);
+    }
+    let (one, other) = stream.split_at(at);
+    let mut pieces = Vec::new(alloc);
+    if !one.is_empty() {
+        pieces.push(one)?;
+    }
+    pieces.push(other)?;
+    Ok(pieces)
+}
+
+/// The first difference where the stream is whole, cut in two at some byte, or comes byte by byte.
+fn piece_differs(alloc: Global, stream: &[u8], wanted: &str) -> Result<Option<String>> {
+    for at in 0..stream.len().saturating_add(2) {
+        let pieces = pieces_at(alloc, stream, at)?;
+        let given = answers_to(alloc, &pieces)?;
+        if let Some(difference) = first_difference(alloc, given.as_str(), wanted)? {
+            return Ok(Some(format!(in alloc; "cut at {at}: {difference}")?));
+        }
+    }
+    Ok(None)
+}
+
+/// Whether the stream of this name is answered as it must be, however it comes, and else how it isn't.
+pub fn judge(rt: &(impl Files + AllocGlobal), name: &str) -> Result<String> {
+    let alloc = rt.alloc();
+    let stream = bytes_of(alloc, read(rt, name, "in")?.as_str())?;
+    let mut wanted = read(rt, name, "out")?;
+    if let Some(difference) = piece_differs(alloc, &stream, wanted.as_str())? {
+        return Ok(difference);
+    }
+    wanted.push_str(read(rt, name, "beside")?.as_str())?;
+    let beside = bytes_of(alloc, read(rt, "beside", "in")?.as_str())?;
+    let given = answers_in_turn(alloc, &stream, &beside)?;
+    match first_difference(alloc, given.as_str(), wanted.as_str())? {
+        Some(difference) => Ok(format!(in alloc; "in turn: {difference}")?),
+        None => Ok(String::from_str(alloc, "as written")?),
+    }
+}
