@@ -35,16 +35,29 @@ fn answer_to(alloc: Global, hub: &mut Hub, line: &str) -> Result<String> {
     Ok(answer?)
 }
 
+/// The answers to the calls, a line each.
+fn answers_of_calls(alloc: Global, hub: &mut Hub, calls: &str) -> Result<String> {
+    let mut given = String::new(alloc);
+    for line in calls.lines() {
+        given.push_str(answer_to(alloc, hub, line)?.as_str())?;
+    }
+    Ok(given)
+}
+
+/// The same of a new hub, which is dropped at one exit.
+fn answers_to(alloc: Global, calls: &str) -> Result<String> {
+    let mut hub = new_hub(alloc)?;
+    let given = answers_of_calls(alloc, &mut hub, calls);
+    drop(hub);
+    given
+}
+
 /// Whether the calls of this name are answered as they must be, and else where they first aren't.
 pub fn judge(rt: &(impl Files + AllocGlobal), name: &str) -> Result<String> {
     let alloc = rt.alloc();
     let calls = read(rt, name, "calls")?;
     let wanted = read(rt, name, "out")?;
-    let mut hub = new_hub(alloc)?;
-    let mut given = String::new(alloc);
-    for line in calls.as_str().lines() {
-        given.push_str(answer_to(alloc, &mut hub, line)?.as_str())?;
-    }
+    let given = answers_to(alloc, calls.as_str())?;
     match first_difference(alloc, given.as_str(), wanted.as_str())? {
         Some(difference) => Ok(difference),
         None => Ok(String::from_str(alloc, "as written")?),

@@ -25,33 +25,58 @@ fn answers_behind(alloc: Global, hub: &mut Hub, feeds: Feeds) -> Result<String, 
     Ok(lines)
 }
 
-/// What a hub answers where the stream comes in these pieces.
-fn answers_to(alloc: Global, pieces: &[&[u8]]) -> Result<String> {
-    let mut hub = new_hub(alloc)?;
+/// What the hub answers where the stream comes in these pieces.
+fn answers_in_pieces(alloc: Global, hub: &mut Hub, pieces: &[&[u8]]) -> Result<String> {
     let mut feeds = Feeds::new(hub.open(alloc)?);
     for piece in pieces {
-        feeds.feed(&mut hub, alloc, piece);
+        feeds.feed(hub, alloc, piece);
     }
-    Ok(answers_behind(alloc, &mut hub, feeds)?)
+    Ok(answers_behind(alloc, hub, feeds)?)
 }
 
-/// The same where the stream comes byte by byte, in turn with another connection's; and then what that is answered.
-fn answers_in_turn(alloc: Global, stream: &[u8], beside: &[u8]) -> Result<String> {
+/// The same of a new hub, which is dropped at one exit.
+fn answers_to(alloc: Global, pieces: &[&[u8]]) -> Result<String> {
     let mut hub = new_hub(alloc)?;
-    let mut feeds = Feeds::new(hub.open(alloc)?);
-    let mut others = Feeds::new(hub.open(alloc)?);
+    let answers = answers_in_pieces(alloc, &mut hub, pieces);
+    drop(hub);
+    answers
+}
+
+/// Feeds two connections byte by byte, in turn.
+fn feed_in_turn(
+    alloc: Global,
+    hub: &mut Hub,
+    (one, stream): (&mut Feeds, &[u8]),
+    (other, beside): (&mut Feeds, &[u8]),
+) {
     for at in 0..stream.len().max(beside.len()) {
         if let Some(byte) = stream.get(at) {
-            feeds.feed(&mut hub, alloc, &[*byte]);
+            one.feed(hub, alloc, &[*byte]);
         }
         if let Some(byte) = beside.get(at) {
-            others.feed(&mut hub, alloc, &[*byte]);
+            other.feed(hub, alloc, &[*byte]);
         }
     }
-    let mut lines = answers_behind(alloc, &mut hub, feeds)?;
+}
+
+/// What the hub answers where the stream comes byte by byte, in turn with another connection's; and then what that
+/// is answered.
+fn answers_of_both(alloc: Global, hub: &mut Hub, stream: &[u8], beside: &[u8]) -> Result<String> {
+    let mut feeds = Feeds::new(hub.open(alloc)?);
+    let mut others = Feeds::new(hub.open(alloc)?);
+    feed_in_turn(alloc, hub, (&mut feeds, stream), (&mut others, beside));
+    let mut lines = answers_behind(alloc, hub, feeds)?;
     lines.push_str(others.line(alloc)?.as_str())?;
-    put_lines(&mut lines, alloc, &mut hub, others.conn, &[Call::Take])?;
+    put_lines(&mut lines, alloc, hub, others.conn, &[Call::Take])?;
     Ok(lines)
+}
+
+/// The same of a new hub, which is dropped at one exit.
+fn answers_in_turn(alloc: Global, stream: &[u8], beside: &[u8]) -> Result<String> {
+    let mut hub = new_hub(alloc)?;
+    let answers = answers_of_both(alloc, &mut hub, stream, beside);
+    drop(hub);
+    answers
 }
 
 /// The pieces of a stream: at 0 it is whole, and past its end it comes byte by byte.
