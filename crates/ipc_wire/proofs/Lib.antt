@@ -3,5 +3,4 @@ pub mod AnswerLemmas
 pub mod SpellingLemmas
 pub mod CutLemmas
 pub mod OrderLemmas
-pub mod Removing
 pub mod SmallAnswers
