@@ -1,0 +1,46 @@
+-- The last receipt of a seat.
+use Rattle.std.proofs.Common.{◌≡◌, ℕ, ◌<◌, List, Option, Some, None, length, refl, sym, ap, subst, ◌∙◌}
+use Rattle.std.specs.Prelude.{Result, Err}
+use Rattle.std.specs.Option.{option_map}
+use Rattle.std.proofs.lemmas.Option.{same_Some, none-some}
+use Rattle.ipc_terms.specs.Lines.{line_of}
+use Rattle.ipc_terms.specs.declared.record.Event.{Event}
+use Rattle.ipc_terms.specs.declared.record.Record.{Record}
+use Rattle.ipc_trail.specs.declared.audit.Receipt.{Receipt}
+use Rattle.ipc_trail.specs.Receipts.{receipt_of}
+use Rattle.ipc_policy.specs.History.{History, record_at}
+use Rattle.ipc_policy.specs.Verdict.{verdict}
+use Rattle.ipc_policy.proofs.Moments.{place_below, record_now}
+use Rattle.ipc_core.specs.State.{State}
+use Rattle.ipc_core.specs.Outboxes.{after_step}
+use Rattle.ipc_book.specs.declared.entry.Entry.{Entry}
+use Rattle.ipc_book.specs.declared.entry.StepFault.{StepFault}
+use Rattle.ipc_book.specs.declared.entry.StepFault.TheVariants.{Stale}
+use Rattle.ipc_book.specs.Seats.{receipt_at, receipt_after, StaleExactly}
+
+-- the receipt that is found at the place where the history ended
+pub receipt_got : (a a' : State) (e : Event) (place : ℕ) (r : Receipt) → a' ≡ after_step e a → place ≡ length a.history → receipt_at a'.history place ≡ Some r → r ≡ receipt_after a.config a.history e
+receipt_got a a' e place r stepped at got =
+    same_Some r (receipt_after a.config a.history e)
+    (sym got
+    ∙ ap (λ (w : State). receipt_at w.history place) stepped
+    ∙ ap (receipt_at (after_step e a).history) at
+    ∙ ap (option_map (λ q. receipt_of (line_of (length a.history) q))) (record_now a.history (record { event = e; rule = verdict a.config a.history e })))
+
+-- a receipt that stands has a place within
+pub receipt_below : (h : History) (place : ℕ) (r : Receipt) → receipt_at h place ≡ Some r → place < length h
+receipt_below h place r e = at (record_at place h) refl e where
+  at : (o : Option Record) → record_at place h ≡ o → option_map (λ q. receipt_of (line_of place q)) o ≡ Some r → place < length h
+  at None is k = absurd (none-some r k)
+  at (Some q) is k = place_below h place q is
+
+same_fault : {A : Type 0} → (x y : StepFault) → ◌≡◌ {A = Result A StepFault} (Err x) (Err y) → x ≡ y
+same_fault x y e = cc
+
+-- the same fault, of another type of results
+pub stale_across : {A : Type 0} → {B : Type 0} → (a a' : State) (list list' : List Entry) (r : Result A StepFault) (r' : Result B StepFault) (fault : StepFault) → r ≡ Err fault → r' ≡ Err fault → a ≡ a' → list ≡ list' → StaleExactly a list r → StaleExactly a' list' r'
+stale_across a a' list list' r r' fault is is' p q h =
+    subst (λ v. StaleExactly v list' r') p (subst (λ l. StaleExactly a l r') q there) where
+      there : StaleExactly a list r'
+      there seen found =
+          ((λ e. (h seen found).0 (is ∙ ap Err (same_fault fault (Stale seen found) (sym is' ∙ e)))), (λ t. is' ∙ ap Err (same_fault fault (Stale seen found) (sym is ∙ (h seen found).1 t))))

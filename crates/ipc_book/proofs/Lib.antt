@@ -1,0 +1,6 @@
+pub mod LastReceipts
+pub mod Counts
+pub mod Collected
+pub mod Starting
+pub mod Places
+pub mod Crossing

@@ -1,0 +1,261 @@
+//! The book: what is shared behind the lock.
+
+ghost use Rattle.std.specs.Prelude.{◌≡◌, ◌≤◌, ◌+◌, ◌^◌, ◌≢◌, [], ◌∷◌, ◌++◌, None, Some, length, map, OnOk, OnErr, IfOk, IfErr, IfSome, MatchOption};
+ghost use Rattle.ipc_terms.specs.declared.record.Event.TheVariants.{Hello, Do, Hangup};
+ghost use Rattle.ipc_policy.specs.Verdict.{Legal};
+ghost use Rattle.ipc_access.specs.Users.{user_of_key};
+ghost use Rattle.ipc_state.specs.Ranges.{first_bad};
+ghost use Rattle.ipc_core.specs.Outboxes.{BoxesAgree};
+ghost use Rattle.ipc_book.specs.Seats.{Stepped, StaleExactly, session_of, session_after};
+ghost use Rattle.ipc_book.specs.Locked.{Collects};
+ghost use Rattle.ipc_book.specs.Closing.{AreTheTrail, CloseFaultSays};
+
+use crate::close::{audit, gather};
+use crate::entry::{CloseFault, StepFault};
+use crate::seat::{Receipts, Seat};
+use crate::stepping::{enter, stale};
+use ipc_core::{Config, Core, CoreFault};
+use ipc_terms::{Answer, Call, Event, NoMemory, Sid};
+use ipc_trail::Receipt;
+use std::alloc::Global;
+use std::marker::Model;
+use std::sync::ledger;
+use std::sync::ledger::{Blank, Ledger, Share};
+
+/// A core, and the total of a ledger, which is the length of its trail. Each seat has a share of the
+/// ledger, one for each of its receipts: so an event enters a seat only where its own book's trail
+/// grows by one. The ledger is a type parameter, and no seat of another book fits.
+#[derive(Drop)]
+pub struct Book<L: Ledger> {
+    core: Core,
+    total: ledger::Book<L>,
+    home: Share<L>,
+    // One byte a seat, so that memory bounds their number.
+    places: Vec<u8>,
+}
+
+impl<L: Ledger> Model for Book<L> {
+    ghost use Rattle.std.specs.Prelude.{◌≡◌, ◌≤◌, ◌+◌, ◌^◌, length};
+    ghost use Rattle.ipc_book.specs.Seats.{BookView};
+
+    ghost Value = { BookView };
+
+    ghost view = { λ b. record { core = b.core; seats = length b.places.items; total = b.total.total } };
+
+    ghost invariant = { λ b. (b.total.total ≡ length b.core.history) × (2 ^ 63 ≤ b.home.parts + length b.places.items) };
+}
+
+impl<L: Ledger> Book<L> {
+    /// A book with an empty trail, or why there is no core. Takes the ledger's blank, which has 2^63
+    /// parts. An `Err` drops the configuration and the blank.
+    pub fn new(alloc: Global, config: Config, blank: Blank) -> Result<Book<L>, CoreFault>
+        requires name { blank.name ≡ L.name }
+        requires parts { blank.parts ≡ L.parts }
+        requires many { blank.parts ≡ 2 ^ 63 }
+        ensures ok { IfOk result (λ b. b ≡ record { core = record { config = config; history = []; untaken = [] }; seats = 0; total = 0 }) }
+        ensures in_range { OnOk result (first_bad config.limits ≡ None) }
+        ensures bad { IfErr result (λ fault. MatchOption (first_bad config.limits) (fault ≡ CoreFault.NoMemory) (λ field. fault ≡ CoreFault.BadConfig field)) }
+    {
+        let core = Core::new(alloc, config)?;
+        let (total, home) = blank.open::<L>();
+        Ok(Book {
+            core,
+            total,
+            home,
+            places: Vec::new(alloc),
+        })
+    }
+
+    /// The core: its configuration, trail and untaken answers.
+    pub fn core(&self) -> &Core
+        ensures { result.now ≡ self.now.core }
+    {
+        &self.core
+    }
+
+    /// The trail is legal, the limits are in their ranges, what each session has not taken yet is the
+    /// last of what it was answered while it was live, and the ledger's total is the trail's length.
+    /// Does nothing; facts of every book, and so of what is behind a lock whenever that is free.
+    pub fn holds(&self)
+        ensures legal { Legal self.now.core.config self.now.core.history }
+        ensures in_range { first_bad self.now.core.config.limits ≡ None }
+        ensures boxes { BoxesAgree self.now.core.config self.now.core.history self.now.core.untaken }
+        ensures total { self.now.total ≡ length self.now.core.history }
+    {
+        self.core.is_legal();
+        self.core.keeps_the_last();
+    }
+
+    /// A seat without a session and without receipts. An `Err` changes nothing.
+    pub fn seat(&mut self, alloc: Global) -> Result<Seat<L>, NoMemory>
+        ensures seat { IfOk result (λ s. s ≡ record { sid = None; list = []; share = 0 }) }
+        ensures made { OnOk result (self.new ≡ record self.old { seats = self.old.seats + 1 }) }
+        ensures err { OnErr result (self.new ≡ self.old) }
+    {
+        if self.places.push(0).is_err() {
+            return Err(NoMemory);
+        }
+        let share = self.home.split_off(1, 0);
+        Ok(Seat {
+            sid: None,
+            receipts: Receipts::new(alloc, share),
+        })
+    }
+
+    /// Steps a hello with a key, by a seat that has no session. If it is accepted, the seat has the
+    /// session that starts. An `Err` changes nothing; the seat's room may differ.
+    pub fn hello_for(
+        &mut self,
+        alloc: Global,
+        seat: &mut Seat<L>,
+        key: &[u8],
+    ) -> Result<Receipt, StepFault>
+        requires { seat.old.sid ≡ None }
+        ensures ok { IfOk result (λ r. Stepped self.old.core self.new.core seat.old.list seat.new.list (Hello (user_of_key self.old.core.config.users key.now)) r) }
+        ensures session { OnOk result (seat.new.sid ≡ session_after self.old.core (Hello (user_of_key self.old.core.config.users key.now)) seat.old.sid) }
+        ensures stale { StaleExactly self.old.core seat.old.list result }
+        ensures err { OnErr result ((self.new ≡ self.old) × (seat.new ≡ seat.old)) }
+        ensures seats { self.new.seats ≡ self.old.seats }
+    {
+        let found = self.core.config().users.find(key);
+        let event = Event::Hello { found };
+        let (receipt, posted) = enter(
+            &mut self.core,
+            &mut self.total,
+            &mut seat.receipts,
+            alloc,
+            event,
+            None,
+        )?;
+        if posted.verdict.is_none() {
+            seat.sid = posted.caller;
+        }
+        Ok(receipt)
+    }
+
+    /// Steps a call of the seat's session, or of nobody where the seat has none. An `Err` changes
+    /// nothing, and drops the call; the seat's room may differ.
+    pub fn step_for(
+        &mut self,
+        alloc: Global,
+        seat: &mut Seat<L>,
+        call: Call,
+    ) -> Result<Receipt, StepFault>
+        ensures ok { IfOk result (λ r. Stepped self.old.core self.new.core seat.old.list seat.new.list (Do (session_of seat.old.sid) call) r) }
+        ensures session { seat.new.sid ≡ seat.old.sid }
+        ensures stale { StaleExactly self.old.core seat.old.list result }
+        ensures err { OnErr result ((self.new ≡ self.old) × (seat.new ≡ seat.old)) }
+        ensures seats { self.new.seats ≡ self.old.seats }
+    {
+        let event = seat.calling(call);
+        self.step_made(alloc, seat, event, None)
+    }
+
+    /// The same of an event of a call, of which there may be a copy already. Who has made one spares the
+    /// book the work.
+    pub(crate) fn step_made(
+        &mut self,
+        alloc: Global,
+        seat: &mut Seat<L>,
+        event: Event,
+        ready: Option<Event>,
+    ) -> Result<Receipt, StepFault>
+        requires { IfSome ready (λ copy. copy ≡ event) }
+        ensures ok { IfOk result (λ r. Stepped self.old.core self.new.core seat.old.list seat.new.list event r) }
+        ensures session { seat.new.sid ≡ seat.old.sid }
+        ensures stale { StaleExactly self.old.core seat.old.list result }
+        ensures err { OnErr result ((self.new ≡ self.old) × (seat.new ≡ seat.old)) }
+        ensures seats { self.new.seats ≡ self.old.seats }
+    {
+        let (receipt, _posted) = enter(
+            &mut self.core,
+            &mut self.total,
+            &mut seat.receipts,
+            alloc,
+            event,
+            ready,
+        )?;
+        Ok(receipt)
+    }
+
+    /// Steps a hang-up of the seat's session, or of nobody where the seat has none. If it is accepted,
+    /// the seat has no session any more; what the session has not taken yet stays with the core. An
+    /// `Err` changes nothing; the seat's room may differ.
+    pub fn hang_up_for(&mut self, alloc: Global, seat: &mut Seat<L>) -> Result<Receipt, StepFault>
+        ensures ok { IfOk result (λ r. Stepped self.old.core self.new.core seat.old.list seat.new.list (Hangup (session_of seat.old.sid)) r) }
+        ensures session { OnOk result (seat.new.sid ≡ session_after self.old.core (Hangup (session_of seat.old.sid)) seat.old.sid) }
+        ensures stale { StaleExactly self.old.core seat.old.list result }
+        ensures err { OnErr result ((self.new ≡ self.old) × (seat.new ≡ seat.old)) }
+        ensures seats { self.new.seats ≡ self.old.seats }
+    {
+        let sid = seat.sid.unwrap_or(Sid::NOBODY);
+        let event = Event::Hangup { sid };
+        let (receipt, posted) = enter(
+            &mut self.core,
+            &mut self.total,
+            &mut seat.receipts,
+            alloc,
+            event,
+            None,
+        )?;
+        if posted.verdict.is_none() {
+            seat.sid = None;
+        }
+        Ok(receipt)
+    }
+
+    /// Gives what the seat's session has not taken yet, in order, and leaves none; nothing, where the
+    /// seat has no session or the trail has not its last receipt at its place. Takes no memory, and
+    /// copies no answer.
+    pub fn collect(&mut self, seat: &Seat<L>) -> Vec<Answer>
+        ensures legal { Legal self.old.core.config self.old.core.history }
+        ensures in_range { first_bad self.old.core.config.limits ≡ None }
+        ensures boxes { BoxesAgree self.old.core.config self.old.core.history self.old.core.untaken }
+        ensures given { Collects seat.now.sid self.old.core self.new.core seat.now.list result.items }
+        ensures seats { self.new.seats ≡ self.old.seats }
+    {
+        self.holds();
+        let none = Vec::new(*self.places.allocator());
+        let Some(sid) = seat.sid else {
+            return none;
+        };
+        if stale(&self.core, &seat.receipts).is_some() {
+            return none;
+        }
+        self.core.take(sid)
+    }
+
+    /// Takes all seats back, if what they keep is the trail: each place is in one seat's list, once. Else
+    /// hands the book and the seats back. Takes one byte for each record, and a time that is linear in
+    /// the records and the receipts.
+    pub fn close(
+        self,
+        alloc: Global,
+        seats: Vec<Seat<L>>,
+    ) -> Result<Book<L>, (CloseFault, Book<L>, Vec<Seat<L>>)>
+        ensures same { IfOk result (λ b. b ≡ self) }
+        ensures ok { OnOk result (AreTheTrail self.core.history seats.items) }
+        ensures all { OnOk result (self.seats ≤ length seats.items) }
+        ensures fault { IfErr result (λ t. CloseFaultSays self seats.items t.0) }
+        ensures back { IfErr result (λ t. (t.1 ≡ self) × (t.2 ≡ seats)) }
+    {
+        let made = self.places.len();
+        if seats.len() < made {
+            let out = made - seats.len();
+            return Err((CloseFault::SeatOut(out as u64), self, seats));
+        }
+        match audit(&self.core, alloc, &seats) {
+            Ok(()) => Ok(self.with_shares(seats)),
+            Err(fault) => Err((fault, self, seats)),
+        }
+    }
+
+    /// The book with the seats' shares put to its own.
+    fn with_shares(self, seats: Vec<Seat<L>>) -> Book<L>
+        ensures { result ≡ self }
+    {
+        let mut book = self;
+        gather(&mut book.home, seats);
+        book
+    }
+}

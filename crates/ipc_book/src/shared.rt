@@ -1,0 +1,147 @@
+//! The book behind its lock.
+
+ghost use Rattle.std.specs.Prelude.{◌≡◌, None, [], IfOk, IfErr, IfSome, OnErr};
+ghost use Rattle.ipc_terms.specs.declared.record.Event.TheVariants.{Hello, Do, Hangup};
+ghost use Rattle.ipc_access.specs.Users.{user_of_key};
+ghost use Rattle.ipc_policy.specs.declared.config.Config.{Config};
+ghost use Rattle.ipc_policy.specs.Verdict.{Legal};
+ghost use Rattle.ipc_state.specs.Ranges.{first_bad};
+ghost use Rattle.ipc_book.specs.Seats.{BookView, session_of};
+ghost use Rattle.ipc_book.specs.Locked.{ReceiptSays, AnswersSay, StaleSays};
+ghost use Rattle.ipc_book.specs.Closing.{AreTheTrail, CloseFaultSays};
+
+use crate::book::Book;
+use crate::entry::{CloseFault, StepFault};
+use crate::seat::Seat;
+use ipc_terms::{Answer, Call, Event, NoMemory};
+use ipc_trail::Receipt;
+use std::alloc::Global;
+use std::sync::ledger::Ledger;
+use std::sync::{Mutex, Wait};
+
+/// A book that threads share: each call is one hold of the lock, round one call of the book. What can
+/// be made before the lock is taken is made there. A clause can't name the book that the lock hides: it
+/// says that there are a configuration and a legal history, of which it holds. Nothing says that a lock
+/// is got.
+#[derive(Drop)]
+pub struct Shared<L: Ledger> {
+    book: Mutex<Book<L>>,
+}
+
+/// A copy of the event, if there is memory for one.
+fn copy_of(event: &Event) -> Option<Event>
+    ensures { IfSome result (λ copy. copy ≡ event.now) }
+{
+    event.copy().ok()
+}
+
+impl<L: Ledger> Shared<L> {
+    /// The book behind a lock.
+    pub fn new(book: Book<L>) -> Shared<L> {
+        Shared {
+            book: Mutex::new(book),
+        }
+    }
+
+    /// A seat without a session and without receipts.
+    pub fn seat<R: Wait>(&self, rt: &R, alloc: Global) -> Result<Seat<L>, NoMemory>
+        ensures { IfOk result (λ s. s ≡ record { sid = None; list = []; share = 0 }) }
+    {
+        self.book.lock(rt).seat(alloc)
+    }
+
+    /// Steps a hello with a key, by a seat that has no session. If it is accepted, the seat has the
+    /// session that starts. An `Err` leaves the seat as it was, and the trail.
+    pub fn hello<R: Wait>(
+        &self,
+        rt: &R,
+        alloc: Global,
+        seat: &mut Seat<L>,
+        key: &[u8],
+    ) -> Result<Receipt, StepFault>
+        requires { seat.old.sid ≡ None }
+        ensures ok { IfOk result (λ r. (c : Config) × ReceiptSays c seat.old seat.new (Hello (user_of_key c.users key.now)) r) }
+        ensures stale { StaleSays seat.old.list result }
+        ensures err { OnErr result (seat.new ≡ seat.old) }
+    {
+        seat.make_room();
+        self.book.lock(rt).hello_for(alloc, seat, key)
+    }
+
+    /// Steps a call of the seat's session, or of nobody where the seat has none. The seat's copy of the
+    /// call is made before the lock is taken. An `Err` leaves the seat as it was, and drops the call.
+    pub fn call<R: Wait>(
+        &self,
+        rt: &R,
+        alloc: Global,
+        seat: &mut Seat<L>,
+        call: Call,
+    ) -> Result<Receipt, StepFault>
+        ensures ok { IfOk result (λ r. (c : Config) × ReceiptSays c seat.old seat.new (Do (session_of seat.old.sid) call) r) }
+        ensures stale { StaleSays seat.old.list result }
+        ensures err { OnErr result (seat.new ≡ seat.old) }
+    {
+        let event = seat.calling(call);
+        let ready = copy_of(&event);
+        seat.make_room();
+        self.book.lock(rt).step_made(alloc, seat, event, ready)
+    }
+
+    /// Steps a hang-up of the seat's session, or of nobody where the seat has none. If it is accepted,
+    /// the seat has no session any more. An `Err` leaves the seat as it was, and the trail.
+    pub fn hang_up<R: Wait>(
+        &self,
+        rt: &R,
+        alloc: Global,
+        seat: &mut Seat<L>,
+    ) -> Result<Receipt, StepFault>
+        ensures ok { IfOk result (λ r. (c : Config) × ReceiptSays c seat.old seat.new (Hangup (session_of seat.old.sid)) r) }
+        ensures stale { StaleSays seat.old.list result }
+        ensures err { OnErr result (seat.new ≡ seat.old) }
+    {
+        seat.make_room();
+        self.book.lock(rt).hang_up_for(alloc, seat)
+    }
+
+    /// Gives what the seat's session has not taken yet, in order, and leaves none; nothing, where the
+    /// seat has no session or the trail has not its last receipt at its place. Takes no memory.
+    pub fn collect<R: Wait>(&self, rt: &R, seat: &Seat<L>) -> Vec<Answer>
+        ensures nobody { seat.now.sid ≡ None → result.items ≡ [] }
+        ensures given { (c : Config) × AnswersSay c seat.now.sid seat.now.list result.items }
+    {
+        self.book.lock(rt).collect(seat)
+    }
+
+    /// How many answers the seat's session has not taken yet; 0 for a seat without one. By the time that
+    /// it is known, there may be more.
+    pub fn waiting<R: Wait>(&self, rt: &R, seat: &Seat<L>) -> usize
+        ensures nobody { seat.now.sid ≡ None → result ≡ 0 }
+    {
+        match seat.sid() {
+            Some(sid) => self.book.lock(rt).core().waiting(sid),
+            None => 0,
+        }
+    }
+
+    /// Takes all seats back, if what they keep is the trail: each place is in one seat's list, once. Else
+    /// hands the book and the seats back. Waits for nothing: no other thread has the book any more.
+    pub fn close(
+        self,
+        alloc: Global,
+        seats: Vec<Seat<L>>,
+    ) -> Result<Book<L>, (CloseFault, Shared<L>, Vec<Seat<L>>)>
+        ensures legal { IfOk result (λ b. Legal b.core.config b.core.history) }
+        ensures in_range { IfOk result (λ b. first_bad b.core.config.limits ≡ None) }
+        ensures ok { IfOk result (λ b. AreTheTrail b.core.history seats.items) }
+        ensures fault { IfErr result (λ t. (b : BookView) × Legal b.core.config b.core.history × CloseFaultSays b seats.items t.0) }
+        ensures back { IfErr result (λ t. t.2 ≡ seats) }
+    {
+        let Shared { book } = self;
+        let book = book.into_inner();
+        book.holds();
+        match book.close(alloc, seats) {
+            Ok(book) => Ok(book),
+            Err((fault, book, seats)) => Err((fault, Shared::new(book), seats)),
+        }
+    }
+}

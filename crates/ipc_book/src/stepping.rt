@@ -1,0 +1,88 @@
+//! One event of a seat, over the fields of a book and of the seat.
+
+ghost use Rattle.std.specs.Prelude.{◌≡◌, ◌+◌, ◌≢◌, None, Some, OnOk, OnErr, IfOk, IfSome};
+ghost use Rattle.ipc_policy.specs.Verdict.{verdict, answers};
+ghost use Rattle.ipc_core.specs.Outboxes.{session_at};
+ghost use Rattle.ipc_book.specs.Seats.{IsCurrent, Stepped, StaleExactly, last_receipt, receipt_at};
+
+use crate::entry::{Entry, StepFault};
+use crate::seat::Receipts;
+use ipc_core::{Core, Posted};
+use ipc_terms::{Event, NoMemory, push_within};
+use ipc_trail::Receipt;
+use std::alloc::Global;
+use std::sync::ledger::{Book as Total, Ledger};
+
+/// The last receipt, if the trail has it not at its place, and what was found there.
+pub(crate) fn stale<L: Ledger>(
+    core: &Core,
+    receipts: &Receipts<L>,
+) -> Option<(Receipt, Option<Receipt>)>
+    ensures none { result ≡ None → IsCurrent core.now.history receipts.now.list }
+    ensures some { IfSome result (λ p. (last_receipt receipts.now.list ≡ Some p.0) × (receipt_at core.now.history p.0.place ≡ p.1) × (p.1 ≢ Some p.0)) }
+{
+    let seen = receipts.entries.last()?.receipt;
+    let found = core.trail().receipt(seen.place as usize);
+    if found == Some(seen) {
+        None
+    } else {
+        Some((seen, found))
+    }
+}
+
+/// The copy that was made before, or else a new one.
+fn own_copy(event: &Event, ready: Option<Event>) -> Result<Event, NoMemory>
+    requires { IfSome ready (λ copy. copy ≡ event.now) }
+    ensures { IfOk result (λ copy. copy ≡ event.now) }
+{
+    match ready {
+        Some(copy) => Ok(copy),
+        None => event.copy(),
+    }
+}
+
+/// Steps an event, of which there may be a copy already. The seat's copy and its place in the seat
+/// are there before the core steps, so nothing can fail after it.
+pub(crate) fn enter<L: Ledger>(
+    core: &mut Core,
+    total: &mut Total<L>,
+    receipts: &mut Receipts<L>,
+    alloc: Global,
+    event: Event,
+    ready: Option<Event>,
+) -> Result<(Receipt, Posted), StepFault>
+    requires { IfSome ready (λ copy. copy ≡ event) }
+    ensures ok { IfOk result (λ p. Stepped core.old core.new receipts.old.list receipts.new.list event p.0) }
+    ensures verdict { IfOk result (λ p. p.1.verdict ≡ verdict core.old.config core.old.history event) }
+    ensures caller { IfOk result (λ p. p.1.caller ≡ session_at 0 (answers core.old.config core.old.history event)) }
+    ensures stale { StaleExactly core.old receipts.old.list result }
+    ensures total { OnOk result (total.new.total ≡ total.old.total + 1) }
+    ensures err { OnErr result ((core.new ≡ core.old) × (total.new.total ≡ total.old.total) × (receipts.new ≡ receipts.old)) }
+{
+    core.is_legal();
+    if let Some((seen, found)) = stale(core, receipts) {
+        return Err(StepFault::Stale { seen, found });
+    }
+    let Ok(copy) = own_copy(&event, ready) else {
+        return Err(StepFault::NoMemory);
+    };
+    if receipts.entries.reserve(1).is_err() {
+        return Err(StepFault::NoMemory);
+    }
+    let place = core.trail().len();
+    let Ok(posted) = core.post(alloc, event) else {
+        return Err(StepFault::NoMemory);
+    };
+    let Some(receipt) = core.trail().receipt(place) else {
+        unreachable!();
+    };
+    push_within(
+        &mut receipts.entries,
+        Entry {
+            receipt,
+            event: copy,
+        },
+    );
+    total.add(&mut receipts.share, 1);
+    Ok((receipt, posted))
+}
