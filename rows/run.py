@@ -10,8 +10,10 @@ import dataclasses
 import os
 import pathlib
 import re
+import socket
 import subprocess
 import sys
+import threading
 
 TOP = pathlib.Path(__file__).resolve().parent.parent
 FOLDERS = {
@@ -35,6 +37,9 @@ class Case:
     err: bytes = b""
     status: int = 0
     writes_to: str = ""
+    # What a server on loopback sends at once before it ends its side, and what it must get; its address is put first.
+    served: bytes = None
+    sent: bytes = b""
 
 
 def cases_of(folder, program):
@@ -67,6 +72,26 @@ def made_cases():
     yield Case("mqctl a line that is not UTF-8", "mqctl", [], b"\xff\n", b"", b"mqctl: line 1\n", 6)
     yield Case("mqctl a reader that fails", "mqctl", [], TOP, b"", b"mqctl: read\n", 4)
     yield Case("mqctl a writer that fails", "mqctl", [], b"interrupt\n", b"", b"mqctl: write\n", 4, "/dev/full")
+    yield from served_cases()
+
+
+def frame(body):
+    return len(body).to_bytes(4, "big") + body
+
+
+def served_cases():
+    """Sessions over loopback."""
+    hello, started, mask = frame(b"\1\0\3ka1"), frame(b"\x41" + bytes(8)), frame(b"\x44\0\x12")
+    umask, refused = frame(b"\2\0\0"), frame(b"\x4c\0\x08")
+    close, sent = [b"ka1", b"mq-close", b"0"], hello + frame(b"\4" + bytes(8))
+    yield Case("mqctl one command", "mqctl", close, b"", b"refused 8 EBADF BadDescr\n", b"", 1, "", started + refused, sent)
+    lines, twice = b"umask 000\numask 000\n", hello + umask + umask
+    yield Case("mqctl two lines", "mqctl", [b"ka1"], lines, b"mask 022\n" * 2, b"", 0, "", started + mask + mask, twice)
+    yield Case("mqctl a server that leaves", "mqctl", [b"ka1"], lines, b"mask 022\n", b"mqctl: net\n", 4, "", started + mask, twice)
+    gone = b"refused 31 EACCES BadKey\n"
+    yield Case("mqctl a refused hello", "mqctl", [b"ka1"], lines, gone, b"", 1, "", frame(b"\x4c\0\x1f"), hello)
+    feed = [b"ka1", b"umask\n000"]
+    yield Case("mqctl a word with a line feed", "mqctl", [b"127.0.0.1:1", *feed], b"", b"", b"mqctl: arguments\n", 2)
 
 
 def readme_case():
@@ -75,8 +100,35 @@ def readme_case():
     return Case("mqserve README.md's example", "mqserve", [], blocks[0].encode(), blocks[1].encode())
 
 
+def serve(listener, served, got):
+    """Serves one connection, and keeps what comes."""
+    with listener, listener.accept()[0] as connection:
+        connection.sendall(served)
+        connection.shutdown(socket.SHUT_WR)
+        while piece := connection.recv(65_536):
+            got.append(piece)
+
+
+def run_served(case):
+    """Runs a case beside a server that it speaks to."""
+    listener, got = socket.create_server(("127.0.0.1", 0)), []
+    listener.settimeout(SECONDS)
+    address = "127.0.0.1:%d" % listener.getsockname()[1]
+    server = threading.Thread(target=serve, args=(listener, case.served, got))
+    server.start()
+    try:
+        ended = run(dataclasses.replace(case, arguments=[address.encode(), *case.arguments], served=None))
+    finally:
+        server.join()
+    if b"".join(got) != case.sent:
+        raise OSError(f"sent {b''.join(got)!r}, and not {case.sent!r}")
+    return ended
+
+
 def run(case):
     """Returns what the program wrote to both streams, and its status."""
+    if case.served is not None:
+        return run_served(case)
     program = TOP / "crates" / case.program / "out" / case.program
     command = [os.fsencode(program), *case.arguments]
     is_folder = isinstance(case.given, pathlib.Path)

@@ -1,5 +1,7 @@
 -- The exit status of each fault, and which fault of the client stands for a fault below it.
-use Rattle.std.specs.Prelude.{ℕ, Bool, true, false}
+use Rattle.std.specs.Prelude.{⊤, ℕ, Bool, true, false}
+use Rattle.std.specs.declared.io.ErrorKind.{ErrorKind}
+use Rattle.std.specs.declared.io.ErrorKind.TheVariants.{OutOfMemory}
 use Rattle.ipc_lines.specs.declared.fault.LineFault.{LineFault}
 use Rattle.ipc_lines.specs.declared.fault.LineFault.TheVariants.{Read as NoRead, Write as NoWrite, Memory as NoGrowth, Bad}
 use Rattle.ipc_client.specs.declared.fault.ClientFault.{ClientFault}
@@ -30,3 +32,14 @@ of_line (Bad number) = Line number
 abbrev pub is_net : ClientFault → Bool
 is_net Net = true
 is_net fault = false
+
+-- the fault of a connection's error
+abbrev pub of_connection : ErrorKind → ClientFault
+of_connection OutOfMemory = Memory
+of_connection kind = Net
+
+-- the connection failed or there was no memory; the commands and the output are not blamed
+abbrev pub IsOfConnection : ClientFault → Type 0
+IsOfConnection Net = ⊤
+IsOfConnection Memory = ⊤
+IsOfConnection fault = ⊥

@@ -71,7 +71,7 @@ fn lay_encoded(alloc: Global, line: &mut String, words: &[&str]) -> Result<bool,
         }
         Err(WordFault::NoMemory) => Err(NoMemory),
         Err(fault) => {
-            lay_fault(line, &fault)?;
+            put_fault_line(line, &fault)?;
             Ok(false)
         }
     }
@@ -86,7 +86,7 @@ fn lay_frame(alloc: Global, line: &mut String, frame: &[u8]) -> Result<(), NoMem
     Ok(())
 }
 
-fn lay_fault(line: &mut String, fault: &WordFault) -> Result<(), NoMemory>
+pub(crate) fn put_fault_line(line: &mut String, fault: &WordFault) -> Result<(), NoMemory>
     ensures { OnOk result (string_bytes line.new ≡ fault_line fault.now ++ codes "\n") }
 {
     line.clear();

@@ -1,10 +1,13 @@
-//! The client's work: commands as request frames.
+//! The client's work: commands as request frames, and sessions over a connection.
 #![tactic(auto)]
 
+mod connection;
 mod encode;
 mod fault;
 mod frame;
+mod session;
 
 pub use encode::encode_lines;
 pub use fault::{ClientFault, ProgramFault};
 pub use frame::frame_of_words;
+pub use session::client_session;
