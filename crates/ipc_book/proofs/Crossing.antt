@@ -20,6 +20,7 @@ use Rattle.std.specs.declared.sync.ledger.Ledger.{Ghosts}
 use Rattle.std.proofs.sync.ledger.Book.TheSendSync as total
 use Rattle.std.proofs.sync.ledger.Share.TheSendSync as share
 use Rattle.std.proofs.sync.Mutex.TheSendSync as mutex
+use Rattle.ipc_book.proofs.bell.Bells.TheSendSync as bells
 use Rattle.ipc_terms.proofs.ids.Sid.TheSendSync as sid
 use Rattle.ipc_terms.proofs.ids.Desc.TheSendSync as desc
 use Rattle.ipc_terms.proofs.object.Object.TheSendSync as object
@@ -97,7 +98,7 @@ pub book_send : (L : RattleType) (g : Ghosts L.Denot) → IsSend (book.the_row L
 book_send L g = search (sendable, book_inside_send) depth 20
 
 pub shared_sync : (L : RattleType) (g : Ghosts L.Denot) → IsSync (shared.the_row L g)
-shared_sync L g = search (sendable, book_send, mutex.the_sync) depth 20
+shared_sync L g = search (sendable, book_send, bells.the_send, bells.the_field_send, mutex.the_sync) depth 20
 
 -- what a closure holds that borrows two values and has the allocator: it may go to another thread if both may be shared
 pub borrows_send : (ℓ ℓ' : Lifetime) (κ κ' : Lft) (R S : RattleType) → IsSync R → IsSync S → IsSend (TupleAt [] (ShrRef ℓ κ R ∷ heap.the_row ∷ ShrRef ℓ' κ' S ∷ []))

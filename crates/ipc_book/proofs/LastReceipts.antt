@@ -16,7 +16,12 @@ use Rattle.ipc_core.specs.Outboxes.{after_step}
 use Rattle.ipc_book.specs.declared.entry.Entry.{Entry}
 use Rattle.ipc_book.specs.declared.entry.StepFault.{StepFault}
 use Rattle.ipc_book.specs.declared.entry.StepFault.TheVariants.{Stale}
-use Rattle.ipc_book.specs.Seats.{receipt_at, receipt_after, StaleExactly}
+use Rattle.ipc_book.specs.declared.entry.OfferFault.{OfferFault}
+use Rattle.ipc_book.specs.declared.entry.OfferFault.TheVariants.{Full, Fault}
+use Rattle.ipc_book.specs.Seats.{receipt_at, receipt_after, StaleExactly, FullExactly, without_full, step_fault}
+use Rattle.ipc_book.specs.Locked.{StaleSays}
+use Rattle.std.specs.Result.{IsErrAnd}
+use Rattle.std.proofs.Math.Nat.{lt_of_not-le}
 
 -- the receipt that is found at the place where the history ended
 pub receipt_got : (a a' : State) (e : Event) (place : ℕ) (r : Receipt) → a' ≡ after_step e a → place ≡ length a.history → receipt_at a'.history place ≡ Some r → r ≡ receipt_after a.config a.history e
@@ -44,3 +49,27 @@ stale_across a a' list list' r r' fault is is' p q h =
       there : StaleExactly a list r'
       there seen found =
           ((λ e. (h seen found).0 (is ∙ ap Err (same_fault fault (Stale seen found) (sym is' ∙ e)))), (λ t. is' ∙ ap Err (same_fault fault (Stale seen found) (sym is ∙ (h seen found).1 t))))
+
+-- the same result, of what the views show
+pub stale_moved : {A : Type 0} → (a a' : State) (list list' : List Entry) (r : Result A StepFault) → a ≡ a' → list ≡ list' → StaleExactly a list r → StaleExactly a' list' r
+stale_moved a a' list list' r p q h = subst (λ v. StaleExactly v list' r) p (subst (λ l. StaleExactly a l r) q h)
+
+-- what a stale seat is told of the same fault, after room was made in it
+pub stale_told : {A : Type 0} → (a : State) (list list' : List Entry) (r : Result A StepFault) (fault : StepFault) → r ≡ Err fault → list ≡ list' → StaleExactly a list r → StaleSays list' (Err fault)
+stale_told a list list' r fault is same h = subst (λ l. StaleSays l (Err fault)) same there where
+  there : StaleSays list (Err fault)
+  there seen found e =
+      let t = (h seen found).0 (is ∙ ap Err (same_fault fault (Stale seen found) e)) in (t.0, t.2)
+
+-- a seat that is not full has room
+under : {A : Type 0} → {B : Type 0} → (most n : ℕ) (r : Result A (OfferFault × B)) (fault : StepFault) (back : B) → r ≡ Err (Fault fault, back) → FullExactly most n r → n < most
+under most n r fault back is full =
+    lt_of_not-le (λ le. not_full (subst (λ v. IsErrAnd v (λ p. p.0 ≡ Full)) is (full.1 le)))
+  where
+    not_full : Fault fault ≡ Full → ⊥
+    not_full e = absurd cc
+
+pub offer_stale : {A : Type 0} → {B : Type 0} → (a : State) (list list' : List Entry) (most n : ℕ) (r : Result A (OfferFault × B)) (fault : OfferFault) (back : B) → r ≡ Err (fault, back) → list ≡ list' → FullExactly most n r → (n < most → StaleExactly a list (without_full r)) → StaleSays list' (Err (step_fault fault))
+offer_stale a list list' most n r Full back is same full stale = λ seen found e. absurd cc
+offer_stale a list list' most n r (Fault fault) back is same full stale =
+    stale_told a list list' (without_full r) fault (ap without_full is) same (stale (under most n r fault back is full))

@@ -1,8 +1,10 @@
 -- Seats and books as they are seen, and what one event of a seat does to both.
-use Rattle.std.specs.Prelude.{ℕ, ◌≡◌, ◌≢◌, ◌-◌, ◌<◌, ◌↔◌, Option, None, Some, List, [], ◌∷◌, ◌++◌, length, slice_get, IfSome, unwrap_or, Result, Err}
+use Rattle.std.specs.Prelude.{ℕ, ◌≡◌, ◌≢◌, ◌-◌, ◌<◌, ◌≤◌, ◌↔◌, Option, None, Some, List, [], ◌∷◌, ◌++◌, length, slice_get, IfSome, unwrap_or, Result, Ok, Err}
 use Rattle.std.specs.Option.{option_map}
+use Rattle.std.specs.Result.{IsErrAnd}
 use Rattle.ipc_terms.specs.Lines.{line_of}
 use Rattle.ipc_terms.specs.declared.ids.Sid.{Sid}
+use Rattle.ipc_terms.specs.declared.call.Answer.{Answer}
 use Rattle.ipc_terms.specs.declared.rule.Rule.{Rule}
 use Rattle.ipc_terms.specs.declared.record.Event.{Event}
 use Rattle.ipc_terms.specs.declared.record.Event.TheVariants.{Hello, Do, Hangup}
@@ -11,13 +13,16 @@ use Rattle.ipc_trail.specs.Receipts.{receipt_of}
 use Rattle.ipc_policy.specs.declared.config.Config.{Config}
 use Rattle.ipc_policy.specs.History.{History, record_at}
 use Rattle.ipc_policy.specs.Sessions.{hellos}
-use Rattle.ipc_policy.specs.Verdict.{verdict, Legal}
+use Rattle.ipc_policy.specs.Verdict.{verdict, answers, Legal}
 use Rattle.ipc_state.specs.Ranges.{first_bad}
 use Rattle.ipc_core.specs.State.{State}
-use Rattle.ipc_core.specs.Outboxes.{after_step}
+use Rattle.ipc_core.specs.Boxes.{box_at}
+use Rattle.ipc_core.specs.Outboxes.{after_step, session_at}
 use Rattle.ipc_book.specs.declared.entry.Entry.{Entry}
 use Rattle.ipc_book.specs.declared.entry.StepFault.{StepFault}
-use Rattle.ipc_book.specs.declared.entry.StepFault.TheVariants.{Stale}
+use Rattle.ipc_book.specs.declared.entry.StepFault.TheVariants.{Stale, NoMemory}
+use Rattle.ipc_book.specs.declared.entry.OfferFault.{OfferFault}
+use Rattle.ipc_book.specs.declared.entry.OfferFault.TheVariants.{Full, Fault}
 
 -- receipts, each with its event, the oldest first, and an amount of the ledger
 pub record ReceiptsView : Type 0 where
@@ -73,6 +78,34 @@ abbrev pub StaleExactly : {A : Type 0} → State → List Entry → Result A Ste
 StaleExactly a list result =
     (seen : Receipt) (found : Option Receipt)
     → (result ≡ Err (Stale seen found)) ↔ ((last_receipt list ≡ Some seen) × (receipt_at a.history seen.place ≡ found) × (found ≢ Some seen))
+
+-- the same result, without what a fault gives back
+abbrev pub without_back : {A B : Type 0} → Result A (StepFault × B) → Result A StepFault
+without_back (Ok x) = Ok x
+without_back (Err p) = Err p.0
+
+-- whom an event answers second, if anybody
+abbrev pub other_answered : State → Event → Option Sid
+other_answered a e = session_at 1 (answers a.config a.history e)
+
+-- what a seat's session has not taken yet; nothing, where the seat has none
+abbrev pub untaken_of : State → Option Sid → List Answer
+untaken_of a None = []
+untaken_of a (Some s) = box_at a.untaken s.0
+
+-- a seat that has an offer is told that it is full exactly where its session has so many answers, or more, that it has not taken yet;
+-- and else that it is stale exactly where it is
+abbrev pub FullExactly : {A B : Type 0} → ℕ → ℕ → Result A (OfferFault × B) → Type 0
+FullExactly most untaken result = IsErrAnd result (λ p. p.0 ≡ Full) ↔ (most ≤ untaken)
+
+-- what is told of an offer where the seat is not full
+abbrev pub step_fault : OfferFault → StepFault
+step_fault Full = NoMemory
+step_fault (Fault fault) = fault
+
+abbrev pub without_full : {A B : Type 0} → Result A (OfferFault × B) → Result A StepFault
+without_full (Ok x) = Ok x
+without_full (Err p) = Err (step_fault p.0)
 
 -- a seat's session after an event with this verdict, where this is the number of the next session: an accepted hello gives it the
 -- session that starts, an accepted hang-up takes its session away, and all else leaves it

@@ -1,20 +1,20 @@
 //! The book: what is shared behind the lock.
 
-ghost use Rattle.std.specs.Prelude.{◌≡◌, ◌≤◌, ◌+◌, ◌^◌, ◌≢◌, [], ◌∷◌, ◌++◌, None, Some, length, map, OnOk, OnErr, IfOk, IfErr, IfSome, MatchOption};
+ghost use Rattle.std.specs.Prelude.{◌≡◌, ◌<◌, ◌≤◌, ◌+◌, ◌^◌, ◌≢◌, [], ◌∷◌, ◌++◌, None, Some, length, map, OnOk, OnErr, IfOk, IfErr, IfSome, MatchOption};
 ghost use Rattle.ipc_terms.specs.declared.record.Event.TheVariants.{Hello, Do, Hangup};
 ghost use Rattle.ipc_policy.specs.Verdict.{Legal};
 ghost use Rattle.ipc_access.specs.Users.{user_of_key};
 ghost use Rattle.ipc_state.specs.Ranges.{first_bad};
 ghost use Rattle.ipc_core.specs.Outboxes.{BoxesAgree};
-ghost use Rattle.ipc_book.specs.Seats.{Stepped, StaleExactly, session_of, session_after};
+ghost use Rattle.ipc_book.specs.Seats.{Stepped, StaleExactly, FullExactly, without_back, without_full, other_answered, untaken_of, session_of, session_after};
 ghost use Rattle.ipc_book.specs.Locked.{Collects};
 ghost use Rattle.ipc_book.specs.Closing.{AreTheTrail, CloseFaultSays};
 
 use crate::close::{audit, gather};
-use crate::entry::{CloseFault, StepFault};
+use crate::entry::{CloseFault, OfferFault, StepFault};
 use crate::seat::{Receipts, Seat};
-use crate::stepping::{enter, stale};
-use ipc_core::{Config, Core, CoreFault};
+use crate::stepping::{call_of, enter, enter_or_back, stale};
+use ipc_core::{Config, Core, CoreFault, Posted};
 use ipc_terms::{Answer, Call, Event, NoMemory, Sid};
 use ipc_trail::Receipt;
 use std::alloc::Global;
@@ -148,34 +148,110 @@ impl<L: Ledger> Book<L> {
         ensures seats { self.new.seats ≡ self.old.seats }
     {
         let event = seat.calling(call);
-        self.step_made(alloc, seat, event, None)
+        match self.step_made(alloc, seat, event, None) {
+            Ok((receipt, _posted)) => Ok(receipt),
+            Err((fault, event)) => {
+                drop(event);
+                Err(fault)
+            }
+        }
     }
 
-    /// The same of an event of a call, of which there may be a copy already. Who has made one spares the
-    /// book the work.
+    /// Steps a call of the seat's session, or of nobody where the seat has none, if the session has fewer
+    /// than so many answers that it has not taken yet. Says whom the step answered besides the caller. An
+    /// `Err` changes nothing, and gives the call back; the seat's room may differ.
+    pub fn offer(
+        &mut self,
+        alloc: Global,
+        seat: &mut Seat<L>,
+        call: Call,
+        most: usize,
+    ) -> Result<(Receipt, Option<Sid>), (OfferFault, Call)>
+        ensures ok { IfOk result (λ p. Stepped self.old.core self.new.core seat.old.list seat.new.list (Do (session_of seat.old.sid) call) p.0) }
+        ensures other { IfOk result (λ p. p.1 ≡ other_answered self.old.core (Do (session_of seat.old.sid) call)) }
+        ensures session { seat.new.sid ≡ seat.old.sid }
+        ensures full { FullExactly most (length (untaken_of self.old.core seat.old.sid)) result }
+        ensures stale { length (untaken_of self.old.core seat.old.sid) < most → StaleExactly self.old.core seat.old.list (without_full result) }
+        ensures err { OnErr result ((self.new ≡ self.old) × (seat.new ≡ seat.old)) }
+        ensures back { IfErr result (λ p. p.1 ≡ call) }
+        ensures seats { self.new.seats ≡ self.old.seats }
+    {
+        let event = seat.calling(call);
+        match self.offer_made(alloc, seat, event, None, most) {
+            Ok((receipt, posted)) => Ok((receipt, posted.other)),
+            Err((fault, event)) => Err((fault, call_of(event))),
+        }
+    }
+
+    /// The same of an event of a call, of which there may be a copy already.
+    pub(crate) fn offer_made(
+        &mut self,
+        alloc: Global,
+        seat: &mut Seat<L>,
+        event: Event,
+        ready: Option<Event>,
+        most: usize,
+    ) -> Result<(Receipt, Posted), (OfferFault, Event)>
+        requires { IfSome ready (λ copy. copy ≡ event) }
+        ensures ok { IfOk result (λ p. Stepped self.old.core self.new.core seat.old.list seat.new.list event p.0) }
+        ensures other { IfOk result (λ p. p.1.other ≡ other_answered self.old.core event) }
+        ensures session { seat.new.sid ≡ seat.old.sid }
+        ensures full { FullExactly most (length (untaken_of self.old.core seat.old.sid)) result }
+        ensures stale { length (untaken_of self.old.core seat.old.sid) < most → StaleExactly self.old.core seat.old.list (without_full result) }
+        ensures err { OnErr result ((self.new ≡ self.old) × (seat.new ≡ seat.old)) }
+        ensures back { IfErr result (λ p. p.1 ≡ event) }
+        ensures seats { self.new.seats ≡ self.old.seats }
+    {
+        if self.waiting(seat) >= most {
+            return Err((OfferFault::Full, event));
+        }
+        match self.step_made(alloc, seat, event, ready) {
+            Ok(told) => Ok(told),
+            Err((fault, event)) => Err((OfferFault::Fault(fault), event)),
+        }
+    }
+
+    /// How many answers the seat's session has not taken yet; 0 for a seat without one.
+    pub(crate) fn waiting(&self, seat: &Seat<L>) -> usize
+        ensures { result ≡ length (untaken_of self.now.core seat.now.sid) }
+    {
+        match seat.sid {
+            Some(sid) => self.core.waiting(sid),
+            None => 0,
+        }
+    }
+
+    /// Where the book's memory comes from.
+    pub(crate) fn allocator(&self) -> Global {
+        *self.places.allocator()
+    }
+
+    /// Steps an event of a call, of which there may be a copy already. Who has made one spares the book
+    /// the work. An `Err` gives the event back.
     pub(crate) fn step_made(
         &mut self,
         alloc: Global,
         seat: &mut Seat<L>,
         event: Event,
         ready: Option<Event>,
-    ) -> Result<Receipt, StepFault>
+    ) -> Result<(Receipt, Posted), (StepFault, Event)>
         requires { IfSome ready (λ copy. copy ≡ event) }
-        ensures ok { IfOk result (λ r. Stepped self.old.core self.new.core seat.old.list seat.new.list event r) }
+        ensures ok { IfOk result (λ p. Stepped self.old.core self.new.core seat.old.list seat.new.list event p.0) }
+        ensures other { IfOk result (λ p. p.1.other ≡ other_answered self.old.core event) }
         ensures session { seat.new.sid ≡ seat.old.sid }
-        ensures stale { StaleExactly self.old.core seat.old.list result }
+        ensures stale { StaleExactly self.old.core seat.old.list (without_back result) }
         ensures err { OnErr result ((self.new ≡ self.old) × (seat.new ≡ seat.old)) }
+        ensures back { IfErr result (λ p. p.1 ≡ event) }
         ensures seats { self.new.seats ≡ self.old.seats }
     {
-        let (receipt, _posted) = enter(
+        enter_or_back(
             &mut self.core,
             &mut self.total,
             &mut seat.receipts,
             alloc,
             event,
             ready,
-        )?;
-        Ok(receipt)
+        )
     }
 
     /// Steps a hang-up of the seat's session, or of nobody where the seat has none. If it is accepted,

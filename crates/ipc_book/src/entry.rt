@@ -23,6 +23,15 @@ pub enum StepFault {
     NoMemory,
 }
 
+/// Why a call that was offered was not stepped. Nothing changed, and the call is given back.
+#[derive(Clone, Copy, PartialEq, Eq)]
+pub enum OfferFault {
+    /// The seat's session has not taken its answers yet: there are as many as there may be.
+    Full,
+    /// As a step's fault.
+    Fault(StepFault),
+}
+
 /// Why a book was not closed.
 #[derive(Clone, Copy, PartialEq, Eq)]
 pub enum CloseFault {

@@ -2,6 +2,7 @@
 //! events.
 #![tactic(auto)]
 
+mod bell;
 mod book;
 mod close;
 mod entry;
@@ -10,8 +11,9 @@ mod seat;
 mod shared;
 mod stepping;
 
+pub use bell::Bell;
 pub use book::Book;
-pub use entry::{CloseFault, Entry, StepFault};
+pub use entry::{CloseFault, Entry, OfferFault, StepFault};
 pub use seat::Seat;
 pub use shared::Shared;
 

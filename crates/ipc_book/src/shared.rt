@@ -6,26 +6,31 @@ ghost use Rattle.ipc_access.specs.Users.{user_of_key};
 ghost use Rattle.ipc_policy.specs.declared.config.Config.{Config};
 ghost use Rattle.ipc_policy.specs.Verdict.{Legal};
 ghost use Rattle.ipc_state.specs.Ranges.{first_bad};
-ghost use Rattle.ipc_book.specs.Seats.{BookView, session_of};
+ghost use Rattle.ipc_book.specs.Seats.{BookView, session_of, without_full};
 ghost use Rattle.ipc_book.specs.Locked.{ReceiptSays, AnswersSay, StaleSays};
 ghost use Rattle.ipc_book.specs.Closing.{AreTheTrail, CloseFaultSays};
 
+use crate::bell::{AWAKE_TURNS, Bell, Bells};
 use crate::book::Book;
-use crate::entry::{CloseFault, StepFault};
+use crate::entry::{CloseFault, OfferFault, StepFault};
 use crate::seat::Seat;
-use ipc_terms::{Answer, Call, Event, NoMemory};
+use crate::stepping::call_of;
+use ipc_terms::{Answer, Call, Event, NoMemory, Sid};
 use ipc_trail::Receipt;
 use std::alloc::Global;
 use std::sync::ledger::Ledger;
-use std::sync::{Mutex, Wait};
+use std::sync::{Arc, Mutex, MutexGuard, Wait};
+use std::thread::yield_now;
 
 /// A book that threads share: each call is one hold of the lock, round one call of the book. What can
 /// be made before the lock is taken is made there. A clause can't name the book that the lock hides: it
 /// says that there are a configuration and a legal history, of which it holds. Nothing says that a lock
-/// is got.
+/// is got. Beside the book stand the bells of those who wait for answers, by their sessions' numbers: a
+/// step that answers another session rings its bell, once the book is let go.
 #[derive(Drop)]
 pub struct Shared<L: Ledger> {
     book: Mutex<Book<L>>,
+    bells: Mutex<Bells>,
 }
 
 /// A copy of the event, if there is memory for one.
@@ -36,18 +41,56 @@ fn copy_of(event: &Event) -> Option<Event>
 }
 
 impl<L: Ledger> Shared<L> {
-    /// The book behind a lock.
+    /// The book behind a lock. Takes no memory.
     pub fn new(book: Book<L>) -> Shared<L> {
+        let bells = Bells::new(book.allocator());
         Shared {
             book: Mutex::new(book),
+            bells: Mutex::new(bells),
         }
+    }
+
+    /// Rings the bell from now on, whenever a step of another answers the session. To be called before
+    /// the session's first call: only a call of its own makes others answer it. An `Err` changes nothing.
+    pub fn add_bell<R: Wait>(
+        &self,
+        rt: &R,
+        session: Sid,
+        bell: &Arc<Bell, Global>,
+    ) -> Result<(), NoMemory> {
+        let bell = Arc::try_clone(bell)?;
+        self.bells.lock(rt).add(session, bell)
+    }
+
+    /// Rings no bell for the session any more.
+    pub fn remove_bell<R: Wait>(&self, rt: &R, session: Sid) {
+        self.bells.lock(rt).remove(session);
+    }
+
+    /// Rings the bell of the session that was answered besides the caller, if any was.
+    fn ring<R: Wait>(&self, rt: &R, other: Option<Sid>) {
+        if let Some(session) = other {
+            self.bells.lock(rt).ring(session);
+        }
+    }
+
+    /// The book, once no other thread has it. Each has it for a short time, so a thread that finds it taken stays awake
+    /// for some turns before it sleeps.
+    fn hold<R: Wait>(&self, rt: &R) -> MutexGuard<'_, Book<L>> {
+        for _ in 0..AWAKE_TURNS {
+            if let Some(book) = self.book.try_lock() {
+                return book;
+            }
+            yield_now();
+        }
+        self.book.lock(rt)
     }
 
     /// A seat without a session and without receipts.
     pub fn seat<R: Wait>(&self, rt: &R, alloc: Global) -> Result<Seat<L>, NoMemory>
         ensures { IfOk result (λ s. s ≡ record { sid = None; list = []; share = 0 }) }
     {
-        self.book.lock(rt).seat(alloc)
+        self.hold(rt).seat(alloc)
     }
 
     /// Steps a hello with a key, by a seat that has no session. If it is accepted, the seat has the
@@ -65,7 +108,7 @@ impl<L: Ledger> Shared<L> {
         ensures err { OnErr result (seat.new ≡ seat.old) }
     {
         seat.make_room();
-        self.book.lock(rt).hello_for(alloc, seat, key)
+        self.hold(rt).hello_for(alloc, seat, key)
     }
 
     /// Steps a call of the seat's session, or of nobody where the seat has none. The seat's copy of the
@@ -84,7 +127,46 @@ impl<L: Ledger> Shared<L> {
         let event = seat.calling(call);
         let ready = copy_of(&event);
         seat.make_room();
-        self.book.lock(rt).step_made(alloc, seat, event, ready)
+        let stepped = self.hold(rt).step_made(alloc, seat, event, ready);
+        match stepped {
+            Ok((receipt, posted)) => {
+                self.ring(rt, posted.other);
+                Ok(receipt)
+            }
+            Err((fault, event)) => {
+                drop(event);
+                Err(fault)
+            }
+        }
+    }
+
+    /// Steps a call of the seat's session, or of nobody where the seat has none, if the session has fewer
+    /// than so many answers that it has not taken yet: both in one hold. An `Err` leaves the seat as it
+    /// was, and gives the call back.
+    pub fn offer<R: Wait>(
+        &self,
+        rt: &R,
+        alloc: Global,
+        seat: &mut Seat<L>,
+        call: Call,
+        most: usize,
+    ) -> Result<Receipt, (OfferFault, Call)>
+        ensures ok { IfOk result (λ r. (c : Config) × ReceiptSays c seat.old seat.new (Do (session_of seat.old.sid) call) r) }
+        ensures stale { StaleSays seat.old.list (without_full result) }
+        ensures err { OnErr result (seat.new ≡ seat.old) }
+        ensures back { IfErr result (λ p. p.1 ≡ call) }
+    {
+        let event = seat.calling(call);
+        let ready = copy_of(&event);
+        seat.make_room();
+        let offered = self.hold(rt).offer_made(alloc, seat, event, ready, most);
+        match offered {
+            Ok((receipt, posted)) => {
+                self.ring(rt, posted.other);
+                Ok(receipt)
+            }
+            Err((fault, event)) => Err((fault, call_of(event))),
+        }
     }
 
     /// Steps a hang-up of the seat's session, or of nobody where the seat has none. If it is accepted,
@@ -100,7 +182,7 @@ impl<L: Ledger> Shared<L> {
         ensures err { OnErr result (seat.new ≡ seat.old) }
     {
         seat.make_room();
-        self.book.lock(rt).hang_up_for(alloc, seat)
+        self.hold(rt).hang_up_for(alloc, seat)
     }
 
     /// Gives what the seat's session has not taken yet, in order, and leaves none; nothing, where the
@@ -109,7 +191,7 @@ impl<L: Ledger> Shared<L> {
         ensures nobody { seat.now.sid ≡ None → result.items ≡ [] }
         ensures given { (c : Config) × AnswersSay c seat.now.sid seat.now.list result.items }
     {
-        self.book.lock(rt).collect(seat)
+        self.hold(rt).collect(seat)
     }
 
     /// How many answers the seat's session has not taken yet; 0 for a seat without one. By the time that
@@ -118,7 +200,7 @@ impl<L: Ledger> Shared<L> {
         ensures nobody { seat.now.sid ≡ None → result ≡ 0 }
     {
         match seat.sid() {
-            Some(sid) => self.book.lock(rt).core().waiting(sid),
+            Some(sid) => self.hold(rt).core().waiting(sid),
             None => 0,
         }
     }
@@ -136,12 +218,19 @@ impl<L: Ledger> Shared<L> {
         ensures fault { IfErr result (λ t. (b : BookView) × Legal b.core.config b.core.history × CloseFaultSays b seats.items t.0) }
         ensures back { IfErr result (λ t. t.2 ≡ seats) }
     {
-        let Shared { book } = self;
+        let Shared { book, bells } = self;
         let book = book.into_inner();
         book.holds();
         match book.close(alloc, seats) {
             Ok(book) => Ok(book),
-            Err((fault, book, seats)) => Err((fault, Shared::new(book), seats)),
+            Err((fault, book, seats)) => Err((
+                fault,
+                Shared {
+                    book: Mutex::new(book),
+                    bells,
+                },
+                seats,
+            )),
         }
     }
 }

@@ -1,14 +1,17 @@
 //! One event of a seat, over the fields of a book and of the seat.
 
-ghost use Rattle.std.specs.Prelude.{◌≡◌, ◌+◌, ◌≢◌, None, Some, OnOk, OnErr, IfOk, IfSome};
+ghost use Rattle.std.specs.Prelude.{◌≡◌, ◌+◌, ◌≢◌, None, Some, OnOk, OnErr, IfOk, IfErr, IfSome};
 ghost use Rattle.ipc_policy.specs.Verdict.{verdict, answers};
+ghost use Rattle.ipc_terms.specs.declared.ids.Sid.{Sid as Id};
+ghost use Rattle.ipc_terms.specs.declared.call.Call.{Call as Asked};
+ghost use Rattle.ipc_terms.specs.declared.record.Event.TheVariants.{Do};
 ghost use Rattle.ipc_core.specs.Outboxes.{session_at};
-ghost use Rattle.ipc_book.specs.Seats.{IsCurrent, Stepped, StaleExactly, last_receipt, receipt_at};
+ghost use Rattle.ipc_book.specs.Seats.{IsCurrent, Stepped, StaleExactly, last_receipt, receipt_at, without_back};
 
 use crate::entry::{Entry, StepFault};
 use crate::seat::Receipts;
 use ipc_core::{Core, Posted};
-use ipc_terms::{Event, NoMemory, push_within};
+use ipc_terms::{Call, Event, NoMemory, push_within};
 use ipc_trail::Receipt;
 use std::alloc::Global;
 use std::sync::ledger::{Book as Total, Ledger};
@@ -41,8 +44,18 @@ fn own_copy(event: &Event, ready: Option<Event>) -> Result<Event, NoMemory>
     }
 }
 
-/// Steps an event, of which there may be a copy already. The seat's copy and its place in the seat
-/// are there before the core steps, so nothing can fail after it.
+/// The call of an event of a call.
+pub(crate) fn call_of(event: Event) -> Call
+    requires { (sid : Id) × (call : Asked) × (event ≡ Do sid call) }
+    ensures { (sid : Id) (call : Asked) → event ≡ Do sid call → result ≡ call }
+{
+    let Event::Do { sid: _, call } = event else {
+        unreachable!();
+    };
+    call
+}
+
+/// Steps an event, of which there may be a copy already. An `Err` drops both.
 pub(crate) fn enter<L: Ledger>(
     core: &mut Core,
     total: &mut Total<L>,
@@ -59,19 +72,48 @@ pub(crate) fn enter<L: Ledger>(
     ensures total { OnOk result (total.new.total ≡ total.old.total + 1) }
     ensures err { OnErr result ((core.new ≡ core.old) × (total.new.total ≡ total.old.total) × (receipts.new ≡ receipts.old)) }
 {
+    match enter_or_back(core, total, receipts, alloc, event, ready) {
+        Ok(entered) => Ok(entered),
+        Err((fault, event)) => {
+            drop(event);
+            Err(fault)
+        }
+    }
+}
+
+/// Steps an event, of which there may be a copy already; an `Err` gives the event back. The seat's copy
+/// and its place in the seat are there before the core steps, so nothing can fail after it.
+pub(crate) fn enter_or_back<L: Ledger>(
+    core: &mut Core,
+    total: &mut Total<L>,
+    receipts: &mut Receipts<L>,
+    alloc: Global,
+    event: Event,
+    ready: Option<Event>,
+) -> Result<(Receipt, Posted), (StepFault, Event)>
+    requires { IfSome ready (λ copy. copy ≡ event) }
+    ensures ok { IfOk result (λ p. Stepped core.old core.new receipts.old.list receipts.new.list event p.0) }
+    ensures verdict { IfOk result (λ p. p.1.verdict ≡ verdict core.old.config core.old.history event) }
+    ensures caller { IfOk result (λ p. p.1.caller ≡ session_at 0 (answers core.old.config core.old.history event)) }
+    ensures other { IfOk result (λ p. p.1.other ≡ session_at 1 (answers core.old.config core.old.history event)) }
+    ensures stale { StaleExactly core.old receipts.old.list (without_back result) }
+    ensures total { OnOk result (total.new.total ≡ total.old.total + 1) }
+    ensures err { OnErr result ((core.new ≡ core.old) × (total.new.total ≡ total.old.total) × (receipts.new ≡ receipts.old)) }
+    ensures back { IfErr result (λ p. p.1 ≡ event) }
+{
     core.is_legal();
     if let Some((seen, found)) = stale(core, receipts) {
-        return Err(StepFault::Stale { seen, found });
+        return Err((StepFault::Stale { seen, found }, event));
     }
     let Ok(copy) = own_copy(&event, ready) else {
-        return Err(StepFault::NoMemory);
+        return Err((StepFault::NoMemory, event));
     };
     if receipts.entries.reserve(1).is_err() {
-        return Err(StepFault::NoMemory);
+        return Err((StepFault::NoMemory, event));
     }
     let place = core.trail().len();
     let Ok(posted) = core.post(alloc, event) else {
-        return Err(StepFault::NoMemory);
+        return Err((StepFault::NoMemory, copy));
     };
     let Some(receipt) = core.trail().receipt(place) else {
         unreachable!();

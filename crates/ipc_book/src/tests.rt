@@ -9,8 +9,8 @@ use ipc_terms::{Access, Answer, Bytes, Call, Desc, Mode, Name, OpenFlags, QueueO
 use std::alloc::{AllocError, Global};
 use std::marker::Brand;
 use std::process::Abort;
-use std::sync::Wait;
 use std::sync::ledger::{Blank, Ledger};
+use std::sync::{Arc, Wait};
 use std::test::*;
 use std::thread;
 use std::thread::Threads;
@@ -25,6 +25,11 @@ fn two_threads(rt: HostRuntime) -> Result<(), Fail> {
 #[test]
 fn one_message(rt: HostRuntime) -> Result<(), Fail> {
     pass_one::<Brand, _>(&rt, rt.alloc(), Blank::new(1 << 63))
+}
+
+#[test]
+fn one_offer(rt: HostRuntime) -> Result<(), Fail> {
+    offer_one::<Brand, _>(&rt, rt.alloc(), Blank::new(1 << 63))
 }
 
 fn shared<L: Ledger>(alloc: Global, blank: Blank) -> Result<Shared<L>, Fail>
@@ -205,4 +210,50 @@ fn is_bobs(answers: &[Answer]) -> bool {
         ] => { bytes.as_slice() == b"hi".as_slice() }
         _ => false,
     }
+}
+
+fn calls_of_receiver(alloc: Global) -> Result<Vec<Call>, Fail> {
+    let mut calls = Vec::new(alloc);
+    calls.push(opening(alloc, Access::Both)?)?;
+    calls.push(Call::MqReceive {
+        desc: Desc(0),
+        length: 8192,
+    })?;
+    Ok(calls)
+}
+
+fn calls_of_sender(alloc: Global) -> Result<Vec<Call>, Fail> {
+    let mut calls = Vec::new(alloc);
+    calls.push(opening(alloc, Access::Both)?)?;
+    calls.push(Call::MqSend {
+        desc: Desc(1),
+        priority: 0,
+        bytes: Bytes::from_slice(alloc, b"hi")?,
+    })?;
+    Ok(calls)
+}
+
+// A seat with two answers untaken is full where two are the most: the call comes back, and is stepped once they are
+// taken. A message that another sends to the blocked session rings its bell.
+fn offer_one<L: Ledger, R: Wait + Abort>(rt: &R, alloc: Global, blank: Blank) -> Result<(), Fail>
+    requires name { blank.name ≡ L.name }
+    requires parts { blank.parts ≡ L.parts }
+    requires many { blank.parts ≡ 2 ^ 63 }
+{
+    let book: Shared<L> = shared(alloc, blank)?;
+    let mut bob = act(rt, alloc, &book, b"kb1", calls_of_receiver(alloc)?).ok_or("a receiver")?;
+    let (fault, call) = book
+        .offer(rt, alloc, &mut bob, Call::Interrupt, 2)
+        .err()
+        .ok_or("no room")?;
+    assert!(rt; matches!((&fault, &call), (OfferFault::Full, Call::Interrupt)));
+    let bell = Arc::new(alloc, Bell::new())?;
+    book.add_bell(rt, bob.sid().ok_or("a session")?, &bell)?;
+    let other = act(rt, alloc, &book, b"kb1", calls_of_sender(alloc)?).ok_or("a sender")?;
+    assert!(rt; bell.rings() == 1 && book.collect(rt, &bob).len() == 3);
+    book.offer(rt, alloc, &mut bob, call, 2).ok().ok_or("room")?;
+    let mut seats = Vec::new(alloc);
+    seats.push(bob)?;
+    seats.push(other)?;
+    close_with(rt, alloc, book, seats, 7)
 }

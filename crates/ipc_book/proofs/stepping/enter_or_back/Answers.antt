@@ -2,7 +2,7 @@ use Rattle.std.proofs.Common.{rules, ◌≡◌, ◌∷◌, [], ◌++◌, length,
 use Rattle.ipc_book.specs.declared.entry.Entry.{Entry}
 use Rattle.ipc_book.specs.Seats.{IsCurrent}
 use Rattle.ipc_book.proofs.Places.{rises_push, one_longer}
-use Rattle.ipc_book.proofs.stepping.enter.Goals as goal
+use Rattle.ipc_book.proofs.stepping.enter_or_back.Goals as goal
 
 pub invariant_of-receipts-2 : goal.invariant_of-receipts-2
 invariant_of-receipts-2 g c =
