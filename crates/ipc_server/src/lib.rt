@@ -1,0 +1,18 @@
+//! The server: connections that are served side by side over one shared book.
+#![tactic(auto)]
+
+mod desk;
+mod ending;
+mod gate;
+mod held;
+mod links;
+mod reading;
+mod serve;
+mod workers;
+mod writing;
+
+pub use ending::{Ending, Served};
+pub use gate::{Gate, OpenGate};
+pub use links::{Link, Listen};
+pub use serve::serve_connection;
+pub use workers::{WorkersFault, run_workers};

@@ -1,0 +1,158 @@
+//! One connection, served to its end.
+
+ghost use Rattle.std.specs.Prelude.{◌≡◌, ◌≢◌, None};
+ghost use Rattle.ipc_server.specs.declared.ending.Ending.TheVariants.{StillLive};
+ghost use Rattle.ipc_server.specs.Begun.{BeginsWith};
+
+use crate::desk::{Chair, Desk, Place};
+use crate::ending::{Ending, Served};
+use crate::gate::Gate;
+use crate::held::{Held, Origin};
+use crate::reading::read_and_step;
+use crate::writing::write_answers;
+use ipc_book::{Bell, Seat, Shared, StepFault};
+use std::alloc::Global;
+use std::io::{Read, Write};
+use std::marker::{Brand, PhantomData};
+use std::sync::ledger::Ledger;
+use std::sync::{Arc, Condvar, Mutex, Wait};
+use std::thread;
+use std::thread::Threads;
+
+/// How often a hang-up that wants memory is tried.
+const MOST_HANG_UPS: u32 = 1_000;
+
+/// Serves a connection through a seat that has no session. Reads and steps on this thread, and writes answers on another,
+/// so that an answer goes out at once whoever's step made it. Before the session is hung up its answers are written, unless
+/// writing failed. The seat comes back whatever happens: its receipts go on from those that it came with, and unless the
+/// ending is `StillLive` it has no session.
+pub fn serve_connection<
+    L: Ledger + Send + Sync,
+    R: Threads + Wait + Sync,
+    I: Read + Drop,
+    O: Write + Send + Drop,
+    G: Gate + Sync,
+>(
+    rt: &R,
+    alloc: Global,
+    shared: &Shared<L>,
+    seat: Seat<L>,
+    conn: u64,
+    reader: I,
+    writer: O,
+    gate: &G,
+) -> Served<L>
+    requires { seat.sid ≡ None }
+    ensures kept { BeginsWith seat.list result.seat.list }
+    ensures hung_up { result.ending ≢ StillLive → result.seat.sid ≡ None }
+{
+    serve_from::<L, Brand, R, I, O, G>(rt, alloc, shared, seat, conn, reader, writer, gate)
+}
+
+fn serve_from<
+    L: Ledger + Send + Sync,
+    B: Origin + Send + Sync,
+    R: Threads + Wait + Sync,
+    I: Read + Drop,
+    O: Write + Send + Drop,
+    G: Gate + Sync,
+>(
+    rt: &R,
+    alloc: Global,
+    shared: &Shared<L>,
+    seat: Seat<L>,
+    conn: u64,
+    reader: I,
+    writer: O,
+    gate: &G,
+) -> Served<L>
+    requires none { seat.sid ≡ None }
+    requires origin { seat.list ≡ B.list }
+    ensures kept { BeginsWith B.list result.seat.list }
+    ensures hung_up { result.ending ≢ StillLive → result.seat.sid ≡ None }
+{
+    let Ok(bell) = Arc::new(alloc, Bell::new()) else {
+        return Served {
+            seat,
+            ending: Ending::NoMemory,
+        };
+    };
+    let held: Held<L, B> = Held {
+        seat,
+        of: PhantomData,
+    };
+    let chair = Chair {
+        place: Mutex::new(Place {
+            held,
+            last: None,
+            is_over: false,
+            failure: None,
+        }),
+        has_room: Condvar::new(),
+    };
+    let desk = Desk {
+        shared,
+        chair: &chair,
+        bell: &bell,
+        gate,
+        conn,
+        alloc,
+    };
+    let ending = read_beside_the_writer(rt, &desk, reader, writer);
+    let Chair { place, has_room: _ } = chair;
+    let Place { held, failure, .. } = place.into_inner();
+    hang_up(rt, alloc, shared, held, failure.unwrap_or(ending))
+}
+
+fn read_beside_the_writer<
+    L: Ledger + Send + Sync,
+    B: Origin + Send + Sync,
+    R: Threads + Wait + Sync,
+    I: Read + Drop,
+    O: Write + Send + Drop,
+    G: Gate + Sync,
+>(rt: &R, desk: &Desk<'_, L, B, G>, reader: I, writer: O) -> Ending {
+    thread::scope(thread::scope_env(), rt, |scope| {
+        if scope
+            .spawn(move || write_answers(rt, desk, writer))
+            .is_err()
+        {
+            return Ending::NoMemory;
+        }
+        let ending = read_and_step(rt, desk, reader);
+        desk.finish(rt);
+        ending
+    })
+}
+
+/// Hangs the session up, if there is one, and gives the seat back.
+fn hang_up<L: Ledger, B: Origin, R: Wait>(
+    rt: &R,
+    alloc: Global,
+    shared: &Shared<L>,
+    held: Held<L, B>,
+    ending: Ending,
+) -> Served<L>
+    ensures kept { BeginsWith B.list result.seat.list }
+    ensures hung_up { result.ending ≢ StillLive → result.seat.sid ≡ None }
+{
+    let mut held = held;
+    let session = held.sid();
+    for _ in 0..MOST_HANG_UPS {
+        if held.sid().is_none() {
+            break;
+        }
+        if let Err(StepFault::Stale { .. }) = held.hang_up(rt, alloc, shared) {
+            break;
+        }
+    }
+    if let Some(session) = session {
+        shared.remove_bell(rt, session);
+    }
+    let ending = match held.sid() {
+        Some(_) => Ending::StillLive,
+        None => ending,
+    };
+    let Held { seat, of: _ } = held;
+    Served { seat, ending }
+}
