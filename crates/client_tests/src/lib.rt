@@ -1,5 +1,9 @@
-//! The tests of the client's sessions, over memory.
+//! The tests of a client's sessions: servers and commands from memory, and what is sent and printed.
 #![tactic(auto)]
 
+#[cfg(test)]
+mod fault_tests;
+#[cfg(test)]
+mod made;
 #[cfg(test)]
 mod session_tests;

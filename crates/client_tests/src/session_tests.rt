@@ -1,15 +1,21 @@
 //! Sessions over connections of bytes: what is sent, what is printed, and how they end.
 
-use ipc_client::{ClientFault, client_session};
+use crate::made::{HELLO, run_session};
+use ipc_client::{ClientFault, LONGEST_KEY, client_session};
 use std::alloc::Global;
 use std::io::Read;
 use std::test::Fail;
 
-/// The frame of a hello with the key `ka1`.
-const HELLO: &[u8] = b"\0\0\0\x06\x01\0\x03ka1";
-
 /// Commands, the frames that come, the frames that are sent after the hello, what is printed, and how the session ends.
-static SESSIONS: [(&str, &[u8], &[u8], &str, Result<bool, ClientFault>); 11] = [
+type Row<'a> = (
+    &'a str,
+    &'a [u8],
+    &'a [u8],
+    &'a str,
+    Result<bool, ClientFault>,
+);
+
+static SESSIONS: [Row<'static>; 17] = [
     // A command that is refused.
     (
         "mq-close 0\n",
@@ -70,6 +76,14 @@ static SESSIONS: [(&str, &[u8], &[u8], &str, Result<bool, ClientFault>); 11] = [
         Err(ClientFault::Net),
     ),
     ("", b"\0\0\0\0", b"", "", Err(ClientFault::Net)),
+    // A request's opcode is no answer's.
+    (
+        "mq-close 0\n",
+        b"\0\0\0\x09\x41\0\0\0\0\0\0\0\0\0\0\0\x01\x17",
+        b"\0\0\0\x09\x04\0\0\0\0\0\0\0\0",
+        "",
+        Err(ClientFault::Net),
+    ),
     // A line that is not UTF-8 is tested below; this one is empty, and at fault.
     (
         "\numask 000\n",
@@ -78,54 +92,72 @@ static SESSIONS: [(&str, &[u8], &[u8], &str, Result<bool, ClientFault>); 11] = [
         "fault usage\nmask 022\n",
         Ok(false),
     ),
+    // A refused command before one that is accepted, and whose line has no end.
+    (
+        "interrupt\numask 027",
+        b"\0\0\0\x09\x41\0\0\0\0\0\0\0\0\0\0\0\x03\x4c\0\x03\0\0\0\x03\x44\0\x12",
+        b"\0\0\0\x01\x17\0\0\0\x03\x02\0\x17",
+        "refused 3 EINVAL NotInCall\nmask 022\n",
+        Ok(false),
+    ),
+    // A notice before the hello's answer, and two before a command's.
+    (
+        "sem-wait 0\n",
+        b"\0\0\0\x09\x4e\0\0\0\0\0\0\0\x01\0\0\0\x09\x41\0\0\0\0\0\0\0\0\0\0\0\x09\x4e\0\0\0\0\0\0\0\x02\0\0\0\x09\x4e\0\0\0\0\0\0\0\x03\0\0\0\x01\x4d",
+        b"\0\0\0\x09\x0f\0\0\0\0\0\0\0\0",
+        "notice 1\nnotice 2\nnotice 3\ninterrupted EINTR\n",
+        Ok(true),
+    ),
+    // Faults of words between two commands, and blanks round words.
+    (
+        " \tsem-post   1\t\numask 9\n\n# a comment\nsem-getvalue 1\n",
+        b"\0\0\0\x09\x41\0\0\0\0\0\0\0\0\0\0\0\x01\x42\0\0\0\x05\x48\0\0\0\x07",
+        b"\0\0\0\x09\x0e\0\0\0\0\0\0\0\x01\0\0\0\x09\x11\0\0\0\0\0\0\0\x01",
+        "done\nfault value octal\nfault usage\nfault usage\nvalue 7\n",
+        Ok(false),
+    ),
+    // A last line that has no end and is no command.
+    (
+        "sem-post 0\nnone",
+        b"\0\0\0\x09\x41\0\0\0\0\0\0\0\0\0\0\0\x01\x42",
+        b"\0\0\0\x09\x0e\0\0\0\0\0\0\0\0",
+        "done\nfault usage\n",
+        Ok(false),
+    ),
+    // A connection that ends in the hello's answer.
+    (
+        "mq-close 0\n",
+        b"\0\0\0\x09\x41\0\0\0",
+        b"",
+        "",
+        Err(ClientFault::Net),
+    ),
 ];
 
-/// Whether the session over this connection sends and prints these, and ends so.
-fn goes<R: Read + Drop>(
-    alloc: Global,
-    commands: &[u8],
-    connection: R,
-    sent: &[u8],
-    printed: &[u8],
-    outcome: Result<bool, ClientFault>,
-) -> bool {
-    let (mut requests, mut output) = (Vec::new(alloc), Vec::new(alloc));
-    let ended = client_session(
-        alloc,
-        b"ka1",
-        connection,
-        &mut requests,
-        commands,
-        &mut output,
-    );
-    ended == outcome
-        && output.as_slice() == printed
-        && requests.as_slice().strip_prefix(HELLO) == Some(sent)
+/// Whether the row's session goes so over a connection that gives its frames.
+fn goes<R: Read + Drop>(alloc: Global, row: &Row<'_>, connection: R) -> bool {
+    let (commands, _, sent, printed, outcome) = row;
+    let ended = run_session(alloc, connection, commands.as_bytes());
+    ended.outcome == *outcome
+        && ended.printed.as_slice() == printed.as_bytes()
+        && ended.sent.as_slice().strip_prefix(HELLO) == Some(*sent)
 }
 
 #[test]
 fn sessions_go_so(rt: HostRuntime) -> Result<(), Fail> {
-    for (row, (commands, came, sent, printed, outcome)) in SESSIONS.iter().enumerate() {
-        let (commands, printed) = (commands.as_bytes(), printed.as_bytes());
-        if !goes(rt.alloc(), commands, *came, sent, printed, *outcome) {
-            return Err(Fail::new(format_args!("session {row} goes otherwise")));
+    for (number, row) in SESSIONS.iter().enumerate() {
+        if !goes(rt.alloc(), row, row.1) {
+            return Err(Fail::new(format_args!("session {number} goes otherwise")));
         }
     }
     Ok(())
 }
 
 /// The same, where the answers come in two pieces.
-fn goes_in_pieces(
-    alloc: Global,
-    commands: &[u8],
-    came: &[u8],
-    sent: &[u8],
-    printed: &[u8],
-    outcome: Result<bool, ClientFault>,
-) -> bool {
-    for cut in 0..=came.len() {
-        let (one, two) = came.split_at(cut);
-        if !goes(alloc, commands, one.chain(two), sent, printed, outcome) {
+fn goes_in_pieces(alloc: Global, row: &Row<'_>) -> bool {
+    for cut in 0..=row.1.len() {
+        let (one, two) = row.1.split_at(cut);
+        if !goes(alloc, row, one.chain(two)) {
             return false;
         }
     }
@@ -134,27 +166,48 @@ fn goes_in_pieces(
 
 #[test]
 fn answers_come_cut_at_any_byte(rt: HostRuntime) -> Result<(), Fail> {
-    for (row, (commands, came, sent, printed, outcome)) in SESSIONS.iter().enumerate() {
-        let (commands, printed) = (commands.as_bytes(), printed.as_bytes());
-        if !goes_in_pieces(rt.alloc(), commands, came, sent, printed, *outcome) {
-            return Err(Fail::new(format_args!("session {row} goes otherwise")));
+    for (number, row) in SESSIONS.iter().enumerate() {
+        if !goes_in_pieces(rt.alloc(), row) {
+            return Err(Fail::new(format_args!("session {number} goes otherwise")));
         }
     }
     Ok(())
 }
 
+/// A server's answer to the hello, and then to a command.
+const MASK: &[u8] = b"\0\0\0\x09\x41\0\0\0\0\0\0\0\0\0\0\0\x03\x44\0\x12";
+
 /// A line that isn't UTF-8 ends the session; what came before it is printed.
 #[test]
 fn bad_lines_end_it(rt: HostRuntime) {
-    let came = b"\0\0\0\x09\x41\0\0\0\0\0\0\0\0\0\0\0\x03\x44\0\x12".as_slice();
+    let ended = run_session(rt.alloc(), MASK, b"umask 000\n\xff\n".as_slice());
+    assert!(rt; ended.outcome == Err(ClientFault::Line(2)));
+    assert!(rt; ended.printed.as_slice() == b"mask 022\n".as_slice());
     assert!(rt;
-        goes(
-            rt.alloc(),
-            b"umask 000\n\xff\n",
-            came,
-            b"\0\0\0\x03\x02\0\0",
-            b"mask 022\n",
-            Err(ClientFault::Line(2))
-        )
+        ended.sent.as_slice().strip_prefix(HELLO) == Some(b"\0\0\0\x03\x02\0\0".as_slice())
     );
+}
+
+/// A name that has no frame is a fault of its command, and nothing of it is sent.
+#[test]
+fn long_names_are_not_sent(rt: HostRuntime) -> Result<(), Fail> {
+    let name = String::from_utf8_lossy(rt.alloc(), &Vec::from_elem(rt.alloc(), b'a', 65_536)?)?;
+    let commands = format!(in rt.alloc(); "mq-unlink {name}\n")?;
+    let ended = run_session(rt.alloc(), MASK, commands.as_str().as_bytes());
+    assert!(rt; ended.outcome == Ok(false) && ended.sent.as_slice() == HELLO);
+    assert!(rt; ended.printed.as_slice() == b"fault value name\n".as_slice());
+    Ok(())
+}
+
+/// The longest key has a frame.
+#[test]
+fn longest_key_is_sent(rt: HostRuntime) -> Result<(), Fail> {
+    let key = Vec::from_elem(rt.alloc(), b'k', LONGEST_KEY)?;
+    let (mut sent, mut printed) = (Vec::new(rt.alloc()), Vec::new(rt.alloc()));
+    assert!(rt; key.len() <= LONGEST_KEY);
+    let none = b"".as_slice();
+    let outcome = client_session(rt.alloc(), &key, MASK, &mut sent, none, &mut printed);
+    assert!(rt; outcome == Ok(true) && sent.len() == 65_542 && printed.is_empty());
+    assert!(rt; sent.starts_with(b"\0\x01\0\x02\x01\xff\xffk"));
+    Ok(())
 }

@@ -1,1 +1,3 @@
 pub mod Greeting
+pub mod StreamLemmas
+pub mod EndLemmas

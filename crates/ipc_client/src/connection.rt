@@ -1,9 +1,9 @@
 //! A connection to the server, over a bounded number of reads.
 
-ghost use Rattle.std.specs.Prelude.{◌≡◌, IfErr};
+ghost use Rattle.std.specs.Prelude.{◌≡◌, ◌+◌, IfErr, IfOk, OnOk};
 ghost use Rattle.std.specs.IoError.{error_kind};
 ghost use Rattle.ipc_client.specs.Faults.{IsOfConnection, of_connection};
-ghost use Rattle.ipc_client.specs.Connections.{Takes, waiting};
+ghost use Rattle.ipc_client.specs.Connections.{IsNext, Reads, Takes, TakesNone, incoming, new_incoming, reads_left, unread, waiting};
 
 use crate::fault::ClientFault;
 use ipc_terms::{Answer, NoMemory};
@@ -33,7 +33,10 @@ pub(crate) struct Connection<R: Read + Drop, W: Write + Drop> {
 
 impl<R: Read + Drop, W: Write + Drop> Connection<R, W> {
     /// Reads and writes nothing yet.
-    pub(crate) fn new(alloc: Global, reader: R, writer: W) -> Result<Self, NoMemory> {
+    pub(crate) fn new(alloc: Global, reader: R, writer: W) -> Result<Self, NoMemory>
+        ensures bounded { IfOk result (λ connection. reads_left connection ≡ 1000000000) }
+        ensures new { IfOk result (λ connection. incoming R.remaining connection ≡ new_incoming (R.remaining reader)) }
+    {
         Ok(Connection {
             reader,
             writer,
@@ -45,15 +48,32 @@ impl<R: Read + Drop, W: Write + Drop> Connection<R, W> {
 
     /// Writes a request's frame.
     pub(crate) fn send(&mut self, frame: &[u8]) -> Result<(), ClientFault>
-        ensures { IfErr result IsOfConnection }
+        ensures kept { incoming R.remaining self.new ≡ incoming R.remaining self.old }
+        ensures fault { IfErr result IsOfConnection }
     {
         self.writer.write_all(frame).map_err(fault_of_connection)?;
         self.writer.flush().map_err(fault_of_connection)
     }
 
+    /// The next answer, which is waited for. What came behind it is kept.
+    pub(crate) fn next_answer(&mut self, alloc: Global) -> Result<Answer, ClientFault>
+        ensures next { IfOk result (λ answer. Reads (IsNext answer) (incoming R.remaining self.old) (incoming R.remaining self.new)) }
+        ensures fault { IfErr result IsOfConnection }
+    {
+        for _ in 0..u64::MAX {
+            if let Some(answer) = self.take_answer(alloc)? {
+                return Ok(answer);
+            }
+            self.read_more()?;
+        }
+        // The reads end long before.
+        Err(ClientFault::Net)
+    }
+
     /// Takes the answer in front of what came, if its frame is whole.
-    pub(crate) fn take_answer(&mut self, alloc: Global) -> Result<Option<Answer>, ClientFault>
-        ensures { Takes result (waiting self.old) (waiting self.new) }
+    fn take_answer(&mut self, alloc: Global) -> Result<Option<Answer>, ClientFault>
+        ensures taken { Takes result (waiting self.old) (waiting self.new) }
+        ensures kept { unread R.remaining self.new ≡ unread R.remaining self.old }
     {
         match read_answer(alloc, &self.waiting) {
             Ok(Some((answer, length))) => {
@@ -66,22 +86,24 @@ impl<R: Read + Drop, W: Write + Drop> Connection<R, W> {
         }
     }
 
-    /// Waits for more bytes. An interrupted read brings none.
-    pub(crate) fn read_more(&mut self) -> Result<(), ClientFault>
-        ensures { IfErr result IsOfConnection }
+    /// Reads once. An interrupted read brings nothing.
+    fn read_more(&mut self) -> Result<(), ClientFault>
+        ensures more { OnOk result (Reads TakesNone (incoming R.remaining self.old) (incoming R.remaining self.new)) }
+        ensures counted { OnOk result (reads_left self.old ≡ reads_left self.new + 1) }
+        ensures fault { IfErr result IsOfConnection }
     {
         let Some(left) = self.left.checked_sub(1) else {
             return Err(ClientFault::Net);
         };
         self.left = left;
-        let count = match self.reader.read(&mut self.piece) {
-            Ok(count) => count,
-            Err(error) if error.kind() == ErrorKind::Interrupted => return Ok(()),
-            Err(error) => return Err(fault_of_connection(error)),
-        };
-        match self.piece.get(..count) {
-            Some(came) if count > 0 => Ok(self.waiting.extend_from_slice(came)?),
-            _ => Err(ClientFault::Net),
+        match self.reader.read(&mut self.piece) {
+            Ok(0) => Err(ClientFault::Net),
+            Ok(count) => {
+                self.waiting.extend_from_slice(&self.piece[..count])?;
+                Ok(())
+            }
+            Err(error) if error.kind() == ErrorKind::Interrupted => Ok(()),
+            Err(error) => Err(fault_of_connection(error)),
         }
     }
 }

@@ -10,4 +10,4 @@ mod session;
 pub use encode::encode_lines;
 pub use fault::{ClientFault, ProgramFault};
 pub use frame::frame_of_words;
-pub use session::client_session;
+pub use session::{LONGEST_KEY, client_session};

@@ -28,9 +28,9 @@ use crate::parsing::matches_of_words;
 pub use answers::{line_of_answer, put_line};
 pub use faults::{WordFault, put_fault};
 use ipc_terms::Call;
-pub use readings::optional_count;
+pub use readings::{optional_count, optional_number, optional_word};
 use std::alloc::Global;
-pub use usage::usage_of_commands;
+pub use usage::{USAGE_OF_VALUES, usage_of_commands};
 
 /// The call that a command's words mean, as `mq-open /jobs rw --create`.
 ///

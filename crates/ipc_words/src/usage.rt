@@ -8,6 +8,23 @@ ghost use Rattle.ipc_words.specs.Usage.{argument_usage, form_usage};
 use crate::commands::{Argument, FORMS, Form};
 use std::alloc::{AllocError, Global};
 
+/// What may stand for each value in the lines of `usage_of_commands`, a line for each, without the last line end.
+pub const USAGE_OF_VALUES: &str = "\
+  <octal>           one to four octal digits, as 0660
+  <name>            a slash and what the queue or semaphore is called, as /jobs
+  <access>          r, w, rw
+  <d>               a number, as `opened` told it
+  <prio>            a number, 0 to 32767
+  <bytes>           text without blanks; of set-limit a number
+  <len>             a number, at least the queue's message size
+  <how>             of mq-setattr block, nonblock; of mq-notify on, off
+  <family>          mq, sem
+  <start>, <count>  a number
+  <uid>, <gid>      a number; of chown also keep
+  <value>           of --mode as <octal>; of other options a number
+Numbers are decimal, without sign and leading zeros. A name and bytes may also be hex: and pairs of
+lower-case hexadecimal digits.";
+
 /// A line for each command, as `  mq-unlink <name>`: what stands in `[]` may be left out.
 pub fn usage_of_commands(alloc: Global) -> Result<String, AllocError>
     ensures { IfOk result (λ text. string_bytes text ≡ flat_map form_usage forms) }

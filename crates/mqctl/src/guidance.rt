@@ -1,12 +1,12 @@
 //! What `mqctl --help` says.
 
-use ipc_words::usage_of_commands;
+use ipc_words::{USAGE_OF_VALUES, usage_of_commands};
 use std::alloc::{AllocError, Global};
 
 /// How the program is run, each command, and what may stand for its values.
 pub fn help_text(alloc: Global) -> Result<String, AllocError> {
     let commands = usage_of_commands(alloc)?;
-    format!(in alloc; "{USAGE}\n{commands}\n{VALUES}")
+    format!(in alloc; "{USAGE}\n{commands}\nValues:\n  {USAGE_OF_VALUES}\n\n{EXAMPLE}")
 }
 
 const USAGE: &str = "\
@@ -16,19 +16,14 @@ Usage:
   mqctl ADDRESS KEY COMMAND   sends one command to the server at HOST:PORT, as the user with this key
   mqctl ADDRESS KEY           sends each line of standard input
   mqctl                       prints the frame of each line of standard input, in hexadecimal
+  mqctl --help                prints this
 
 An answer is a line. Those of a command end with the first that is no notice.
 
+Each worker of the server serves one connection at a time. There are 4 by default, so a fifth client waits.
+
 Commands:";
 
-const VALUES: &str = "\
-Values:
-  <octal>, --mode   a mode in octal digits, as 0660
-  <name>            a slash and then what the queue or semaphore is called, as /jobs
-  <access>          r, w or rw
-  <d>               the number of a description, as `opened` told it
-  <bytes>           text without spaces, or hex: and pairs of hexadecimal digits
-  <how>             of mq-setattr nonblock or block, of mq-notify on or off
-  <family>          mq or sem
-  <uid>, <gid>      a number; of chown also keep
-  other values      a number in decimal digits";
+const EXAMPLE: &str = "\
+Example:
+  mqctl 127.0.0.1:7000 ka1 mq-open /jobs rw --create";

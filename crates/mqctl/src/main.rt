@@ -1,19 +1,17 @@
 //! The client's program. `mqctl` without arguments reads commands from standard input, one a line, and writes the
-//! frames of their requests to standard output. `mqctl ADDRESS KEY` sends them to a server and writes its answers.
+//! frames of their requests to standard output. `mqctl ADDRESS KEY` sends them to a server and writes its answers;
+//! words behind the key are the only command.
 #![tactic(auto)]
 
+mod calls;
 mod guidance;
 
+use calls::talk;
 use guidance::help_text;
-use ipc_client::{ClientFault, ProgramFault, client_session, encode_lines};
-use std::alloc::Global;
+use ipc_client::{ClientFault, ProgramFault, encode_lines};
 use std::env;
 use std::io::ErrorKind;
-use std::net::TcpStream;
 use std::process::ExitCode;
-
-/// The longest key that a hello has room for, in bytes.
-const LONGEST_KEY: usize = 65_535;
 
 fn main(rt: HostRuntime) -> ExitCode {
     match run(&rt) {
@@ -58,60 +56,4 @@ fn show_help(rt: &HostRuntime) -> Result<bool, ProgramFault> {
         Ok(()) => Ok(true),
         Err(_) => Err(ClientFault::Write.into()),
     }
-}
-
-/// Speaks to the server at the address: the command that these words are, or each line of standard input.
-fn talk(
-    rt: &HostRuntime,
-    address: &str,
-    key: &str,
-    command: &[String],
-) -> Result<bool, ProgramFault> {
-    if key.len() > LONGEST_KEY {
-        return Err(ProgramFault::Arguments);
-    }
-    let Some(line) = line_of(rt.alloc(), command)? else {
-        return Err(ProgramFault::Arguments);
-    };
-    let Ok(stream) = TcpStream::connect(rt, address) else {
-        return Err(ClientFault::Net.into());
-    };
-    // Each request is waited for, so it is sent at once. A connection that is gone shows when it is used.
-    let _ = stream.set_nodelay(true);
-    let outcome = if command.is_empty() {
-        client_session(
-            rt.alloc(),
-            key.as_bytes(),
-            &stream,
-            &stream,
-            rt.stdin(),
-            rt.stdout(),
-        )
-    } else {
-        client_session(
-            rt.alloc(),
-            key.as_bytes(),
-            &stream,
-            &stream,
-            line.as_str().as_bytes(),
-            rt.stdout(),
-        )
-    };
-    Ok(outcome?)
-}
-
-/// The words as one line, parted by spaces. None where a word has a line feed, which no line can hold.
-fn line_of(alloc: Global, words: &[String]) -> Result<Option<String>, ClientFault> {
-    let mut line = String::new(alloc);
-    for word in words {
-        if word.as_str().as_bytes().contains(&b'\n') {
-            return Ok(None);
-        }
-        if !line.is_empty() {
-            line.push_str(" ")?;
-        }
-        line.push_str(word.as_str())?;
-    }
-    line.push_str("\n")?;
-    Ok(Some(line))
 }
