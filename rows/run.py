@@ -3,7 +3,8 @@
 status with it. Prints a line for each case and a last line with the counts; the status is 1 where one differs.
 
 A case is NAME.in in one of the folders of FOLDERS, beside NAME.args (one argument a line), NAME.out, NAME.err and
-NAME.status; what is missing is empty, and the status 0. Other cases are made below, where a file can't show them.
+NAME.status; what is missing is empty, and the status 0. It is run in that folder. Other cases are made below, where a
+file can't show them.
 """
 
 import dataclasses
@@ -40,6 +41,9 @@ class Case:
     # What a server on loopback sends at once before it ends its side, and what it must get; its address is put first.
     served: bytes = None
     sent: bytes = b""
+    folder: pathlib.Path = TOP
+    # The words of clients that speak in turn to the server that this is, at ADDRESS. What they print comes last.
+    clients: tuple = ()
 
 
 def cases_of(folder, program):
@@ -53,6 +57,7 @@ def cases_of(folder, program):
             beside(".out"),
             beside(".err"),
             int(beside(".status") or 0),
+            folder=TOP / folder,
         )
 
 
@@ -65,6 +70,12 @@ def made_cases():
     yield Case("mqserve a longer line", "mqserve", [], USERS + b"#" + comment, STARTED, b"mqserve: line 4\n", 6)
     yield Case("mqserve a reader that fails", "mqserve", [], TOP, b"", b"mqserve: read\n", 4)
     yield Case("mqserve a writer that fails", "mqserve", [], USERS, b"", b"mqserve: write\n", 4, "/dev/full")
+    nobody = [b"serve", b"rows/mqserve/two.users", b"127.0.0.1:0", b"--stop-after", b"0"]
+    yield Case("mqserve a server's writer that fails", "mqserve", nobody, b"", b"", b"mqserve: write\n", 4, "/dev/full")
+    two = [b"serve", b"rows/mqserve/two.users", b"ADDRESS", b"--stop-after", b"2"]
+    told = b"serving ADDRESS\nserved 2\nopened 0\nrefused 8 EBADF BadDescr\n"
+    calls_of_two = ([b"ka1", b"mq-open", b"/jobs", b"rw", b"--create"], [b"r00t", b"mq-getattr", b"0"])
+    yield Case("mqserve a server with two clients", "mqserve", two, b"", told, clients=calls_of_two)
     yield Case("mqserve an argument that is not UTF-8", "mqserve", [b"\xff"], b"", b"", b"error: an argument is not UTF-8\n", 2)
     yield Case("mqctl 100,000 commands", "mqctl", [], b"interrupt\n" * calls, b"0000000117\n" * calls)
     yield Case("mqctl the longest line", "mqctl", [], comment, b"fault usage\n", b"", 1)
@@ -125,18 +136,38 @@ def run_served(case):
     return ended
 
 
+def run_with_clients(case):
+    """Runs a server, and its clients as soon as it says that it serves."""
+    with socket.create_server(("127.0.0.1", 0)) as listener:
+        address = b"127.0.0.1:%d" % listener.getsockname()[1]
+    command = [address if word == b"ADDRESS" else word for word in command_of(case)]
+    with subprocess.Popen(command, stdout=subprocess.PIPE, stderr=subprocess.PIPE, cwd=case.folder) as server:
+        try:
+            serving = server.stdout.readline()
+            shown = [run(Case("", "mqctl", [address, *words], b""))[0] for words in case.clients]
+            served, err = server.communicate(timeout=SECONDS)
+        finally:
+            server.kill()
+    return b"".join([(serving + served).replace(address, b"ADDRESS"), *shown]), err, server.returncode
+
+
+def command_of(case):
+    return [os.fsencode(TOP / "crates" / case.program / "out" / case.program), *case.arguments]
+
+
 def run(case):
     """Returns what the program wrote to both streams, and its status."""
     if case.served is not None:
         return run_served(case)
-    program = TOP / "crates" / case.program / "out" / case.program
-    command = [os.fsencode(program), *case.arguments]
+    if case.clients:
+        return run_with_clients(case)
+    command = command_of(case)
     is_folder = isinstance(case.given, pathlib.Path)
     source = os.open(case.given, os.O_RDONLY) if is_folder else None
     sink = os.open(case.writes_to, os.O_WRONLY) if case.writes_to else subprocess.PIPE
     given = {"stdin": source} if is_folder else {"input": case.given}
     try:
-        ended = subprocess.run(command, stdout=sink, stderr=subprocess.PIPE, timeout=SECONDS, **given)
+        ended = subprocess.run(command, stdout=sink, stderr=subprocess.PIPE, timeout=SECONDS, cwd=case.folder, **given)
     finally:
         for opened in (source, sink if case.writes_to else None):
             if opened is not None:

@@ -4,9 +4,9 @@ use Rattle.clap.specs.declared.error.kind.ErrorKind.{ErrorKind as ArgumentKind}
 use Rattle.clap.specs.declared.error.kind.ErrorKind.TheVariants.{OutOfMemory as NoRoom}
 use Rattle.std.specs.declared.io.ErrorKind.{ErrorKind}
 use Rattle.std.specs.declared.io.ErrorKind.TheVariants.{OutOfMemory}
-use Rattle.ipc_script.specs.declared.fault.ScriptFault.TheVariants.{Memory}
+use Rattle.ipc_script.specs.declared.fault.ScriptFault.TheVariants.{Memory, Read, Write}
 use Rattle.ipc_program.specs.declared.fault.ProgramFault.{ProgramFault}
-use Rattle.ipc_program.specs.declared.fault.ProgramFault.TheVariants.{Arguments, NotUtf8, Script}
+use Rattle.ipc_program.specs.declared.fault.ProgramFault.TheVariants.{Arguments, Net, NotUtf8, Script}
 
 -- what the parser of the arguments refuses
 abbrev pub of_arguments : Error → ArgumentKind → ProgramFault
@@ -17,3 +17,20 @@ of_arguments error kind = Arguments error
 abbrev pub of_reading : ErrorKind → ProgramFault
 of_reading OutOfMemory = Script Memory
 of_reading kind = NotUtf8
+
+-- a fault, or want of memory where the system says so
+abbrev pub or_memory : ErrorKind → ProgramFault → ProgramFault
+or_memory OutOfMemory fault = Script Memory
+or_memory kind fault = fault
+
+-- where a file can't be read
+abbrev pub of_file : ErrorKind → ProgramFault
+of_file kind = or_memory kind (Script Read)
+
+-- where standard output can't be written
+abbrev pub of_output : ErrorKind → ProgramFault
+of_output kind = or_memory kind (Script Write)
+
+-- where an address can't be bound
+abbrev pub of_address : ErrorKind → ProgramFault
+of_address kind = or_memory kind Net

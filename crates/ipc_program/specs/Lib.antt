@@ -1,3 +1,5 @@
 pub mod Options
+pub mod Servers
+pub mod Tasks
 pub mod Faults
 pub mod Statuses

@@ -1,44 +1,53 @@
--- The program's arguments in clap's terms, and the limits that they ask for.
-use Rattle.std.specs.Prelude.{◌-◌, ◌^◌, ℕ, true, List, [], ◌∷◌, Option, option_map, Ok, codes, unwrap_or}
-use Rattle.std.specs.Option.{option_map_or}
-use Rattle.clap.specs.Simple.{App, Shape, new_shape, subcommand_of, with_subcommand}
-use Rattle.clap.specs.Walk.{Row, Rule, Text}
-use Rattle.ipc_policy.specs.declared.config.Limits.{Limits}
-use Rattle.ipc_policy.specs.declared.config.TheConstants.Limits.{STANDARD}
-use Rattle.ipc_words.specs.Grammar.{valued}
-use Rattle.ipc_words.specs.Numbers.{decimal_within}
-use Rattle.ipc_words.specs.Readings.{Meaning, ◌>>=◌, option_at}
+-- The program's arguments in clap's terms.
+use Rattle.std.specs.Prelude.{◌≡◌, true, false, List, [], ◌∷◌, codes}
+use Rattle.clap.specs.Simple.{App, Shape, app_of, new_shape, with_rule, with_subcommand}
+use Rattle.clap.specs.Walk.{Rule, Text}
+use Rattle.clap.specs.declared.builder.command.Command.{Command}
+use Rattle.clap.specs.declared.builder.command.Command.TheViews.{out-Command}
+use Rattle.ipc_words.specs.Grammar.{required, valued}
 
 -- `--NAME N`
 abbrev pub number_option : Text → Rule
 number_option name = record (valued name) { value_names = 1 }
 
--- `script [--msg-max N] [--msgsize-max N] [--queues-max N]`
+-- a word that must be given
+abbrev pub place : Text → Rule
+place name = record (required name) { value_names = 1 }
+
+-- `[--msg-max N] [--msgsize-max N] [--queues-max N]`
+abbrev pub limit_options : List Rule
+limit_options = number_option (codes "msg-max") ∷ number_option (codes "msgsize-max") ∷ number_option (codes "queues-max") ∷ []
+
+-- the command with these options behind its other arguments
+abbrev pub with_limits : App → App
+with_limits app =
+    with_rule (with_rule (with_rule app (number_option (codes "msg-max"))) (number_option (codes "msgsize-max"))) (number_option (codes "queues-max"))
+
+-- `script`, with the limits
 abbrev pub script_shape : Shape
-script_shape = record (new_shape (codes "script")) {
-  rules = number_option (codes "msg-max") ∷ number_option (codes "msgsize-max") ∷ number_option (codes "queues-max") ∷ [];
+script_shape = record (new_shape (codes "script")) { rules = limit_options }
+
+-- `serve USERS ADDRESS [--workers N] [--stop-after N]`, with the limits
+abbrev pub serve_shape : Shape
+serve_shape = record (new_shape (codes "serve")) {
+  rules = place (codes "users") ∷ place (codes "address") ∷ number_option (codes "workers") ∷ number_option (codes "stop-after") ∷ limit_options;
 }
 
--- `mqserve`, with that subcommand
+-- `mqserve`, with these subcommands
 abbrev pub app_of_program : App
-app_of_program = with_subcommand (record { top = record (new_shape (codes "mqserve")) { has_version = true }; subs = [] }) script_shape
+app_of_program =
+    with_subcommand (with_subcommand (record { top = record (new_shape (codes "mqserve")) { has_version = true }; subs = [] }) script_shape) serve_shape
 
--- the number of an option, and where it isn't given the standard one
-abbrev pub limit_at : ℕ → Text → List Row → Meaning ℕ
-limit_at standard option rows = option_at (decimal_within (2 ^ 32 - 1)) option rows >>= λ given. Ok (unwrap_or given standard)
+-- ---- commands of the program
 
--- the limits of the options that stand in the rows, or the first option whose value is no such number
-abbrev pub limits_given : List Row → Meaning Limits
-limits_given rows =
-    limit_at STANDARD.msg_max (codes "msg-max") rows >>= λ msg_max.
-    limit_at STANDARD.msgsize_max (codes "msgsize-max") rows >>= λ msgsize_max.
-    limit_at STANDARD.queues_max (codes "queues-max") rows >>= λ queues_max.
-    Ok (record { msg_max = msg_max; msgsize_max = msgsize_max; queues_max = queues_max })
+-- no argument of the command is its subcommands' too
+abbrev pub HasNoGlobals : Command → Type 0
+HasNoGlobals command = (out-Command command).has_globals ≡ false
 
--- those of the options of `script`, and where it isn't named the standard ones
-abbrev pub limits_of_script : Option (List Row) → Meaning Limits
-limits_of_script rows = option_map_or limits_given rows (Ok STANDARD)
+-- a subcommand of this shape
+abbrev pub IsSubcommand : Shape → Command → Type 0
+IsSubcommand shape command = (app_of command ≡ record { top = shape; subs = [] }) × HasNoGlobals command
 
--- the limits that the program's words ask for
-abbrev pub limits_asked : List Text → Meaning Limits
-limits_asked words = limits_of_script (option_map (λ script. script.1) (subcommand_of app_of_program words))
+-- `new` is `old` with the three limits behind its other arguments
+abbrev pub AddsLimits : Command → Command → Type 0
+AddsLimits old new = (app_of new ≡ with_limits (app_of old)) × (HasNoGlobals old → HasNoGlobals new)

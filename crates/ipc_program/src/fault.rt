@@ -1,11 +1,11 @@
-//! Why a program that runs a script ends.
+//! Why a program that runs a script or serves connections ends.
 
 ghost use Rattle.std.specs.Prelude.{◌≡◌};
 ghost use Rattle.std.specs.IoError.{error_kind};
 ghost use Rattle.clap.specs.Words.{kind_of};
 ghost use Rattle.ipc_script.specs.declared.fault.ScriptFault.TheVariants.{Memory};
 ghost use Rattle.ipc_program.specs.declared.fault.ProgramFault.TheVariants.{Script};
-ghost use Rattle.ipc_program.specs.Faults.{of_arguments, of_reading};
+ghost use Rattle.ipc_program.specs.Faults.{of_address, of_arguments, of_file, of_output, of_reading, or_memory};
 ghost use Rattle.ipc_program.specs.Statuses.{status_of_fault, status_of_arguments};
 
 use clap::error::ErrorKind;
@@ -13,14 +13,17 @@ use ipc_script::ScriptFault;
 use std::alloc::AllocError;
 use std::{fmt, io};
 
-/// Why a program ends before the end of its script, or without one.
+/// Why a program ends before the end of its task, or without one.
 #[derive(Debug, Drop)]
 pub enum ProgramFault {
     /// The arguments ask for nothing that there is, or for help.
     Arguments(clap::Error),
     /// An argument isn't UTF-8.
     NotUtf8,
+    /// A script's fault, and a server's of the same kind: of its users or limits, of reading, writing or memory.
     Script(ScriptFault),
+    /// The address can't be bound, or no connection can be accepted any more.
+    Net,
 }
 
 impl ProgramFault {
@@ -32,7 +35,29 @@ impl ProgramFault {
             ProgramFault::Arguments(error) => status_of_arguments(error.kind()),
             ProgramFault::NotUtf8 => 2,
             ProgramFault::Script(fault) => fault.status(),
+            ProgramFault::Net => 4,
         }
+    }
+
+    /// Of reading a file.
+    pub fn of_file(error: &io::Error) -> Self
+        ensures { result ≡ of_file (error_kind error.now) }
+    {
+        or_memory(error, ProgramFault::Script(ScriptFault::Read))
+    }
+
+    /// Of writing to standard output.
+    pub fn of_output(error: &io::Error) -> Self
+        ensures { result ≡ of_output (error_kind error.now) }
+    {
+        or_memory(error, ProgramFault::Script(ScriptFault::Write))
+    }
+
+    /// Of binding an address.
+    pub fn of_address(error: &io::Error) -> Self
+        ensures { result ≡ of_address (error_kind error.now) }
+    {
+        or_memory(error, ProgramFault::Net)
     }
 
     /// Says why: help and the version on standard output, all else on standard error. One that can't
@@ -52,6 +77,7 @@ impl fmt::Display for ProgramFault {
             ProgramFault::Arguments(error) => write!(f, "{error}"),
             ProgramFault::NotUtf8 => f.write_str("error: an argument is not UTF-8\n"),
             ProgramFault::Script(fault) => writeln!(f, "mqserve: {fault}"),
+            ProgramFault::Net => f.write_str("mqserve: net\n"),
         }
     }
 }
@@ -62,6 +88,16 @@ fn status_of_arguments(kind: ErrorKind) -> u8
     match kind {
         ErrorKind::DisplayHelp | ErrorKind::DisplayVersion => 0,
         _ => 2,
+    }
+}
+
+/// The fault, or want of memory where the error says so.
+fn or_memory(error: &io::Error, fault: ProgramFault) -> ProgramFault
+    ensures { result ≡ or_memory (error_kind error.now) fault }
+{
+    match error.kind() {
+        io::ErrorKind::OutOfMemory => ProgramFault::Script(ScriptFault::Memory),
+        _ => fault,
     }
 }
 

@@ -3,6 +3,8 @@
 
 mod arguments;
 mod fault;
+mod tasks;
 
-pub use arguments::limits_of_words;
+pub use arguments::task_of_words;
 pub use fault::ProgramFault;
+pub use tasks::{Serving, Task};

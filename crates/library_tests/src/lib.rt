@@ -30,6 +30,8 @@ mod script_tests;
 #[cfg(test)]
 mod sem_tests;
 #[cfg(test)]
+mod serving_tests;
+#[cfg(test)]
 mod terms_tests;
 #[cfg(test)]
 mod trail_tests;

@@ -3,7 +3,7 @@
 
 use ipc_access::UserFault;
 use ipc_core::{Field, Limits};
-use ipc_program::limits_of_words;
+use ipc_program::{Task, task_of_words};
 use ipc_script::{ScriptFault, run_script};
 use std::alloc::{AllocError, Global};
 use std::cell::Cell;
@@ -146,8 +146,9 @@ static ARGUMENTS: [(&[&str], Result<Limits, u8>); 30] = [
 
 /// The limits of a run without users and steps, or the status that the program ends by.
 fn limits_or_status(alloc: Global, words: &'static [&'static str]) -> Result<Limits, u8> {
-    let limits = match limits_of_words(alloc, "", words) {
-        Ok(limits) => limits,
+    let limits = match task_of_words(alloc, "", words) {
+        Ok(Task::Script(limits)) => limits,
+        Ok(Task::Serve(_)) => return Err(0),
         Err(fault) => return Err(fault.status()),
     };
     match run_script(alloc, limits, b".\n".as_slice(), Vec::new(alloc)) {

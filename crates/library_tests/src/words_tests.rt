@@ -4,7 +4,7 @@ use bitflags::Flags;
 use ipc_terms::{
     Access, Attributes, Call, Family, Gid, NoMemory, QueueOpen, SemaphoreOpen, Target, Uid,
 };
-use ipc_words::{WordFault, call_of_words, usage_of_commands};
+use ipc_words::{USAGE_OF_VALUES, WordFault, call_of_words, usage_of_commands};
 use std::alloc::Global;
 use std::test::Fail;
 
@@ -650,5 +650,17 @@ const USAGE: &str = "  umask <octal>
 #[test]
 fn each_command_has_a_usage_line(rt: HostRuntime) -> Result<(), Fail> {
     assert!(rt; usage_of_commands(rt.alloc())?.as_str() == USAGE);
+    Ok(())
+}
+
+#[test]
+fn each_value_has_a_usage_line(rt: HostRuntime) -> Result<(), Fail> {
+    for rest in USAGE.split('<').skip(1) {
+        let name = rest.split('>').next().unwrap_or("");
+        let value = format!(in rt.alloc(); "<{name}>")?;
+        if !USAGE_OF_VALUES.contains(value.as_str()) {
+            return Err(Fail::new(format_args!("{value} has no line")));
+        }
+    }
     Ok(())
 }

@@ -1,6 +1,6 @@
 //! What is told to a person who runs the program.
 
-use ipc_words::usage_of_commands;
+use ipc_words::{USAGE_OF_VALUES, usage_of_commands};
 use std::alloc::{AllocError, Global};
 use std::io::IsTerminal;
 
@@ -14,10 +14,13 @@ pub fn hint(rt: &HostRuntime) {
     }
 }
 
-/// What `--help` says below the arguments: the form of a script, and each command.
+/// What `--help` says below the arguments: the form of a script, what a server does, and each command with what may stand
+/// for its values.
 pub fn help_text(alloc: Global) -> Result<String, AllocError> {
     let commands = usage_of_commands(alloc)?;
-    format!(in alloc; "{FORM}\n{commands}\n{EXAMPLE}")
+    format!(in alloc;
+        "{FORM}\n\n{SERVER}\n\nCommands:\n{commands}\nValues:\n  {USAGE_OF_VALUES}\n\n{EXAMPLE}"
+    )
 }
 
 const FORM: &str = "\
@@ -26,9 +29,11 @@ A user is NAME:KEY:UID:GID:GROUPS:LIMIT, where GROUPS and LIMIT may be empty.
 A step is a label and what its session does:
   LABEL hello KEY    starts a session of the user with this key
   LABEL hangup       ends the session that the label started last
-  LABEL COMMAND      calls, as that session
+  LABEL COMMAND      calls, as that session";
 
-Commands:";
+const SERVER: &str = "\
+A server reads its users, a line for each, from the file USERS. Clients speak to it by mqctl.
+Each worker serves one connection at a time. There are 4 by default, so a fifth client waits.";
 
 const EXAMPLE: &str = "\
 Example:

@@ -1,17 +1,25 @@
-//! The server's program. `mqserve` or `mqserve script` runs a script from standard input, and
-//! writes its answers to standard output.
+//! The server's program. `mqserve` or `mqserve script` runs a script from standard input, and writes its answers to
+//! standard output. `mqserve serve` serves connections.
 #![tactic(auto)]
 
 mod guidance;
+mod serving;
 
 use guidance::{help_text, hint};
-use ipc_program::{ProgramFault, limits_of_words};
+use ipc_core::Limits;
+use ipc_program::{ProgramFault, Task, task_of_words};
 use ipc_script::run_script;
+use serving::serve;
 use std::env;
 use std::process::ExitCode;
 
 fn main(rt: HostRuntime) -> ExitCode {
-    match run(&rt) {
+    let outcome = match task_given(&rt) {
+        Ok(Task::Script(limits)) => script(&rt, limits),
+        Ok(Task::Serve(serving)) => serve(&rt, &serving),
+        Err(fault) => Err(fault),
+    };
+    match outcome {
         Ok(()) => ExitCode::SUCCESS,
         Err(fault) => {
             fault.print(&rt);
@@ -20,10 +28,15 @@ fn main(rt: HostRuntime) -> ExitCode {
     }
 }
 
-fn run(rt: &HostRuntime) -> Result<(), ProgramFault> {
+/// What the arguments ask for.
+fn task_given(rt: &HostRuntime) -> Result<Task, ProgramFault> {
     let words: Vec<String> = env::args(rt)?.collect(rt.alloc())?;
     let help = help_text(rt.alloc())?;
-    let limits = limits_of_words(rt.alloc(), help.as_str(), &words)?;
+    task_of_words(rt.alloc(), help.as_str(), &words)
+}
+
+/// Runs the script on standard input.
+fn script(rt: &HostRuntime, limits: Limits) -> Result<(), ProgramFault> {
     hint(rt);
     run_script(rt.alloc(), limits, rt.stdin(), rt.stdout())?;
     Ok(())

@@ -1,6 +1,6 @@
 //! One script, and what it must write.
 
-use ipc_program::{ProgramFault, limits_of_words};
+use ipc_program::{ProgramFault, Task, task_of_words};
 use ipc_script::run_script;
 use std::alloc::{AllocError, Global};
 use std::rt::Files;
@@ -68,9 +68,11 @@ fn run(
     input: &[u8],
     output: &mut Vec<u8>,
 ) -> Result<(), ProgramFault> {
-    let limits = limits_of_words(alloc, "", words)?;
-    run_script(alloc, limits, input, output)?;
-    Ok(())
+    match task_of_words(alloc, "", words)? {
+        Task::Script(limits) => Ok(run_script(alloc, limits, input, output)?),
+        // No connection comes here.
+        Task::Serve(_) => Err(ProgramFault::Net),
+    }
 }
 
 /// The text of a file that may be missing.

@@ -1,0 +1,257 @@
+//! The arguments of a server, and how a program ends that can't serve.
+
+use crate::made::shows;
+use ipc_access::UserFault;
+use ipc_core::{Field, Limits};
+use ipc_program::{ProgramFault, Task, task_of_words};
+use ipc_script::ScriptFault;
+use std::alloc::Global;
+use std::io;
+use std::io::ErrorKind;
+use std::test::Fail;
+
+/// How many workers a server has, after how many connections it ends, and its limits.
+type Told = (usize, Option<u64>, Limits);
+
+/// The words behind `mqserve serve users.txt 127.0.0.1:7000`, and what they tell the server.
+static TOLD: [(&[&str], Told); 12] = [
+    (&[], (4, None, Limits::STANDARD)),
+    (&["--workers", "1"], (1, None, Limits::STANDARD)),
+    (&["--workers", "64"], (64, None, Limits::STANDARD)),
+    (&["--workers=8"], (8, None, Limits::STANDARD)),
+    (&["--stop-after", "0"], (4, Some(0), Limits::STANDARD)),
+    (&["--stop-after", "5"], (4, Some(5), Limits::STANDARD)),
+    (
+        &["--stop-after", "18446744073709551615"],
+        (4, Some(18_446_744_073_709_551_615), Limits::STANDARD),
+    ),
+    (
+        &["--msg-max", "0"],
+        (
+            4,
+            None,
+            Limits {
+                msg_max: 0,
+                ..Limits::STANDARD
+            },
+        ),
+    ),
+    (
+        &["--msgsize-max", "4294967295"],
+        (
+            4,
+            None,
+            Limits {
+                msgsize_max: 4_294_967_295,
+                ..Limits::STANDARD
+            },
+        ),
+    ),
+    (
+        &["--queues-max", "65537"],
+        (
+            4,
+            None,
+            Limits {
+                queues_max: 65_537,
+                ..Limits::STANDARD
+            },
+        ),
+    ),
+    (
+        &["--stop-after", "3", "--workers", "2"],
+        (2, Some(3), Limits::STANDARD),
+    ),
+    (
+        &[
+            "--queues-max",
+            "7",
+            "--msgsize-max",
+            "6",
+            "--msg-max",
+            "5",
+            "--stop-after",
+            "4",
+            "--workers",
+            "3",
+        ],
+        (
+            3,
+            Some(4),
+            Limits {
+                msg_max: 5,
+                msgsize_max: 6,
+                queues_max: 7,
+            },
+        ),
+    ),
+];
+
+/// The task of the words, behind some that stand in front of each.
+fn task_behind(alloc: Global, front: &[&str], words: &[&str]) -> Result<Task, ProgramFault> {
+    let mut all = Vec::new(alloc);
+    all.extend_from_slice(front)?;
+    all.extend_from_slice(words)?;
+    task_of_words(alloc, "", &all)
+}
+
+static SERVE: [&str; 4] = ["mqserve", "serve", "users.txt", "127.0.0.1:7000"];
+
+fn tells(task: &Task, told: &Told) -> bool {
+    match task {
+        Task::Serve(serving) => serving.users.as_str() == "users.txt"
+            && serving.address.as_str() == "127.0.0.1:7000"
+            && (serving.workers, serving.stop_after, serving.limits) == *told,
+        Task::Script(_) => false,
+    }
+}
+
+#[test]
+fn words_tell_a_server(rt: HostRuntime) -> Result<(), Fail> {
+    for (row, (words, told)) in TOLD.iter().enumerate() {
+        let Ok(task) = task_behind(rt.alloc(), &SERVE, words) else {
+            return Err(Fail::new(format_args!("row {row} is no task")));
+        };
+        if !tells(&task, told) {
+            return Err(Fail::new(format_args!("row {row}")));
+        }
+    }
+    Ok(())
+}
+
+/// The words behind `mqserve`, and the first line of why they ask for nothing.
+static REFUSED: [(&[&str], &str); 29] = [
+    (&["serve"], MISSING),
+    (&["serve", "u"], MISSING),
+    (&["serve", "--workers", "4"], MISSING),
+    (
+        &["serve", "u", "a", "b"],
+        "error: unexpected argument 'b' found",
+    ),
+    (
+        &["serve", "u", "a", "--port"],
+        "error: unexpected argument '--port' found",
+    ),
+    (
+        &["serve", "u", "a", "--workers"],
+        "error: a value is required for '--workers <N>' but none was supplied",
+    ),
+    (&["serve", "u", "a", "--workers", "0"], WORKERS),
+    (&["serve", "u", "a", "--workers", "65"], WORKERS),
+    (&["serve", "u", "a", "--workers", "4294967295"], WORKERS),
+    (&["serve", "u", "a", "--workers", "4294967296"], WORKERS),
+    (&["serve", "u", "a", "--workers", "04"], WORKERS),
+    (&["serve", "u", "a", "--workers", "+4"], WORKERS),
+    (&["serve", "u", "a", "--workers", "four"], WORKERS),
+    (&["serve", "u", "a", "--workers", ""], WORKERS),
+    (
+        &["serve", "u", "a", "--workers", "-1"],
+        "error: unexpected argument '-1' found",
+    ),
+    (
+        &["serve", "u", "a", "--workers", "2", "--workers", "2"],
+        "error: the argument '--workers <N>' cannot be used multiple times",
+    ),
+    (&["serve", "u", "a", "--stop-after", "x"], STOP_AFTER),
+    (&["serve", "u", "a", "--stop-after", "01"], STOP_AFTER),
+    (&["serve", "u", "a", "--stop-after", "+1"], STOP_AFTER),
+    (&["serve", "u", "a", "--stop-after", ""], STOP_AFTER),
+    (
+        &["serve", "u", "a", "--stop-after", "18446744073709551616"],
+        STOP_AFTER,
+    ),
+    (&["serve", "u", "a", "--msg-max", "05"], MSG_MAX),
+    (&["serve", "u", "a", "--msg-max", "4294967296"], MSG_MAX),
+    (
+        &[
+            "serve",
+            "u",
+            "a",
+            "--msg-max",
+            "x",
+            "--stop-after",
+            "x",
+            "--workers",
+            "0",
+        ],
+        WORKERS,
+    ),
+    (
+        &["serve", "u", "a", "--msg-max", "x", "--stop-after", "x"],
+        STOP_AFTER,
+    ),
+    (
+        &["script", "--workers", "4"],
+        "error: unexpected argument '--workers' found",
+    ),
+    (&["script", "u"], "error: unexpected argument 'u' found"),
+    (
+        &["--workers", "4", "serve", "u", "a"],
+        "error: unexpected argument '--workers' found",
+    ),
+    (
+        &["Serve", "u", "a"],
+        "error: unrecognized subcommand 'Serve'",
+    ),
+];
+
+const MISSING: &str = "error: the following required arguments were not provided:";
+
+const WORKERS: &str =
+    "error: invalid value workers: N is 1 to 64, decimal, without sign and leading zeros";
+
+const STOP_AFTER: &str =
+    "error: invalid value stop-after: N is decimal, without sign and leading zeros, at most 18446744073709551615";
+
+const MSG_MAX: &str =
+    "error: invalid value msg-max: N is decimal, without sign and leading zeros, at most 4294967295";
+
+#[test]
+fn other_words_are_faults_of_the_arguments(rt: HostRuntime) -> Result<(), Fail> {
+    for (row, (words, line)) in REFUSED.iter().enumerate() {
+        let Err(fault) = task_behind(rt.alloc(), &["mqserve"], words) else {
+            return Err(Fail::new(format_args!("row {row} is a task")));
+        };
+        let shown = format!(in rt.alloc(); "{fault}")?;
+        if fault.status() != 2 || shown.as_str().lines().next() != Some(line) {
+            return Err(Fail::new(format_args!("row {row} is {shown}")));
+        }
+    }
+    Ok(())
+}
+
+#[test]
+fn faults_of_a_server_have_words_and_statuses(rt: HostRuntime) -> Result<(), Fail> {
+    let full = io::Error::from(ErrorKind::OutOfMemory);
+    let other = io::Error::from(ErrorKind::NotFound);
+    let faults = [
+        (ProgramFault::of_file(&other), "mqserve: read\n", 4),
+        (ProgramFault::of_output(&other), "mqserve: write\n", 4),
+        (ProgramFault::of_address(&other), "mqserve: net\n", 4),
+        (ProgramFault::of_file(&full), "mqserve: memory\n", 5),
+        (ProgramFault::of_output(&full), "mqserve: memory\n", 5),
+        (ProgramFault::of_address(&full), "mqserve: memory\n", 5),
+        (
+            ScriptFault::Users(UserFault::BadLine(2)).into(),
+            "mqserve: users BadLine 2\n",
+            3,
+        ),
+        (
+            ScriptFault::Config(Field::MsgMax).into(),
+            "mqserve: config MsgMax\n",
+            3,
+        ),
+        (
+            ProgramFault::NotUtf8,
+            "error: an argument is not UTF-8\n",
+            2,
+        ),
+    ];
+    for (fault, words, status) in &faults {
+        shows(rt.alloc(), fault, words)?;
+        if fault.status() != *status {
+            return Err(Fail::new(format_args!("{words} has another status")));
+        }
+    }
+    Ok(())
+}
