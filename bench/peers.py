@@ -1,0 +1,289 @@
+#!/usr/bin/env python3
+"""Measures sends and receives of 64-byte messages by mqserve and by other servers, in turn; run by peers.sh.
+
+Prints a Markdown table of the medians on standard output, and how far it is on standard error. An answer that is not
+the one that must come ends it, with status 1 and without a figure.
+"""
+
+import argparse
+import math
+import os
+import platform
+import random
+import shutil
+import signal
+import socket
+import statistics
+import subprocess
+import sys
+import time
+from contextlib import contextmanager
+from pathlib import Path
+from typing import NamedTuple
+
+from peers_plot import plot, shown_count
+
+HERE = Path(__file__).resolve().parent
+PROGRAM = HERE.parent / "crates" / "mqserve" / "out" / "mqserve"
+
+# The user may have as many queues as are wanted here.
+USERS = "bench:ka1:1000:1000::1000000000000000\n"
+
+# How long each peer is measured in each round, whole and short.
+SECONDS, SHORT = 0.5, 0.1
+
+# The client ends itself before.
+MOST_SECONDS = 70
+
+# What is printed of each peer, in the order of the table.
+PEERS = {
+    "kernel": "kernel's queues, no server",
+    "echo": "C echo",
+    "least": "least C server of the frames",
+    "mqserve": "mqserve",
+    "redis": "Redis",
+    "beanstalkd": "beanstalkd",
+}
+
+# Those that come from elsewhere: Debian's packages have the same names.
+SERVERS = {"redis": "redis-server", "beanstalkd": "beanstalkd"}
+
+WANTED = """\
+{missing}: not found on PATH. They are Debian's packages of these names:
+    apt-get install redis-server beanstalkd
+Without root, in an empty folder:
+    apt-get download redis-server redis-tools beanstalkd libjemalloc2 liblzf1
+    for package in *.deb; do dpkg -x "$package" root; done
+    export PATH="$PWD/root/usr/bin:$PATH" LD_LIBRARY_PATH="$PWD/root/usr/lib/x86_64-linux-gnu"
+Or leave them out by --peers: of {all}."""
+
+
+class Work(NamedTuple):
+    shown: str
+    word: str  # of the client
+    connections: int
+    peers: tuple
+    # What mqserve shall reach on an idle machine, by a peer's rate.
+    aim: float
+    aim_of: str
+
+
+ALONE = tuple(peer for peer in PEERS if peer != "echo")
+WORKS = (
+    Work("One connection, a request at a time", "serial", 1, tuple(PEERS), 0.9, "echo"),
+    Work("One connection, by 8", "batch", 1, tuple(PEERS), 2.0, "redis"),
+    Work("64 connections, each by 8", "batch", 64, tuple(PEERS), 3.0, "redis"),
+    Work("Ping-pong of two processes", "pong", 1, ALONE, 1.5, "redis"),
+)
+
+
+class Figure(NamedTuple):
+    rate: float  # messages a second
+    cost: float  # the server's processor time a message, in microseconds; NaN without a server
+
+
+def command_of(peer, room, program, port, connections):
+    """How its server is started, None for the kernel."""
+    return {
+        "kernel": None,
+        "echo": [room / "echo_server", port],
+        "least": [room / "least_server", port],
+        "mqserve": [program, "serve", room / "users", f"127.0.0.1:{port}", "--workers", max(4, connections)],
+        "redis": [SERVERS["redis"], "--bind", "127.0.0.1", "--port", port, "--save", "", "--appendonly", "no"],
+        "beanstalkd": [SERVERS["beanstalkd"], "-l", "127.0.0.1", "-p", port],
+    }[peer]
+
+
+def free_port():
+    with socket.socket() as probe:
+        probe.bind(("127.0.0.1", 0))
+        return probe.getsockname()[1]
+
+
+def wait_until_ready(server, port, log):
+    """Returns when the server takes connections."""
+    end = time.monotonic() + 10
+    while server.poll() is None and time.monotonic() < end:
+        with socket.socket() as probe:
+            if probe.connect_ex(("127.0.0.1", port)) == 0:
+                return
+        time.sleep(0.01)
+    sys.exit(f"{server.args[0]} takes no connections: {log.read_text().strip()}")
+
+
+@contextmanager
+def serving(command, port, room):
+    """The server as a process, None without a command. It is ended by its id, by peers.sh where this program can't."""
+    if command is None:
+        yield None
+        return
+    log = room / "log"
+    with log.open("w") as output:
+        words = [str(word) for word in command]
+        server = subprocess.Popen(words, cwd=room, stdin=subprocess.DEVNULL, stdout=output, stderr=output)
+    note = room / f"{server.pid}.server"
+    try:
+        note.touch()
+        wait_until_ready(server, port, log)
+        yield server
+    finally:
+        server.terminate()
+        try:
+            server.wait(5)
+        except subprocess.TimeoutExpired:
+            server.kill()
+            server.wait()
+        note.unlink()
+
+
+def processor_seconds(server):
+    """What the server has used so far, NaN without one."""
+    if server is None:
+        return float("nan")
+    # The name, in brackets, may have spaces.
+    fields = Path(f"/proc/{server.pid}/stat").read_text().rpartition(")")[2].split()
+    return (int(fields[11]) + int(fields[12])) / os.sysconf("SC_CLK_TCK")
+
+
+def measured(peer, work, room, program, seconds):
+    """One figure, of a server that is started for it."""
+    port = free_port()
+    protocol = "mqserve" if peer == "least" else peer
+    words = [room / "client", protocol, str(port), work.word, str(work.connections), str(seconds)]
+    with serving(command_of(peer, room, program, port, work.connections), port, room) as server:
+        before = processor_seconds(server)
+        client = subprocess.run(words, capture_output=True, text=True, timeout=MOST_SECONDS)
+        if client.returncode:
+            sys.exit(f"{PEERS[peer]}, {work.shown}: status {client.returncode}: {client.stderr.strip()}")
+        spent = processor_seconds(server) - before
+    rate, messages = map(float, client.stdout.split())
+    return Figure(rate, spent / messages * 1e6)
+
+
+def measured_rounds(peers, rounds, room, program, seconds):
+    """The figures of each work and peer, round by round. In a round works are shuffled, and the peers of each work."""
+    figures = {(work, peer): [] for work in WORKS for peer in peers if peer in work.peers}
+    for number in range(1, rounds + 1):
+        for work in random.sample(WORKS, len(WORKS)):
+            print(f"round {number} of {rounds}: {work.shown}", file=sys.stderr, flush=True)
+            among = [peer for peer in peers if peer in work.peers]
+            for peer in random.sample(among, len(among)):
+                figures[work, peer].append(measured(peer, work, room, program, seconds))
+    return figures
+
+
+def ratio(figures, work, peer, other):
+    """The median of the rounds' ratios of rates; None where the other wasn't measured."""
+    if (work, other) not in figures:
+        return None
+    pairs = zip(figures[work, peer], figures[work, other])
+    return statistics.median(one.rate / by.rate for one, by in pairs)
+
+
+def shown_ratio(number):
+    return "–" if number is None else f"{number:.2f}"
+
+
+def shown_cost(number):
+    return "–" if math.isnan(number) else f"{number:.2f}"
+
+
+def table(figures):
+    """The table in Markdown."""
+    lines = [
+        "| | Messages a second | Least to greatest | Of the echo | Of Redis | Server's processor time a message, µs |",
+        "|---|--:|--:|--:|--:|--:|",
+    ]
+    for work in WORKS:
+        lines.append(f"| **{work.shown}** | | | | | |")
+        for peer in (peer for peer in PEERS if (work, peer) in figures):
+            rates = [it.rate for it in figures[work, peer]]
+            cells = [
+                PEERS[peer],
+                shown_count(statistics.median(rates)),
+                f"{shown_count(min(rates))} to {shown_count(max(rates))}",
+                shown_ratio(ratio(figures, work, peer, "echo")),
+                shown_ratio(ratio(figures, work, peer, "redis")),
+                shown_cost(statistics.median(it.cost for it in figures[work, peer])),
+            ]
+            lines.append(f"| {' | '.join(cells)} |")
+    return "\n".join(lines)
+
+
+def aims(figures):
+    """How mqserve stands to each aim, a line each."""
+    for work in WORKS:
+        if (work, "mqserve") in figures and (work, work.aim_of) in figures:
+            reached = ratio(figures, work, "mqserve", work.aim_of)
+            verdict = "reached" if reached >= work.aim else "missed"
+            yield f"{work.shown}: {reached:.2f} of {PEERS[work.aim_of]}, the aim is {work.aim}: {verdict}"
+
+
+def load():
+    return " ".join(f"{it:.2f}" for it in os.getloadavg())
+
+
+def processor():
+    lines = Path("/proc/cpuinfo").read_text().splitlines()
+    names = (line.partition(":")[2].strip() for line in lines if line.startswith("model name"))
+    return next(names, platform.machine())
+
+
+def versions(peers):
+    """Of the servers that aren't ours, as they say it."""
+    for peer in peers:
+        if peer in SERVERS:
+            output = subprocess.run([SERVERS[peer], "-v"], capture_output=True, text=True, check=True).stdout
+            yield output.partition(" sha")[0].strip()
+
+
+def check_programs(peers, program):
+    """Ends the program where a server is missing."""
+    missing = [SERVERS[peer] for peer in peers if peer in SERVERS and not shutil.which(SERVERS[peer])]
+    if missing:
+        sys.exit(WANTED.format(missing=" and ".join(missing), all=",".join(PEERS)))
+    if "mqserve" in peers and not program.exists():
+        sys.exit("no program was built yet: run `make build` first")
+
+
+def arguments():
+    parser = argparse.ArgumentParser(prog="peers.sh", description=__doc__)
+    parser.add_argument("room", type=Path, help=argparse.SUPPRESS)
+    parser.add_argument("--rounds", type=int, default=7, help="7 where nothing is given")
+    parser.add_argument("--short", action="store_true", help=f"{SHORT} s each in place of {SECONDS} s, for trying")
+    parser.add_argument("--peers", default=",".join(PEERS), help="these alone, of %(default)s")
+    parser.add_argument("--program", type=Path, default=PROGRAM, help="the mqserve that is measured")
+    parser.add_argument("--plot", type=Path, help="peers.svg beside this file; no plot where --short is given")
+    given = parser.parse_args()
+    given.peers = given.peers.split(",")
+    unknown = [peer for peer in given.peers if peer not in PEERS]
+    if unknown:
+        parser.error(f"no such peer: {', '.join(unknown)}")
+    if given.rounds < 1:
+        parser.error("at least one round")
+    if given.plot is None and not given.short:
+        given.plot = HERE / "peers.svg"
+    return given
+
+
+def main():
+    given = arguments()
+    # So that servers are ended where peers.sh ends this program.
+    signal.signal(signal.SIGTERM, lambda *_: sys.exit(143))
+    check_programs(given.peers, given.program)
+    (given.room / "users").write_text(USERS)
+    seconds = SHORT if given.short else SECONDS
+    before = load()
+    figures = measured_rounds(given.peers, given.rounds, given.room, given.program.resolve(), seconds)
+    print(f"{processor()}, {os.cpu_count()} cores, Linux {platform.release()}; {'; '.join(versions(given.peers))}.")
+    print(f"Medians of {given.rounds} rounds in random order, {seconds} s each, on {time.strftime('%Y-%m-%d')}.")
+    print(f"Load average of 1, 5 and 15 minutes: before {before}, after {load()}.\n")
+    print(table(figures))
+    for line in aims(figures):
+        print(line, file=sys.stderr)
+    if given.plot:
+        given.plot.write_text(plot(WORKS, PEERS, figures))
+
+
+if __name__ == "__main__":
+    main()

@@ -1,0 +1,19 @@
+/* Connections over TCP on loopback. */
+#ifndef SOCKETS_H
+#define SOCKETS_H
+
+#include <stddef.h>
+
+/* Says what could not be done, and ends the program with status 1. */
+_Noreturn void fail(const char *what);
+
+/* A connection to a server on this port. */
+int dial(int port);
+
+/* Serves connections on this port until the program is ended, each by a thread of its own. */
+_Noreturn void serve_connections(int port, void *(*serve)(void *socket));
+
+/* Whether all bytes could be written. */
+int write_all(int socket, const char *bytes, size_t count);
+
+#endif
