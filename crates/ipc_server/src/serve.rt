@@ -138,6 +138,8 @@ fn hang_up<L: Ledger, B: Origin, R: Wait>(
 {
     let mut held = held;
     let session = held.sid();
+    // Answers that could not be written go now: nobody can take them once the session has ended.
+    drop(held.collect(rt, shared));
     for _ in 0..MOST_HANG_UPS {
         if held.sid().is_none() {
             break;

@@ -6,7 +6,7 @@ use ipc_access::Users;
 use ipc_book::{Book, Seat, Shared};
 use ipc_core::{Config, Core, Limits};
 use ipc_server::{Ending, OpenGate, serve_connection};
-use ipc_terms::{Event, Record};
+use ipc_terms::{Event, Record, Sid};
 use std::alloc::Global;
 use std::io::{Read, Write};
 use std::marker::Brand;
@@ -38,6 +38,8 @@ pub(crate) struct Closed {
     pub(crate) records: usize,
     /// The last record is an accepted hang-up.
     pub(crate) is_hung_up: bool,
+    /// How many answers the first session has not taken.
+    pub(crate) untaken: usize,
 }
 
 /// Closes the book with these seats, which are all that it made.
@@ -56,6 +58,7 @@ fn end_of(core: &Core) -> Closed {
     Closed {
         records,
         is_hung_up: last.is_some_and(is_hang_up),
+        untaken: core.waiting(Sid(0)),
     }
 }
 

@@ -147,6 +147,7 @@ fn is_cut_off<R: Threads + Wait + Sync>(
     Ok(Some(
         is_over(&left, Ending::WriteFailed)
             && left.closed.is_hung_up
+            && left.closed.untaken == 0
             && written.len() < answers.len()
             && answers.starts_with(&written),
     ))

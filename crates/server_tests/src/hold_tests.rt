@@ -7,11 +7,11 @@ use crate::signs::{Sign, wait_a_turn};
 use crate::streams::{HELLO, INTERRUPT, NOT_IN_CALL, STARTED};
 use ipc_book::Shared;
 use ipc_server::{
-    Ending, Gate, Link, Listen, OpenGate, WorkersFault, run_workers, serve_connection,
+    Ending, Gate, Link, Listen, OpenGate, Served, WorkersFault, run_workers, serve_connection,
 };
 use std::alloc::{AllocError, Global};
 use std::io;
-use std::io::{ErrorKind, Read};
+use std::io::{ErrorKind, Read, Write};
 use std::marker::Brand;
 use std::sync::Wait;
 use std::sync::atomic::{AtomicUsize, Ordering};
@@ -22,6 +22,9 @@ use std::time::Clock;
 
 /// How many interrupts come behind the hello.
 const CALLS: usize = 1_000;
+
+/// The most bytes of answers that are untaken at once: 257, with that of the hello.
+const MOST_AT_ONCE: usize = 13 + 257 * 7;
 
 /// Gives one frame at each read: a hello, and then interrupts.
 #[derive(Drop)]
@@ -115,6 +118,91 @@ fn serve_held<L: Ledger + Send + Sync, R: Threads + Wait + Clock + Sync>(
 #[test]
 fn unread_answers_hold_the_reader(rt: HostRuntime) -> Result<(), Fail> {
     serve_held::<Brand, _>(&rt, rt.alloc(), Blank::new(1 << 63))
+}
+
+/// The hello and each interrupt.
+fn all_requests(alloc: Global) -> Result<Vec<u8>, AllocError> {
+    let mut requests = Vec::new(alloc);
+    requests.extend_from_slice(HELLO)?;
+    for _ in 0..CALLS {
+        requests.extend_from_slice(INTERRUPT)?;
+    }
+    Ok(requests)
+}
+
+/// Keeps what is written, and how long the longest piece is.
+#[derive(Drop)]
+struct Pieces<'a> {
+    written: &'a mut Vec<u8>,
+    longest: &'a mut usize,
+}
+
+impl Write for Pieces<'_> {
+    fn write(&mut self, bytes: &[u8]) -> io::Result<usize> {
+        *self.longest = bytes.len().max(*self.longest);
+        self.written.write(bytes)
+    }
+
+    fn flush(&mut self) -> io::Result<()> {
+        Ok(())
+    }
+}
+
+/// Serves the connection while its first answer is held.
+fn serve_holding<
+    L: Ledger + Send + Sync,
+    R: Threads + Wait + Clock + Sync,
+    I: Read + Drop,
+    O: Write + Send + Drop,
+>(rt: &R, alloc: Global, book: &Shared<L>, reader: I, writer: O) -> Option<Served<L>> {
+    let seat = book.seat(rt, alloc).ok()?;
+    let frames = AtomicUsize::new(0);
+    let hold = Hold {
+        clock: rt,
+        frames: &frames,
+        is_over: Sign::new(),
+        noted: AtomicUsize::new(0),
+    };
+    Some(serve_connection(rt, alloc, book, seat, 0, reader, writer, &hold))
+}
+
+/// Serves a connection that sends all its calls in one piece, and reads nothing for a while: no more answers wait for it
+/// than may be untaken.
+fn serve_piece<L: Ledger + Send + Sync, R: Threads + Wait + Clock + Sync>(
+    rt: &R,
+    alloc: Global,
+    blank: Blank,
+) -> Result<(), Fail>
+    requires name { blank.name ≡ L.name }
+    requires parts { blank.parts ≡ L.parts }
+    requires many { blank.parts ≡ 2 ^ 63 }
+{
+    let book: Shared<L> = shared_book(alloc, blank)?;
+    let requests = all_requests(alloc)?;
+    let (mut written, mut longest) = (Vec::new(alloc), 0);
+    let writer = Pieces {
+        written: &mut written,
+        longest: &mut longest,
+    };
+    let served = serve_holding(rt, alloc, &book, requests.as_slice(), writer);
+    let served = served.ok_or("a seat")?;
+    if longest > MOST_AT_ONCE {
+        return Err(Fail::new(format_args!("{longest} bytes at once")));
+    }
+    let is_whole = served.ending == Ending::Closed && written == all_answers(alloc)?;
+    let mut seats = Vec::new(alloc);
+    seats.push(served.seat)?;
+    let closed = close_book(alloc, book, seats)?;
+    if is_whole && closed.records == CALLS + 2 {
+        Ok(())
+    } else {
+        Err(Fail::new("other answers"))
+    }
+}
+
+#[test]
+fn unread_answers_hold_calls_of_one_piece(rt: HostRuntime) -> Result<(), Fail> {
+    serve_piece::<Brand, _>(&rt, rt.alloc(), Blank::new(1 << 63))
 }
 
 /// A connection that sends a hello and reads nothing.
