@@ -205,6 +205,50 @@ fn unread_answers_hold_calls_of_one_piece(rt: HostRuntime) -> Result<(), Fail> {
     serve_piece::<Brand, _>(&rt, rt.alloc(), Blank::new(1 << 63))
 }
 
+/// A connection that takes no answers.
+#[derive(Drop)]
+struct Broken;
+
+impl Write for Broken {
+    fn write(&mut self, _bytes: &[u8]) -> io::Result<usize> {
+        Err(io::Error::from(ErrorKind::BrokenPipe))
+    }
+
+    fn flush(&mut self) -> io::Result<()> {
+        Ok(())
+    }
+}
+
+/// Serves a connection whose first write fails while more answers wait: none of them is left.
+fn serve_broken<L: Ledger + Send + Sync, R: Threads + Wait + Clock + Sync>(
+    rt: &R,
+    alloc: Global,
+    blank: Blank,
+) -> Result<(), Fail>
+    requires name { blank.name ≡ L.name }
+    requires parts { blank.parts ≡ L.parts }
+    requires many { blank.parts ≡ 2 ^ 63 }
+{
+    let book: Shared<L> = shared_book(alloc, blank)?;
+    let requests = all_requests(alloc)?;
+    let served = serve_holding(rt, alloc, &book, requests.as_slice(), Broken);
+    let served = served.ok_or("a seat")?;
+    let is_cut_off = served.ending == Ending::WriteFailed;
+    let mut seats = Vec::new(alloc);
+    seats.push(served.seat)?;
+    let closed = close_book(alloc, book, seats)?;
+    if is_cut_off && closed.is_hung_up && closed.untaken == 0 {
+        Ok(())
+    } else {
+        Err(Fail::new(format_args!("{} answers are left", closed.untaken)))
+    }
+}
+
+#[test]
+fn answers_that_cannot_be_written_are_dropped(rt: HostRuntime) -> Result<(), Fail> {
+    serve_broken::<Brand, _>(&rt, rt.alloc(), Blank::new(1 << 63))
+}
+
 /// A connection that sends a hello and reads nothing.
 #[derive(Drop)]
 struct Greeting {
