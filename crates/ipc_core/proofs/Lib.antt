@@ -4,3 +4,4 @@ pub mod BoxTables
 pub mod Noticing
 pub mod LawLemmas
 pub mod PostedLemmas
+pub mod ByDescription

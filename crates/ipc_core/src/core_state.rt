@@ -14,7 +14,7 @@ use crate::outboxes::Outboxes;
 use crate::posting::{make_room, put_all, starts};
 use ipc_policy::Config;
 use ipc_rules::decide;
-use ipc_state::{State, first_bad};
+use ipc_state::{Lookup, State, first_bad};
 use ipc_terms::{Answer, Event, NoMemory, Rule, Sid};
 use ipc_trail::Trail;
 use std::alloc::Global;
@@ -42,16 +42,15 @@ impl Model for Core {
 
 /// What the event is answered where this is the verdict on it, and copies of it in a list.
 fn told_with_copies(
-    state: &State,
+    lookup: &Lookup<'_>,
     alloc: Global,
-    event: &Event,
     rule: Option<Rule>,
 ) -> Result<(Told, Vec<(Sid, Answer)>), NoMemory>
-    requires { rule ≡ verdict state.now.config state.now.history event.now }
-    ensures told { IfOk result (λ pair. told_list pair.0 ≡ answers state.now.config state.now.history event.now) }
-    ensures given { IfOk result (λ pair. pair.1.items ≡ answers state.now.config state.now.history event.now) }
+    requires { rule ≡ verdict lookup.now.config lookup.now.history lookup.now.event }
+    ensures told { IfOk result (λ pair. told_list pair.0 ≡ answers lookup.now.config lookup.now.history lookup.now.event) }
+    ensures given { IfOk result (λ pair. pair.1.items ≡ answers lookup.now.config lookup.now.history lookup.now.event) }
 {
-    let told = answers_to(state, alloc, event, rule)?;
+    let told = answers_to(lookup, alloc, rule)?;
     let given = told.copies(alloc)?;
     Ok((told, given))
 }
@@ -100,7 +99,7 @@ impl Core {
     pub fn decide(&self, event: &Event) -> Option<Rule>
         ensures { result ≡ verdict self.now.config self.now.history event.now }
     {
-        decide(&self.state, event)
+        decide(&Lookup::new(&self.state, event))
     }
 
     /// The answers that the session has not taken yet, in order; nothing, where there is no such
@@ -143,8 +142,9 @@ impl Core {
         ensures ok { OnOk result (self.new ≡ after_step event self.old) }
         ensures err { OnErr result (self.new ≡ self.old) }
     {
-        let rule = decide(&self.state, &event);
-        let (told, given) = told_with_copies(&self.state, alloc, &event, rule)?;
+        let lookup = Lookup::new(&self.state, &event);
+        let rule = decide(&lookup);
+        let (told, given) = told_with_copies(&lookup, alloc, rule)?;
         self.commit(alloc, event, rule, told)?;
         Ok(given)
     }
@@ -161,8 +161,9 @@ impl Core {
         ensures ok { OnOk result (self.new ≡ after_step event self.old) }
         ensures err { OnErr result (self.new ≡ self.old) }
     {
-        let verdict = decide(&self.state, &event);
-        let told = answers_to(&self.state, alloc, &event, verdict)?;
+        let lookup = Lookup::new(&self.state, &event);
+        let verdict = decide(&lookup);
+        let told = answers_to(&lookup, alloc, verdict)?;
         let posted = Posted {
             verdict,
             caller: told.caller(),

@@ -1,33 +1,35 @@
-//! What answers ask of a state.
+//! What answers ask of a lookup.
 
 ghost use Rattle.std.specs.Prelude.{◌≡◌, length, option_and_then, IsTrue, IfOk};
 ghost use Rattle.std.specs.Option.{option_map};
 ghost use Rattle.ipc_terms.specs.Lists.{first};
+ghost use Rattle.ipc_terms.specs.Events.{caller};
 ghost use Rattle.ipc_terms.specs.Pages.{page};
 ghost use Rattle.ipc_policy.specs.Sessions.{hellos, live, mask};
 ghost use Rattle.ipc_policy.specs.Descriptions.{opens};
 ghost use Rattle.ipc_policy.specs.Life.{names};
 ghost use Rattle.ipc_policy.specs.Queues.{next};
 ghost use Rattle.ipc_state.specs.Past.{brought, queue_by, semaphore_by, value_by};
+ghost use Rattle.ipc_state.specs.Meetings.{by_description};
 
 use crate::message::Message;
-use ipc_state::State;
-use ipc_terms::{Desc, Family, Mode, Names, NoMemory, Sid};
+use ipc_state::Lookup;
+use ipc_terms::{Family, Mode, Names, NoMemory, Sid};
 use std::alloc::Global;
 
 /// How many sessions were started: the number of the next one.
-pub fn session_count(state: &State) -> u64
-    ensures { result ≡ hellos state.now.history }
+pub fn session_count(lookup: &Lookup<'_>) -> u64
+    ensures { result ≡ hellos lookup.now.history }
 {
-    state.tables().session_count() as u64
+    lookup.tables().session_count() as u64
 }
 
 /// The mask of a session that is live.
-pub fn mask(state: &State, sid: Sid) -> Mode
-    requires { IsTrue (live state.now.history sid.0) }
-    ensures { result ≡ record { 0 = mask state.now.history sid.0 } }
+pub fn mask(lookup: &Lookup<'_>) -> Mode
+    requires { IsTrue (live lookup.now.history (caller lookup.now.event).0) }
+    ensures { result ≡ record { 0 = mask lookup.now.history (caller lookup.now.event).0 } }
 {
-    let Some(session) = state.tables().session(sid) else {
+    let Some(session) = lookup.tables().session(lookup.event().caller()) else {
         unreachable!();
     };
     session.mask
@@ -36,40 +38,40 @@ pub fn mask(state: &State, sid: Sid) -> Mode
 /// A page of the names that are bound, in the order in which they were created: from the position
 /// `start` on, counted from 0, at most `count` and at most 1,000.
 pub fn names(
-    state: &State,
+    lookup: &Lookup<'_>,
     alloc: Global,
     family: Family,
     start: u32,
     count: u16,
 ) -> Result<Names, NoMemory>
-    ensures { IfOk result (λ listed. listed ≡ page start count (names state.now.history family)) }
+    ensures { IfOk result (λ listed. listed ≡ page start count (names lookup.now.history family)) }
 {
-    let listed = state.tables().names(family).list(alloc, start, count)?;
+    let listed = lookup.tables().names(family).list(alloc, start, count)?;
     Ok(listed)
 }
 
 /// How many descriptions were opened: the number of the next one.
-pub fn opened(state: &State) -> u64
-    ensures { result ≡ opens state.now.history }
+pub fn opened(lookup: &Lookup<'_>) -> u64
+    ensures { result ≡ opens lookup.now.history }
 {
-    state.tables().descriptions().opened()
+    lookup.tables().descriptions().opened()
 }
 
-/// How many messages the queue has that the session has by the description.
-pub fn messages_held(state: &State, sid: Sid, desc: Desc) -> Option<u32>
-    ensures { result ≡ option_map (λ q. length q.contents) (queue_by state.now.config state.now.history sid.0 desc.0) }
+/// How many messages the queue has that the caller has by the description of the event.
+pub fn messages_held(lookup: &Lookup<'_>) -> Option<u32>
+    ensures { result ≡ option_map (λ q. length q.contents) (by_description (queue_by lookup.now.config lookup.now.history) lookup.now.event) }
 {
-    let queue = state.queue_held(sid, desc)?;
+    let queue = lookup.queue()?;
     Some(queue.len() as u32)
 }
 
-/// The message that the session's receive by the description would get at once.
-pub fn next_held(state: &State, sid: Sid, desc: Desc) -> Option<Message<'_>>
-    ensures { result ≡ option_and_then (λ q. option_map brought (next q.contents)) (queue_by state.now.config state.now.history sid.0 desc.0) }
+/// The message that the caller's receive would get at once.
+pub fn next_held<'a>(lookup: &Lookup<'a>) -> Option<Message<'a>>
+    ensures { result ≡ option_and_then (λ q. option_map brought (next q.contents)) (by_description (queue_by lookup.now.config lookup.now.history) lookup.now.event) }
 {
-    let queue = state.queue_held(sid, desc)?;
+    let queue = lookup.queue()?;
     let place = queue.next()?;
-    let trail = state.trail();
+    let trail = lookup.trail();
     Some(Message {
         priority: trail.prio_at(place),
         bytes: trail.bytes_at(place),
@@ -78,35 +80,35 @@ pub fn next_held(state: &State, sid: Sid, desc: Desc) -> Option<Message<'_>>
 
 /// The session whose receive has been parked longest on the queue that the session has by the
 /// description.
-pub fn receiver_held(state: &State, sid: Sid, desc: Desc) -> Option<Sid>
-    ensures { result ≡ option_and_then (λ q. option_map (λ w. record { 0 = w.session }) (first q.receivers)) (queue_by state.now.config state.now.history sid.0 desc.0) }
+pub fn receiver_held(lookup: &Lookup<'_>) -> Option<Sid>
+    ensures { result ≡ option_and_then (λ q. option_map (λ w. record { 0 = w.session }) (first q.receivers)) (by_description (queue_by lookup.now.config lookup.now.history) lookup.now.event) }
 {
-    let queue = state.queue_held(sid, desc)?;
+    let queue = lookup.queue()?;
     queue.receiver()
 }
 
 /// The session whose send has been parked longest on the queue that the session has by the
 /// description.
-pub fn sender_held(state: &State, sid: Sid, desc: Desc) -> Option<Sid>
-    ensures { result ≡ option_and_then (λ q. option_map (λ m. record { 0 = m.session }) (first q.senders)) (queue_by state.now.config state.now.history sid.0 desc.0) }
+pub fn sender_held(lookup: &Lookup<'_>) -> Option<Sid>
+    ensures { result ≡ option_and_then (λ q. option_map (λ m. record { 0 = m.session }) (first q.senders)) (by_description (queue_by lookup.now.config lookup.now.history) lookup.now.event) }
 {
-    let queue = state.queue_held(sid, desc)?;
+    let queue = lookup.queue()?;
     queue.sender()
 }
 
-/// The value of the semaphore that the session has by the description.
-pub fn value_held(state: &State, sid: Sid, desc: Desc) -> Option<u32>
-    ensures { result ≡ value_by state.now.config state.now.history sid.0 desc.0 }
+/// The value of the semaphore that the caller has by the description of the event.
+pub fn value_held(lookup: &Lookup<'_>) -> Option<u32>
+    ensures { result ≡ by_description (value_by lookup.now.config lookup.now.history) lookup.now.event }
 {
-    let semaphore = state.semaphore_held(sid, desc)?;
+    let semaphore = lookup.semaphore()?;
     Some(semaphore.value())
 }
 
 /// The session whose wait has been parked longest on the semaphore that the session has by the
 /// description.
-pub fn waiter_held(state: &State, sid: Sid, desc: Desc) -> Option<Sid>
-    ensures { result ≡ option_and_then (λ q. option_map (λ w. record { 0 = w.session }) (first q.waiters)) (semaphore_by state.now.config state.now.history sid.0 desc.0) }
+pub fn waiter_held(lookup: &Lookup<'_>) -> Option<Sid>
+    ensures { result ≡ option_and_then (λ q. option_map (λ w. record { 0 = w.session }) (first q.waiters)) (by_description (semaphore_by lookup.now.config lookup.now.history) lookup.now.event) }
 {
-    let semaphore = state.semaphore_held(sid, desc)?;
+    let semaphore = lookup.semaphore()?;
     semaphore.waiter()
 }

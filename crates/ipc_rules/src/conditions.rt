@@ -14,7 +14,7 @@ use crate::questions::{charged, limit};
 use ipc_access::{Cred, grants, may_chmod, may_chown, may_remove};
 use ipc_descr::checked_bytes_of;
 use ipc_policy::{Config, HARD_MSG_MAX, HARD_MSGSIZE_MAX, Held, kind_of};
-use ipc_state::State;
+use ipc_state::Lookup;
 use ipc_terms::{Access, Asked, Attributes, Facts, Family, Gid, Kind, Object, SEM_VALUE_MAX, Uid};
 
 pub fn is_known(config: &Config, found: Option<Uid>) -> bool
@@ -197,14 +197,14 @@ pub fn is_not_admin(who: Option<&Cred>) -> bool
 }
 
 /// Whether the user's queues and one more of these attributes take more bytes than the user's may.
-pub fn is_above_limit(state: &State, who: Option<&Cred>, given: Option<Attributes>) -> bool
-    ensures { result ≡ there_is (λ given. there_is (above_limit state.now.config state.now.history given) (option_copied who.entry)) given }
+pub fn is_above_limit(lookup: &Lookup<'_>, who: Option<&Cred>, given: Option<Attributes>) -> bool
+    ensures { result ≡ there_is (λ given. there_is (above_limit lookup.now.config lookup.now.history given) (option_copied who.entry)) given }
 {
     let (Some(who), Some(given)) = (who, given) else {
         return false;
     };
-    match limit(state, who.uid) {
-        Some(most) => takes_more(most, charged(state, who.uid), given),
+    match limit(lookup, who.uid) {
+        Some(most) => takes_more(most, charged(lookup, who.uid), given),
         None => false,
     }
 }

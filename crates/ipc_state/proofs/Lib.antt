@@ -17,3 +17,4 @@ pub mod Opens
 pub mod Accepting
 pub mod Opened
 pub mod Changed
+pub mod Looked

@@ -141,7 +141,7 @@ free_to_register c h sid desc o accepted is = at (holds h sid.0 desc.0) (unforbi
   at (Some x) e j = let same : x.object ≡ o = cc in subst (λ (i : ℕ). registered c h i ≡ None) same (none_of (registered c h x.object) e)
 
 -- the registration that is read off the tables, by the description that the queue keeps and by who holds it
-abbrev read_by : Descriptions → Desc → Option Registration
+abbrev pub read_by : Descriptions → Desc → Option Registration
 read_by t desc = option_map (λ session. record { session = session; desc = desc }) (option_map (λ row. row.session) (find (is_desc desc.0) t.rows))
 
 read_is : (c : Config) (h : History) (t : Descriptions) (o : ℕ) → Legal c h → DescriptionsAgree h t → option_and_then (read_by t) (option_and_then (λ q. q.registered) (queue_meant c h o)) ≡ registered c h o

@@ -3,3 +3,5 @@ pub mod Ranges
 pub mod Agrees
 pub mod Memory
 pub mod Changes
+pub mod Meetings
+pub mod Rows

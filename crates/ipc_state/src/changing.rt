@@ -7,7 +7,7 @@ ghost use Rattle.ipc_policy.specs.Verdict.{verdict};
 ghost use Rattle.ipc_state.specs.Agrees.{Agrees, IsCore};
 ghost use Rattle.ipc_state.specs.Changes.{changing, bits_of, changed_by};
 
-use crate::looking;
+use crate::looking::facts_in;
 use ipc_policy::Config;
 use ipc_tables::{Owned, Tables};
 use ipc_terms::{Call, Facts, Mode, Sid, Target};
@@ -36,7 +36,7 @@ pub fn accept_change(
             let Some(object) = tables.names(*family).get(name) else {
                 unreachable!();
             };
-            let Some(was) = looking::facts(tables, Some(object)) else {
+            let Some(was) = facts_in(tables.object(object)) else {
                 unreachable!();
             };
             tables.set_facts(Owned::Object(object), changed(call, was));

@@ -1,26 +1,22 @@
 //! What is looked up in the tables.
 
-ghost use Rattle.std.specs.Prelude.{◌≡◌, ◌==◌, length, option_and_then};
+ghost use Rattle.std.specs.Prelude.{◌≡◌, ◌==◌, length, is_some, option_and_then};
 ghost use Rattle.std.specs.Option.{option_map, option_copied};
 ghost use Rattle.ipc_descr.specs.Descriptions.{row_of};
 ghost use Rattle.ipc_queue.specs.Tickets.{is_full_of};
-ghost use Rattle.ipc_tables.specs.Objects.{row_at, facts_at, queue_at, semaphore_at};
-ghost use Rattle.ipc_tables.specs.Kept.{live_at};
+ghost use Rattle.ipc_tables.specs.Objects.{row_at, queue_in, semaphore_in};
+ghost use Rattle.ipc_tables.specs.Kept.{is_live_row};
 ghost use Rattle.ipc_policy.specs.History.{there_is};
+ghost use Rattle.ipc_state.specs.Agrees.{held_in};
+ghost use Rattle.ipc_state.specs.Rows.{user_in, row_meant, number_meant};
 
+use ipc_access::Cred;
+use ipc_descr::{Descrs, Row};
+use ipc_policy::{Config, Held, description_of, naming_of};
 use ipc_queue::Queue;
 use ipc_sem::Sem;
-use ipc_tables::Tables;
-use ipc_terms::{Desc, Facts, Object, Sid};
-
-pub fn is_live(tables: &Tables, sid: Sid) -> bool
-    ensures { result ≡ live_at tables.now.sessions sid.0 }
-{
-    match tables.session(sid) {
-        Some(session) => session.is_live,
-        None => false,
-    }
-}
+use ipc_tables::{Body, ObjectRow, Session, Tables};
+use ipc_terms::{Desc, Event, Facts, Object, Sid};
 
 /// The number of the object that the session has by the description.
 pub fn object_number(tables: &Tables, sid: Sid, desc: Desc) -> Option<u64>
@@ -29,39 +25,118 @@ pub fn object_number(tables: &Tables, sid: Sid, desc: Desc) -> Option<u64>
     tables.descriptions().get(sid, desc).map(|row| row.object)
 }
 
-/// Whether the session holds the description, and its calls are refused where they would wait.
-pub fn is_nonblock(tables: &Tables, sid: Sid, desc: Desc) -> bool
-    ensures { result ≡ there_is (λ row. row.nonblock) (row_of tables.now.descriptions.rows sid.0 desc.0) }
+/// The user of the session.
+pub fn user_in(config: &Config, session: Option<Session>) -> Option<&Cred>
+    ensures { option_copied result ≡ user_in config.now session }
 {
-    match tables.descriptions().get(sid, desc) {
+    config.users.cred(session?.user)
+}
+
+/// The row by which the caller holds the description that the event names.
+pub fn row_meant<'a>(descriptions: &'a Descrs, event: &Event) -> Option<&'a Row>
+    ensures { option_copied result ≡ row_meant descriptions.now event.now }
+{
+    let Event::Do { sid, call } = event else {
+        return None;
+    };
+    let named = description_of(call)?;
+    descriptions.get(*sid, named.desc)
+}
+
+/// The object to which the name is bound that the event names.
+pub fn number_meant(tables: &Tables, event: &Event) -> Option<u64>
+    ensures { result ≡ number_meant tables.now event.now }
+{
+    let what = naming_of(event)?;
+    tables.names(what.family).get(what.name)
+}
+
+/// The object that the row gives.
+pub fn given_by<'a>(tables: &'a Tables, row: Option<&Row>) -> Option<&'a ObjectRow>
+    ensures { option_copied result ≡ option_and_then (λ r. row_at tables.now.objects r.object) (option_copied row.entry) }
+{
+    tables.object(row?.object)
+}
+
+/// The object of the number.
+pub fn object_at(tables: &Tables, number: Option<u64>) -> Option<&ObjectRow>
+    ensures { option_copied result ≡ option_and_then (row_at tables.now.objects) number }
+{
+    tables.object(number?)
+}
+
+pub fn is_live_in(session: Option<Session>) -> bool
+    ensures { result ≡ is_live_row session }
+{
+    match session {
+        Some(session) => session.is_live,
+        None => false,
+    }
+}
+
+/// Whether a call of the session is parked.
+pub fn is_parked_in(session: Option<Session>) -> bool
+    ensures { result ≡ is_some (option_and_then (λ row. row.parked_on) session) }
+{
+    match session {
+        Some(session) => session.parked_on.is_some(),
+        None => false,
+    }
+}
+
+/// What the row gives.
+pub fn held_in(row: Option<&Row>) -> Option<Held>
+    ensures { result ≡ option_map held_in (option_copied row.entry) }
+{
+    row.map(|row| Held {
+        session: row.session,
+        object: row.object,
+        access: row.access,
+    })
+}
+
+pub fn object_in(row: Option<&ObjectRow>) -> Option<Object>
+    ensures { result ≡ option_map (λ row. row.object) (option_copied row.entry) }
+{
+    row.map(|row| row.object)
+}
+
+pub fn facts_in(row: Option<&ObjectRow>) -> Option<Facts>
+    ensures { result ≡ option_map (λ row. row.facts) (option_copied row.entry) }
+{
+    row.map(|row| row.facts)
+}
+
+/// Whether calls by the description are refused where they would block.
+pub fn is_nonblock_in(row: Option<&Row>) -> bool
+    ensures { result ≡ there_is (λ row. row.nonblock) (option_copied row.entry) }
+{
+    match row {
         Some(row) => row.nonblock,
         None => false,
     }
 }
 
-/// The owner, group and mode of the object.
-pub fn facts(tables: &Tables, object: Option<u64>) -> Option<Facts>
-    ensures { result ≡ option_and_then (facts_at tables.now.objects) object }
+pub fn queue_in(row: Option<&ObjectRow>) -> Option<&Queue>
+    ensures { option_copied result ≡ option_and_then (λ r. queue_in r.body) (option_copied row.entry) }
 {
-    tables.object(object?).map(|row| row.facts)
+    match &row?.body {
+        Body::Queue(queue) => Some(queue),
+        Body::Semaphore(_) => None,
+    }
 }
 
-/// What the object is.
-pub fn object(tables: &Tables, number: Option<u64>) -> Option<Object>
-    ensures { result ≡ option_and_then (λ o. option_map (λ row. row.object) (row_at tables.now.objects o)) number }
+pub fn semaphore_in(row: Option<&ObjectRow>) -> Option<&Sem>
+    ensures { option_copied result ≡ option_and_then (λ r. semaphore_in r.body) (option_copied row.entry) }
 {
-    tables.object(number?).map(|row| row.object)
-}
-
-/// The queue that the object is.
-pub fn queue(tables: &Tables, object: Option<u64>) -> Option<&Queue>
-    ensures { option_copied result ≡ option_and_then (queue_at tables.now.objects) object }
-{
-    tables.queue(object?)
+    match &row?.body {
+        Body::Queue(_) => None,
+        Body::Semaphore(semaphore) => Some(semaphore),
+    }
 }
 
 /// Whether there is a queue, and it has as many messages as it may.
-pub fn is_full(queue: Option<&Queue>) -> bool
+pub fn is_full_queue(queue: Option<&Queue>) -> bool
     ensures { result ≡ there_is is_full_of (option_copied queue.entry) }
 {
     match queue {
@@ -71,7 +146,7 @@ pub fn is_full(queue: Option<&Queue>) -> bool
 }
 
 /// Whether there is a queue, and it has no messages.
-pub fn is_empty(queue: Option<&Queue>) -> bool
+pub fn is_empty_queue(queue: Option<&Queue>) -> bool
     ensures { result ≡ there_is (λ q. length q.tickets == 0) (option_copied queue.entry) }
 {
     match queue {
@@ -80,11 +155,14 @@ pub fn is_empty(queue: Option<&Queue>) -> bool
     }
 }
 
-/// The semaphore that the object is.
-pub fn semaphore(tables: &Tables, object: Option<u64>) -> Option<&Sem>
-    ensures { option_copied result ≡ option_and_then (semaphore_at tables.now.objects) object }
+/// Whether there is a queue, and a description is registered for its notice.
+pub fn has_registration(queue: Option<&Queue>) -> bool
+    ensures { result ≡ there_is (λ q. is_some q.registered) (option_copied queue.entry) }
 {
-    tables.semaphore(object?)
+    match queue {
+        Some(queue) => queue.registered().is_some(),
+        None => false,
+    }
 }
 
 /// Whether there is a semaphore, and this is its value.

@@ -7,35 +7,41 @@ use Rattle.ipc_core.proofs.answer.call_answers.Goals as goal
 
 pub mask-requires : goal.mask-requires
 mask-requires c =
-    let accepted = rw c.in-Umask.is at c.requires in
-    caller_live _ _ c.args.sid (Umask c.in-Umask.field-0) accepted
+    let accepted = rw c.in-Umask.is at c.requires.accepted in
+    rw c.requires.event (caller_live _ _ c.args.sid (Umask c.in-Umask.field-0) accepted)
 
 pub send_answers-requires : goal.send_answers-requires
 send_answers-requires c =
     let w = c.in-MqSend in
-    let accepted = rw w.is at c.requires in
-    free_queue _ _ c.args.sid.0 w.desc.0 (call_free _ _ c.args.sid (MqSend w.desc w.priority w.bytes) Mq w.desc refl refl accepted).held
+    let accepted = rw w.is at c.requires.accepted in
+    record {
+      caller = rw c.requires.event refl;
+      queue = rw (c.requires.event, w.is) (free_queue _ _ c.args.sid.0 w.desc.0 (call_free _ _ c.args.sid (MqSend w.desc w.priority w.bytes) Mq w.desc refl refl accepted).held);
+    }
 
 pub receive_answers-requires : goal.receive_answers-requires
 receive_answers-requires c =
     let w = c.in-MqReceive in
-    let accepted = rw w.is at c.requires in
-    free_queue _ _ c.args.sid.0 w.desc.0 (call_free _ _ c.args.sid (MqReceive w.desc w.length) Mq w.desc refl refl accepted).held
+    let accepted = rw w.is at c.requires.accepted in
+    record {
+      caller = rw c.requires.event refl;
+      queue = rw (c.requires.event, w.is) (free_queue _ _ c.args.sid.0 w.desc.0 (call_free _ _ c.args.sid (MqReceive w.desc w.length) Mq w.desc refl refl accepted).held);
+    }
 
 pub post_answers-requires : goal.post_answers-requires
 post_answers-requires c =
     let w = c.in-SemPost in
-    let accepted = rw w.is at c.requires in
-    free_semaphore _ _ c.args.sid.0 w.desc.0 (call_free _ _ c.args.sid (SemPost w.desc) Sem w.desc refl refl accepted).held
+    let accepted = rw w.is at c.requires.accepted in
+    rw (c.requires.event, w.is) (free_semaphore _ _ c.args.sid.0 w.field-0.0 (call_free _ _ c.args.sid (SemPost w.field-0) Sem w.field-0 refl refl accepted).held)
 
 pub wait_answers-requires : goal.wait_answers-requires
 wait_answers-requires c =
     let w = c.in-SemWait in
-    let accepted = rw w.is at c.requires in
-    free_held _ _ c.args.sid.0 w.desc.0 (call_free _ _ c.args.sid (SemWait w.desc) Sem w.desc refl refl accepted).held
+    let accepted = rw w.is at c.requires.accepted in
+    rw (c.requires.event, w.is) (free_held _ _ c.args.sid.0 w.field-0.0 (call_free _ _ c.args.sid (SemWait w.field-0) Sem w.field-0 refl refl accepted).held)
 
 pub value_told-requires : goal.value_told-requires
 value_told-requires c =
     let w = c.in-SemGetvalue in
-    let accepted = rw w.is at c.requires in
-    free_semaphore _ _ c.args.sid.0 w.desc.0 (call_free _ _ c.args.sid (SemGetvalue w.desc) Sem w.desc refl refl accepted).held
+    let accepted = rw w.is at c.requires.accepted in
+    rw (c.requires.event, w.is) (free_semaphore _ _ c.args.sid.0 w.field-0.0 (call_free _ _ c.args.sid (SemGetvalue w.field-0) Sem w.field-0 refl refl accepted).held)

@@ -3,15 +3,15 @@ use Rattle.std.specs.Prelude.{option_and_then}
 use Rattle.std.specs.Option.{option_copied}
 use Rattle.ipc_terms.specs.Lists.{first}
 use Rattle.ipc_queue.specs.Tickets.{Tickets}
-use Rattle.ipc_state.proofs.HeldQueues.{held_receiver}
+use Rattle.ipc_core.proofs.ByDescription.{receiver_by}
 use Rattle.ipc_core.proofs.questions.receiver_held.Goals as goal
 
 pub returns-in_err-queue : goal.returns-in_err-queue
 returns-in_err-queue c =
-    let queue = sym (ap option_copied c.in_err-queue.was) ∙ c.queue_held.ensures in
-    c.from_residual.ensures ∙ ap (option_and_then (λ (q : Tickets). first q.receivers)) queue ∙ held_receiver _ _ c.args.sid.0 c.args.desc.0
+    let queue = sym (ap option_copied c.in_err-queue.was) ∙ c.queue.ensures in
+    c.from_residual.ensures ∙ ap (option_and_then (λ (q : Tickets). first q.receivers)) queue ∙ receiver_by _ _ c.args.lookup.now.event
 
 pub returns : goal.returns
 returns c =
-    let queue = sym (ap option_copied c.in_ok-queue.was) ∙ c.queue_held.ensures in
-    c.receiver.ensures ∙ ap (option_and_then (λ (q : Tickets). first q.receivers)) queue ∙ held_receiver _ _ c.args.sid.0 c.args.desc.0
+    let queue = sym (ap option_copied c.in_ok-queue.was) ∙ c.queue.ensures in
+    c.receiver.ensures ∙ ap (option_and_then (λ (q : Tickets). first q.receivers)) queue ∙ receiver_by _ _ c.args.lookup.now.event

@@ -1,5 +1,6 @@
-use Rattle.std.proofs.Common.{◌∙◌}
+use Rattle.std.proofs.Common.{ap, ◌∙◌}
+use Rattle.ipc_tables.specs.Kept.{is_live_row}
 use Rattle.ipc_state.proofs.states.State.is_live.Goals as goal
 
 pub returns : goal.returns
-returns c = rw (← c.self.view_is) (c.is_live.ensures ∙ c.self.invariant.agrees.sessions.lives c.args.sid.0)
+returns c = rw (← c.self.view_is) (c.is_live_in.ensures ∙ ap is_live_row c.session.ensures ∙ c.self.invariant.agrees.sessions.lives c.args.sid.0)

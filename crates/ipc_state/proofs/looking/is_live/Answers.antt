@@ -1,5 +1,0 @@
-use Rattle.std.proofs.Common.{rules, tests}
-use Rattle.ipc_state.proofs.looking.is_live.Goals as goal
-
-pub returns-in-Some : goal.returns-in-Some
-returns-in-Some c = search (tests, rules)

@@ -1,0 +1,14 @@
+use Rattle.std.proofs.Common.{ap, ◌∙◌}
+use Rattle.std.specs.Prelude.{option_and_then}
+use Rattle.std.specs.Option.{option_map}
+use Rattle.ipc_descr.specs.declared.row.Row.{Row}
+use Rattle.ipc_tables.specs.declared.rows.ObjectRow.{ObjectRow}
+use Rattle.ipc_tables.specs.Objects.{row_at}
+use Rattle.ipc_state.proofs.Looked.{object_meant}
+use Rattle.ipc_state.proofs.lookup.Lookup.object_held.Goals as goal
+
+pub returns : goal.returns
+returns c =
+    let met = c.self.invariant in
+    let given = met.of_given ∙ ap (option_and_then (λ (r : Row). row_at c.self.inside.tables.now.objects r.object)) met.of_row in
+    rw (← c.self.view_is) (c.object_in.ensures ∙ ap (option_map (λ (r : ObjectRow). r.object)) given ∙ object_meant _ _ _ _ met.core)

@@ -1,0 +1,241 @@
+//! What an event meets: each table is asked once.
+
+ghost use Rattle.std.specs.Prelude.{◌≡◌, ◌&&◌, is_some, option_and_then};
+ghost use Rattle.std.specs.Option.{option_copied};
+ghost use Rattle.ipc_terms.specs.Events.{caller};
+ghost use Rattle.ipc_policy.specs.Sessions.{live, cred};
+ghost use Rattle.ipc_policy.specs.Names.{naming, is_bound, bound};
+ghost use Rattle.ipc_policy.specs.Objects.{facts, directory};
+ghost use Rattle.ipc_policy.specs.Descriptions.{holds, is_nonblock};
+ghost use Rattle.ipc_policy.specs.Parking.{parked};
+ghost use Rattle.ipc_policy.specs.Registrations.{registered};
+ghost use Rattle.ipc_policy.specs.Rules.{there_is, object_held, is_full, is_empty, is_zero, is_greatest};
+ghost use Rattle.ipc_policy.specs.Verdict.{Legal};
+ghost use Rattle.ipc_state.specs.Agrees.{IsCore};
+ghost use Rattle.ipc_state.specs.Meetings.{description, by_description, by_name, queue_held, semaphore_held, facts_asked};
+
+use crate::looking::{
+    facts_in, given_by, has_registration, has_value, held_in, is_empty_queue, is_full_queue,
+    is_live_in, is_nonblock_in, is_parked_in, number_meant, object_at, object_in, queue_in,
+    row_meant, semaphore_in, user_in,
+};
+use crate::states::State;
+use ipc_access::Cred;
+use ipc_descr::Row;
+use ipc_policy::{Config, Held, Registration};
+use ipc_queue::Queue;
+use ipc_sem::Sem;
+use ipc_tables::{ObjectRow, Session, Tables};
+use ipc_terms::{Event, Facts, Family, Object, SEM_VALUE_MAX, Target};
+use ipc_trail::Trail;
+use std::marker::Model;
+
+/// An event, and what it meets in a state: who calls, what the description that it names gives, and to what the name that it
+/// names is bound. No question takes memory.
+#[derive(Drop)]
+pub struct Lookup<'a> {
+    config: &'a Config,
+    trail: &'a Trail,
+    tables: &'a Tables,
+    event: &'a Event,
+    session: Option<Session>,
+    user: Option<&'a Cred>,
+    row: Option<&'a Row>,
+    given: Option<&'a ObjectRow>,
+    bound: Option<u64>,
+    named: Option<&'a ObjectRow>,
+}
+
+impl<'a> Model for Lookup<'a> {
+    ghost use Rattle.std.specs.Option.{option_copied};
+    ghost use Rattle.ipc_state.specs.Meetings.{Meeting};
+    ghost use Rattle.ipc_state.specs.Rows.{IsLookup};
+
+    ghost Value = { Meeting };
+
+    ghost view = { λ a. record { config = a.config.now; history = a.trail.now.history; event = a.event.now } };
+
+    ghost invariant = { λ a. IsLookup a.config.now a.trail.now.history a.tables.now a.event.now a.session (option_copied a.user) (option_copied a.row) (option_copied a.given) a.bound (option_copied a.named) };
+}
+
+impl<'a> Lookup<'a> {
+    /// Looks up what the event meets.
+    pub fn new(state: &'a State, event: &'a Event) -> Lookup<'a>
+        ensures { result ≡ record { config = state.now.config; history = state.now.history; event = event.now } }
+    {
+        let (config, tables) = (state.config(), state.tables());
+        let session = tables.session(event.caller());
+        let row = row_meant(tables.descriptions(), event);
+        let bound = number_meant(tables, event);
+        Lookup {
+            config,
+            trail: state.trail(),
+            tables,
+            event,
+            session,
+            user: user_in(config, session),
+            row,
+            given: given_by(tables, row),
+            bound,
+            named: object_at(tables, bound),
+        }
+    }
+
+    pub fn event(&self) -> &'a Event
+        ensures { result.now ≡ self.now.event }
+    {
+        self.event
+    }
+
+    pub fn config(&self) -> &'a Config
+        ensures { result.now ≡ self.now.config }
+    {
+        self.config
+    }
+
+    /// Every event so far with its verdict.
+    pub fn trail(&self) -> &'a Trail
+        ensures { result.now.history ≡ self.now.history }
+    {
+        self.trail
+    }
+
+    /// The tables, which say the same as the history.
+    pub fn tables(&self) -> &'a Tables
+        ensures { IsCore self.now.config self.now.history result.now }
+    {
+        self.tables
+    }
+
+    /// Whether the caller is live.
+    pub fn is_live(&self) -> bool
+        ensures { result ≡ live self.now.history (caller self.now.event).0 }
+    {
+        is_live_in(self.session)
+    }
+
+    /// Whether the caller's call is parked.
+    pub fn is_parked(&self) -> bool
+        ensures { result ≡ is_some (parked self.now.config self.now.history (caller self.now.event).0) }
+    {
+        is_parked_in(self.session)
+    }
+
+    /// Who the caller's user is.
+    pub fn cred(&self) -> Option<&'a Cred>
+        ensures { option_copied result ≡ cred self.now.config self.now.history (caller self.now.event).0 }
+    {
+        self.user
+    }
+
+    /// What the caller holds by the description that the event names.
+    pub fn held(&self) -> Option<Held>
+        ensures { result ≡ by_description (holds self.now.history) self.now.event }
+    {
+        held_in(self.row)
+    }
+
+    /// The object that the caller has by the description that the event names.
+    pub fn object_held(&self) -> Option<Object>
+        ensures { result ≡ by_description (object_held self.now.config self.now.history) self.now.event }
+    {
+        object_in(self.given)
+    }
+
+    /// Whether the name that the event names is bound.
+    pub fn is_bound(&self) -> bool
+        ensures { result ≡ there_is (λ x. is_bound self.now.history x.family x.name) (naming self.now.event) }
+    {
+        self.bound.is_some()
+    }
+
+    /// The owner, group and mode of the object to which the name is bound that the event names.
+    pub fn facts_bound(&self) -> Option<Facts>
+        ensures { result ≡ by_name (λ x. option_and_then (facts self.now.config self.now.history) (bound self.now.history x.family x.name)) self.now.event }
+    {
+        facts_in(self.named)
+    }
+
+    /// Whether the caller holds the description that the event names, and calls by it are refused where they would block.
+    pub fn is_nonblock(&self) -> bool
+        ensures { result ≡ (is_some (by_description (holds self.now.history) self.now.event) && there_is (λ x. is_nonblock self.now.history (caller self.now.event).0 x.desc.0) (description self.now.event)) }
+    {
+        is_nonblock_in(self.row)
+    }
+
+    /// The queue that the caller has by the description that the event names.
+    pub fn queue(&self) -> Option<&'a Queue>
+        ensures { option_copied result ≡ by_description (queue_held self.now.config self.now.history) self.now.event }
+    {
+        queue_in(self.given)
+    }
+
+    /// The semaphore that the caller has by the description that the event names, in a history that is legal.
+    pub fn semaphore(&self) -> Option<&'a Sem>
+        ensures legal { Legal self.now.config self.now.history }
+        ensures found { option_copied result ≡ by_description (semaphore_held self.now.config self.now.history) self.now.event }
+    {
+        semaphore_in(self.given)
+    }
+
+    /// Whether that queue has as many messages as it may.
+    pub fn is_full(&self) -> bool
+        ensures { result ≡ there_is (λ x. is_full self.now.config self.now.history x.object) (by_description (holds self.now.history) self.now.event) }
+    {
+        is_full_queue(self.queue())
+    }
+
+    /// Whether that queue has no messages.
+    pub fn is_empty(&self) -> bool
+        ensures { result ≡ there_is (λ x. is_empty self.now.config self.now.history x.object) (by_description (holds self.now.history) self.now.event) }
+    {
+        is_empty_queue(self.queue())
+    }
+
+    /// Whether one is registered for the notice of that queue.
+    pub fn is_registered(&self) -> bool
+        ensures { result ≡ there_is (λ x. is_some (registered self.now.config self.now.history x.object)) (by_description (holds self.now.history) self.now.event) }
+    {
+        has_registration(queue_in(self.given))
+    }
+
+    /// Which session, by which description, is registered for the notice of that queue.
+    pub fn registration(&self) -> Option<Registration>
+        ensures { result ≡ option_and_then (λ x. registered self.now.config self.now.history x.object) (by_description (holds self.now.history) self.now.event) }
+    {
+        let desc = queue_in(self.given)?.registered()?;
+        let session = self.tables.descriptions().holder(desc)?;
+        Some(Registration { session, desc })
+    }
+
+    /// Whether the value of that semaphore is 0.
+    pub fn is_zero(&self) -> bool
+        ensures { result ≡ there_is (λ x. is_zero self.now.config self.now.history x.object) (by_description (holds self.now.history) self.now.event) }
+    {
+        has_value(semaphore_in(self.given), 0)
+    }
+
+    /// Whether the value of that semaphore is the greatest.
+    pub fn is_greatest(&self) -> bool
+        ensures { result ≡ there_is (λ x. is_greatest self.now.config self.now.history x.object) (by_description (holds self.now.history) self.now.event) }
+    {
+        has_value(semaphore_in(self.given), SEM_VALUE_MAX)
+    }
+
+    /// The owner, group and mode of the directory itself, or of the object to which the name is bound that the event names.
+    pub fn facts_asked(&self, target: &Target) -> Option<Facts>
+        ensures { result ≡ facts_asked self.now target.now }
+    {
+        match target {
+            Target::Dir(family) => Some(self.directory(*family)),
+            Target::Name(..) => self.facts_bound(),
+        }
+    }
+
+    /// The owner, group and mode of the family's directory.
+    pub fn directory(&self, family: Family) -> Facts
+        ensures { result ≡ directory self.now.history family }
+    {
+        self.tables.names(family).facts()
+    }
+}
