@@ -37,7 +37,7 @@ def rate(program, connections, piece, calls):
     """The calls a second of one run."""
     pairs = max(piece, 1) * connections
     rounds = max(calls // (2 * pairs), 1)
-    words = [program, str(connections), str(piece), str(rounds)]
+    words = [program, "message", str(connections), str(piece), str(rounds)]
     output = subprocess.run(words, check=True, capture_output=True, text=True).stdout
     came, microseconds = map(int, output.split())
     wanted = rounds * pairs * ANSWERED
@@ -51,7 +51,7 @@ def main():
     parser.add_argument("calls", nargs="?", type=int, default=1_000_000, help="1,000,000 where none are given")
     calls = parser.parse_args().calls
     with tempfile.TemporaryDirectory(prefix="hub-calls-") as room:
-        program = built(Path(room), "hub_calls", LIBRARIES, ["1", "0", "1"])
+        program = built(Path(room), "hub_calls", LIBRARIES, ["message", "1", "0", "1"])
         for kind, connections, piece in KINDS:
             rates = [rate(program, connections, piece, calls) for _ in range(RUNS)]
             shown = ", ".join(f"{it:.0f}" for it in rates)
