@@ -6,6 +6,15 @@ ghost use Rattle.ipc_access.specs.Class.{class, class_bits, granted, belongs_to}
 
 use ipc_terms::{Gid, Items, Mode, Uid};
 
+/// Search of a directory, as a bit of a class.
+pub const SEARCH: u8 = 0o1;
+
+/// Write, as a bit of a class.
+pub const WRITE: u8 = 0o2;
+
+/// Read, as a bit of a class.
+pub const READ: u8 = 0o4;
+
 /// The supplementary groups of a user, in the order of the user file.
 pub type Groups = Items<Gid>;
 
@@ -69,14 +78,14 @@ fn bits_of(class: Class, mode: Mode) -> u8
     ensures { result ≡ class_bits class mode }
 {
     match class {
-        Class::Owner => (mode.0 / 64 % 8) as u8,
-        Class::Group => (mode.0 / 8 % 8) as u8,
-        Class::Other => (mode.0 % 8) as u8,
+        Class::Owner => (mode.0 / 0o100 % 0o10) as u8,
+        Class::Group => (mode.0 / 0o10 % 0o10) as u8,
+        Class::Other => (mode.0 % 0o10) as u8,
     }
 }
 
-/// Whether the user is granted all that is wanted: a sum of read 4, write 2 and search 1
-/// (POSIX.1-2017, XBD 4.5). To user 0 everything is granted.
+/// Whether the user is granted all that is wanted, of `READ`, `WRITE` and `SEARCH` (POSIX.1-2017, XBD
+/// 4.5). To user 0 everything is granted.
 pub fn grants(cred: &Cred, owner: Uid, group: Gid, mode: Mode, wanted: u8) -> bool
     ensures { result ≡ granted cred.now owner group mode wanted }
 {

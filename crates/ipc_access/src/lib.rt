@@ -11,7 +11,7 @@ mod removal;
 mod seen;
 mod users;
 
-pub use class::{Class, Cred, Groups, class_of, grants};
+pub use class::{Class, Cred, Groups, READ, SEARCH, WRITE, class_of, grants};
 pub use fault::UserFault;
 /// A directory's owner, group and mode.
 pub use ipc_terms::Facts as DirFacts;

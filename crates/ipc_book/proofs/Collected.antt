@@ -6,7 +6,7 @@ use Rattle.ipc_terms.specs.declared.call.Answer.{Answer}
 use Rattle.ipc_trail.specs.declared.audit.Receipt.{Receipt}
 use Rattle.ipc_policy.specs.Verdict.{Legal, outbox}
 use Rattle.ipc_state.specs.Ranges.{first_bad}
-use Rattle.ipc_core.specs.State.{State}
+use Rattle.ipc_core.specs.CoreView.{CoreView}
 use Rattle.ipc_core.specs.Outboxes.{BoxesAgree}
 use Rattle.ipc_book.specs.declared.entry.Entry.{Entry}
 use Rattle.ipc_book.specs.declared.entry.StepFault.{StepFault}
@@ -14,7 +14,7 @@ use Rattle.ipc_book.specs.Seats.{StaleExactly, session_of}
 use Rattle.ipc_book.specs.Locked.{Collects, AnswersSay, StaleSays}
 
 -- nothing was collected
-nothing : (a : State) (sid : Option Sid) (list : List Entry) (out : List Answer) → Legal a.config a.history → first_bad a.config.limits ≡ None → out ≡ [] → AnswersSay a.config sid list out
+nothing : (a : CoreView) (sid : Option Sid) (list : List Entry) (out : List Answer) → Legal a.config a.history → first_bad a.config.limits ≡ None → out ≡ [] → AnswersSay a.config sid list out
 nothing a sid list out legal in_range none =
     let box = outbox a.config a.history (session_of sid).0 in
     record {
@@ -25,7 +25,7 @@ nothing a sid list out legal in_range none =
       current = inl none;
     }
 
-pub collected : (a a' : State) (sid : Option Sid) (list : List Entry) (out : List Answer) → Legal a.config a.history → first_bad a.config.limits ≡ None → BoxesAgree a.config a.history a.untaken → Collects sid a a' list out → AnswersSay a.config sid list out
+pub collected : (a a' : CoreView) (sid : Option Sid) (list : List Entry) (out : List Answer) → Legal a.config a.history → first_bad a.config.limits ≡ None → BoxesAgree a.config a.history a.untaken → Collects sid a a' list out → AnswersSay a.config sid list out
 collected a a' None list out legal in_range boxes h = nothing a None list out legal in_range h.0
 collected a a' (Some s) list out legal in_range boxes h =
     elim h [
@@ -43,12 +43,12 @@ collected a a' (Some s) list out legal in_range boxes h =
     ]
 
 -- a seat without a session collects nothing
-pub collected_by_nobody : (a a' : State) (sid : Option Sid) (list : List Entry) (out : List Answer) → Collects sid a a' list out → sid ≡ None → out ≡ []
+pub collected_by_nobody : (a a' : CoreView) (sid : Option Sid) (list : List Entry) (out : List Answer) → Collects sid a a' list out → sid ≡ None → out ≡ []
 collected_by_nobody a a' None list out h e = h.0
 collected_by_nobody a a' (Some s) list out h e = absurd cc
 
 -- what a stale seat is told, after room was made in it
-pub stale_says : (a : State) (list list' : List Entry) (r : Result Receipt StepFault) → list ≡ list' → StaleExactly a list r → StaleSays list' r
+pub stale_says : (a : CoreView) (list list' : List Entry) (r : Result Receipt StepFault) → list ≡ list' → StaleExactly a list r → StaleSays list' r
 stale_says a list list' r same h = subst (λ l. StaleSays l r) same told where
   told : StaleSays list r
   told seen found is =

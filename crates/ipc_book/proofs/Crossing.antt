@@ -40,7 +40,7 @@ use Rattle.ipc_tables.specs.contracts.rows.ObjectRow as row
 use Rattle.ipc_tables.specs.contracts.objects.Objects as objects
 use Rattle.ipc_tables.specs.contracts.tables.Tables as tables
 use Rattle.ipc_tables.specs.contracts.tables.Tables.TheInside as tables_inside
-use Rattle.ipc_tables.proofs.rows.Session.TheSendSync as session
+use Rattle.ipc_tables.proofs.sessions.Sessions.TheSendSync as sessions
 use Rattle.ipc_trail.proofs.trail.Trail.TheSendSync as trail
 use Rattle.ipc_policy.proofs.config.Config.TheSendSync as config
 use Rattle.ipc_state.specs.contracts.states.State as state
@@ -74,7 +74,7 @@ pub objects_send : IsSend (objects.the_field).row
 objects_send = search (sendable, row_send, map.the_send, charges.the_send, global.the_send, globals.the_frees) depth 20
 
 pub tables_inside_send : IsSend tables_inside.the_row
-tables_inside_send = search (sendable, objects_send, globals.the_frees, vec.the_send, global.the_send, session.the_send, dir.the_send, descrs.the_send) depth 20
+tables_inside_send = search (sendable, objects_send, globals.the_frees, vec.the_send, global.the_send, sessions.the_send, dir.the_send, descrs.the_send) depth 20
 
 pub tables_send : IsSend tables.the_row
 tables_send = search (sendable, tables_inside_send) depth 20
@@ -86,7 +86,7 @@ pub state_send : IsSend state.the_row
 state_send = search (sendable, state_inside_send) depth 20
 
 pub core_inside_send : IsSend core_inside.the_row
-core_inside_send = search (sendable, state_send, outboxes.the_send) depth 20
+core_inside_send = search (sendable, state_send, outboxes.the_field_send) depth 20
 
 pub core_send : IsSend core.the_row
 core_send = search (sendable, core_inside_send) depth 20

@@ -10,8 +10,8 @@ use Rattle.ipc_trail.specs.declared.audit.Receipt.{Receipt}
 use Rattle.ipc_trail.specs.Receipts.{receipt_of}
 use Rattle.ipc_policy.specs.History.{History, record_at}
 use Rattle.ipc_policy.specs.Verdict.{verdict}
-use Rattle.ipc_policy.proofs.Moments.{place_below, record_now}
-use Rattle.ipc_core.specs.State.{State}
+use Rattle.ipc_policy.proofs.Histories.Moments.{place_below, record_now}
+use Rattle.ipc_core.specs.CoreView.{CoreView}
 use Rattle.ipc_core.specs.Outboxes.{after_step}
 use Rattle.ipc_book.specs.declared.entry.Entry.{Entry}
 use Rattle.ipc_book.specs.declared.entry.StepFault.{StepFault}
@@ -24,11 +24,11 @@ use Rattle.std.specs.Result.{IsErrAnd}
 use Rattle.std.proofs.Math.Nat.{lt_of_not-le}
 
 -- the receipt that is found at the place where the history ended
-pub receipt_got : (a a' : State) (e : Event) (place : ℕ) (r : Receipt) → a' ≡ after_step e a → place ≡ length a.history → receipt_at a'.history place ≡ Some r → r ≡ receipt_after a.config a.history e
+pub receipt_got : (a a' : CoreView) (e : Event) (place : ℕ) (r : Receipt) → a' ≡ after_step e a → place ≡ length a.history → receipt_at a'.history place ≡ Some r → r ≡ receipt_after a.config a.history e
 receipt_got a a' e place r stepped at got =
     same_Some r (receipt_after a.config a.history e)
     (sym got
-    ∙ ap (λ (w : State). receipt_at w.history place) stepped
+    ∙ ap (λ (w : CoreView). receipt_at w.history place) stepped
     ∙ ap (receipt_at (after_step e a).history) at
     ∙ ap (option_map (λ q. receipt_of (line_of (length a.history) q))) (record_now a.history (record { event = e; rule = verdict a.config a.history e })))
 
@@ -43,7 +43,7 @@ same_fault : {A : Type 0} → (x y : StepFault) → ◌≡◌ {A = Result A Step
 same_fault x y e = cc
 
 -- the same fault, of another type of results
-pub stale_across : {A : Type 0} → {B : Type 0} → (a a' : State) (list list' : List Entry) (r : Result A StepFault) (r' : Result B StepFault) (fault : StepFault) → r ≡ Err fault → r' ≡ Err fault → a ≡ a' → list ≡ list' → StaleExactly a list r → StaleExactly a' list' r'
+pub stale_across : {A : Type 0} → {B : Type 0} → (a a' : CoreView) (list list' : List Entry) (r : Result A StepFault) (r' : Result B StepFault) (fault : StepFault) → r ≡ Err fault → r' ≡ Err fault → a ≡ a' → list ≡ list' → StaleExactly a list r → StaleExactly a' list' r'
 stale_across a a' list list' r r' fault is is' p q h =
     subst (λ v. StaleExactly v list' r') p (subst (λ l. StaleExactly a l r') q there) where
       there : StaleExactly a list r'
@@ -51,11 +51,11 @@ stale_across a a' list list' r r' fault is is' p q h =
           ((λ e. (h seen found).0 (is ∙ ap Err (same_fault fault (Stale seen found) (sym is' ∙ e)))), (λ t. is' ∙ ap Err (same_fault fault (Stale seen found) (sym is ∙ (h seen found).1 t))))
 
 -- the same result, of what the views show
-pub stale_moved : {A : Type 0} → (a a' : State) (list list' : List Entry) (r : Result A StepFault) → a ≡ a' → list ≡ list' → StaleExactly a list r → StaleExactly a' list' r
+pub stale_moved : {A : Type 0} → (a a' : CoreView) (list list' : List Entry) (r : Result A StepFault) → a ≡ a' → list ≡ list' → StaleExactly a list r → StaleExactly a' list' r
 stale_moved a a' list list' r p q h = subst (λ v. StaleExactly v list' r) p (subst (λ l. StaleExactly a l r) q h)
 
 -- what a stale seat is told of the same fault, after room was made in it
-pub stale_told : {A : Type 0} → (a : State) (list list' : List Entry) (r : Result A StepFault) (fault : StepFault) → r ≡ Err fault → list ≡ list' → StaleExactly a list r → StaleSays list' (Err fault)
+pub stale_told : {A : Type 0} → (a : CoreView) (list list' : List Entry) (r : Result A StepFault) (fault : StepFault) → r ≡ Err fault → list ≡ list' → StaleExactly a list r → StaleSays list' (Err fault)
 stale_told a list list' r fault is same h = subst (λ l. StaleSays l (Err fault)) same there where
   there : StaleSays list (Err fault)
   there seen found e =
@@ -69,7 +69,7 @@ under most n r fault back is full =
     not_full : Fault fault ≡ Full → ⊥
     not_full e = absurd cc
 
-pub offer_stale : {A : Type 0} → {B : Type 0} → (a : State) (list list' : List Entry) (most n : ℕ) (r : Result A (OfferFault × B)) (fault : OfferFault) (back : B) → r ≡ Err (fault, back) → list ≡ list' → FullExactly most n r → (n < most → StaleExactly a list (without_full r)) → StaleSays list' (Err (step_fault fault))
+pub offer_stale : {A : Type 0} → {B : Type 0} → (a : CoreView) (list list' : List Entry) (most n : ℕ) (r : Result A (OfferFault × B)) (fault : OfferFault) (back : B) → r ≡ Err (fault, back) → list ≡ list' → FullExactly most n r → (n < most → StaleExactly a list (without_full r)) → StaleSays list' (Err (step_fault fault))
 offer_stale a list list' most n r Full back is same full stale = λ seen found e. absurd cc
 offer_stale a list list' most n r (Fault fault) back is same full stale =
     stale_told a list list' (without_full r) fault (ap without_full is) same (stale (under most n r fault back is full))

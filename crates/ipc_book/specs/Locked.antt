@@ -12,7 +12,7 @@ use Rattle.ipc_policy.specs.History.{History}
 use Rattle.ipc_policy.specs.Sessions.{hellos}
 use Rattle.ipc_policy.specs.Verdict.{verdict, Legal, outbox}
 use Rattle.ipc_state.specs.Ranges.{first_bad}
-use Rattle.ipc_core.specs.State.{State}
+use Rattle.ipc_core.specs.CoreView.{CoreView}
 use Rattle.ipc_core.specs.Boxes.{box_at, taken}
 use Rattle.ipc_core.specs.Outboxes.{IsSuffix}
 use Rattle.ipc_book.specs.declared.entry.Entry.{Entry}
@@ -40,7 +40,7 @@ abbrev pub StaleSays : List Entry → Result Receipt StepFault → Type 0
 StaleSays list result = (seen : Receipt) (found : Option Receipt) → result ≡ Err (Stale seen found) → (last_receipt list ≡ Some seen) × (found ≢ Some seen)
 
 -- what a seat collects: what its session has not taken yet, and this alone is emptied; nothing, where it has no session or is stale
-abbrev pub Collects : Option Sid → State → State → List Entry → List Answer → Type 0
+abbrev pub Collects : Option Sid → CoreView → CoreView → List Entry → List Answer → Type 0
 Collects None a a' list out = (out ≡ []) × (a' ≡ a)
 Collects (Some s) a a' list out =
     (IsCurrent a.history list × (out ≡ box_at a.untaken s.0) × (a' ≡ record a { untaken = changed taken a.untaken s.0 }))

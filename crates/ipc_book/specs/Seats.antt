@@ -15,7 +15,7 @@ use Rattle.ipc_policy.specs.History.{History, record_at}
 use Rattle.ipc_policy.specs.Sessions.{hellos}
 use Rattle.ipc_policy.specs.Verdict.{verdict, answers, Legal}
 use Rattle.ipc_state.specs.Ranges.{first_bad}
-use Rattle.ipc_core.specs.State.{State}
+use Rattle.ipc_core.specs.CoreView.{CoreView}
 use Rattle.ipc_core.specs.Boxes.{box_at}
 use Rattle.ipc_core.specs.Outboxes.{after_step, session_at}
 use Rattle.ipc_book.specs.declared.entry.Entry.{Entry}
@@ -37,7 +37,7 @@ pub record SeatView : Type 0 where
 
 -- a book: its core, how many seats it made, and the ledger's total
 pub record BookView : Type 0 where
-  pub core : State
+  pub core : CoreView
   pub seats : ℕ
   pub total : ℕ
 
@@ -64,7 +64,7 @@ session_of sid = unwrap_or sid (record { 0 = 18446744073709551615 })
 -- one event of a seat. The history was legal, under limits in their ranges, and had the seat's last receipt at its place. It grew by
 -- this event alone, with its verdict, and each session was given its answers. The receipt is that of the new record, and it is now
 -- the seat's last, with the event
-pub record Stepped (a a' : State) (list list' : List Entry) (e : Event) (r : Receipt) : Type 0 where
+pub record Stepped (a a' : CoreView) (list list' : List Entry) (e : Event) (r : Receipt) : Type 0 where
   pub legal : Legal a.config a.history
   pub in_range : first_bad a.config.limits ≡ None
   pub current : IsCurrent a.history list
@@ -74,7 +74,7 @@ pub record Stepped (a a' : State) (list list' : List Entry) (e : Event) (r : Rec
 
 -- a seat is told that it is stale exactly where it has a last receipt and something else, or nothing, stands at its place; that is
 -- what was found
-abbrev pub StaleExactly : {A : Type 0} → State → List Entry → Result A StepFault → Type 0
+abbrev pub StaleExactly : {A : Type 0} → CoreView → List Entry → Result A StepFault → Type 0
 StaleExactly a list result =
     (seen : Receipt) (found : Option Receipt)
     → (result ≡ Err (Stale seen found)) ↔ ((last_receipt list ≡ Some seen) × (receipt_at a.history seen.place ≡ found) × (found ≢ Some seen))
@@ -85,11 +85,11 @@ without_back (Ok x) = Ok x
 without_back (Err p) = Err p.0
 
 -- whom an event answers second, if anybody
-abbrev pub other_answered : State → Event → Option Sid
+abbrev pub other_answered : CoreView → Event → Option Sid
 other_answered a e = session_at 1 (answers a.config a.history e)
 
 -- what a seat's session has not taken yet; nothing, where the seat has none
-abbrev pub untaken_of : State → Option Sid → List Answer
+abbrev pub untaken_of : CoreView → Option Sid → List Answer
 untaken_of a None = []
 untaken_of a (Some s) = box_at a.untaken s.0
 
@@ -116,7 +116,7 @@ session_ruled None next (Do who call) sid = sid
 session_ruled None next (Hangup who) sid = None
 
 -- a seat's session after an event that comes after what the core has
-abbrev pub session_after : State → Event → Option Sid → Option Sid
+abbrev pub session_after : CoreView → Event → Option Sid → Option Sid
 session_after a e sid = session_ruled (verdict a.config a.history e) (hellos a.history) e sid
 
 -- later receipts have greater places

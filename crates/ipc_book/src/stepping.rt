@@ -11,7 +11,7 @@ ghost use Rattle.ipc_book.specs.Seats.{IsCurrent, Stepped, StaleExactly, last_re
 use crate::entry::{Entry, StepFault};
 use crate::seat::Receipts;
 use ipc_core::{Core, Posted};
-use ipc_terms::{Call, Event, NoMemory, push_within};
+use ipc_terms::{Call, Event, NoMemory};
 use ipc_trail::Receipt;
 use std::alloc::Global;
 use std::sync::ledger::{Book as Total, Ledger};
@@ -118,13 +118,10 @@ pub(crate) fn enter_or_back<L: Ledger>(
     let Some(receipt) = core.trail().receipt(place) else {
         unreachable!();
     };
-    push_within(
-        &mut receipts.entries,
-        Entry {
-            receipt,
-            event: copy,
-        },
-    );
+    receipts.entries.push_reserved(Entry {
+        receipt,
+        event: copy,
+    });
     total.add(&mut receipts.share, 1);
     Ok((receipt, posted))
 }

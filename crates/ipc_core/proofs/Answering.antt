@@ -13,7 +13,7 @@ use Rattle.ipc_policy.specs.History.{History}
 use Rattle.ipc_policy.specs.Objects.{object}
 use Rattle.ipc_policy.specs.Descriptions.{holds}
 use Rattle.ipc_policy.specs.Rules.{is_of_family, not_held, object_held, attributes_held}
-use Rattle.ipc_policy.proofs.Unforbidden.{off}
+use Rattle.ipc_policy.proofs.Histories.Unforbidden.{off}
 
 a_queue : (w : Option Object) → is_of_family Mq w ≡ true → IsSome (as_queue w)
 a_queue None e = absurd cc

@@ -1,4 +1,4 @@
--- What a step puts into outboxes, answer by answer, is what it adds to each; and each has the last of what was answered.
+-- What a step puts into outboxes is what it adds to each, and each has the last of what was answered.
 use Rattle.std.proofs.Common.{◌≡◌, ℕ, zero, suc, ◌+◌, ◌<◌, ◌≤◌, Bool, true, false, not, ◌&&◌, ◌||◌, eqb, cond, List, [], ◌∷◌, ◌++◌, length, slice_get, Option, Some, None, refl, sym, ap, subst, ◌∙◌, append_assoc, arith}
 use Rattle.std.specs.Prelude.{unwrap_or, map, filter, nat_lt}
 use Rattle.std.specs.Option.{option_or, option_map}
@@ -8,61 +8,25 @@ use Rattle.ipc_terms.specs.Lists.{changed}
 use Rattle.ipc_terms.specs.declared.rule.Rule.{Rule}
 use Rattle.ipc_terms.specs.declared.ids.Sid.{Sid}
 use Rattle.ipc_terms.specs.declared.call.Answer.{Answer}
+use Rattle.ipc_terms.specs.declared.call.Answer.TheVariants.{Started}
 use Rattle.ipc_terms.specs.declared.record.Event.{Event}
 use Rattle.ipc_terms.specs.declared.record.Event.TheVariants.{Hello, Do, Hangup}
-use Rattle.ipc_core.specs.Boxes.{Boxes, box_at, with_answer, taken}
+use Rattle.ipc_core.specs.Boxes.{box_at, of_first, taken}
 use Rattle.ipc_policy.specs.declared.config.Config.{Config}
 use Rattle.ipc_policy.specs.History.{History}
 use Rattle.ipc_policy.specs.Sessions.{hellos, live}
-use Rattle.ipc_policy.specs.Verdict.{verdict, answers, for_session, outbox, after_event, after_events}
+use Rattle.ipc_policy.specs.Verdict.{verdict, answers, answers_at, accepted_answers, for_session, outbox, after_event, after_events}
 use Rattle.ipc_policy.specs.Grow.{live_after}
-use Rattle.ipc_policy.proofs.Living.{append_none}
-use Rattle.ipc_policy.proofs.Grown.{grows}
-use Rattle.ipc_policy.proofs.Refused.{same_values}
-use Rattle.ipc_policy.proofs.Known.{live_below}
-use Rattle.ipc_policy.proofs.Outboxes.{outbox_after}
-use Rattle.ipc_core.specs.declared.answer.Told.{Told}
-use Rattle.ipc_state.specs.Past.{Past, with_event}
-use Rattle.ipc_core.specs.Outboxes.{with_more, starts, with_box, added, untaken_after, after_step, after_steps, posted, HasRooms, IsSuffix, BoxesAgree}
-use Rattle.ipc_core.specs.State.{State}
-use Rattle.ipc_core.proofs.BoxTables.{box_past}
+use Rattle.ipc_policy.proofs.Directories.Living.{append_none}
+use Rattle.ipc_policy.proofs.Histories.Grown.{grows}
+use Rattle.ipc_policy.proofs.Histories.Refused.{same_values}
+use Rattle.ipc_policy.proofs.Histories.Known.{live_below}
+use Rattle.ipc_policy.proofs.Outcomes.Outboxes.{outbox_after}
+use Rattle.ipc_state.specs.StateView.{StateView}
+use Rattle.ipc_core.specs.Outboxes.{with_more, starts, with_box, added, untaken_after, after_step, after_steps, IsSuffix, BoxesAgree, Stand}
+use Rattle.ipc_core.specs.CoreView.{CoreView}
+use Rattle.ipc_core.proofs.BoxTables.{box_past, first_same, first_changed, more_first}
 use Rattle.ipc_terms.proofs.Lists.{slice_get_push, slice_past, changed_if, at_changed, count_changed}
-
-pub posted_append : (lives : ℕ → Bool) (ps qs : List (Sid × Answer)) (boxes : List (List Answer)) → posted lives (ps ++ qs) boxes ≡ posted lives qs (posted lives ps boxes)
-posted_append lives [] qs boxes = refl
-posted_append lives (p ∷ ps) qs boxes = posted_append lives ps qs (cond (lives p.0.0) (changed (with_answer p.1) boxes p.0.0) boxes)
-
--- one answer, and then what else is added
-pub more_same : (k : ℕ) (f g : ℕ → List Answer) (boxes : List (List Answer)) → ((s : ℕ) → k ≤ s → f s ≡ g s) → with_more k f boxes ≡ with_more k g boxes
-more_same k f g [] same = refl
-more_same k f g (b ∷ bs) same = ap (λ l. (b ++ l) ∷ with_more (k + 1) f bs) (same k (omega arith)) ∙ ap (λ l. (b ++ g k) ∷ l) (more_same (k + 1) f g bs (λ s le. same s (omega arith)))
-
-joined : (xs ys : List Answer) (a : Answer) → (xs ++ a ∷ []) ++ ys ≡ xs ++ a ∷ ys
-joined [] ys a = refl
-joined (x ∷ xs) ys a = ap (λ l. x ∷ l) (joined xs ys a)
-
-one_more : (k : ℕ) (f g : ℕ → List Answer) (a : Answer) (boxes : List (List Answer)) (i : ℕ) → ((s : ℕ) → s ≡ k + i → g s ≡ a ∷ f s) → ((s : ℕ) → (s ≡ k + i → ⊥) → g s ≡ f s) → with_more k f (changed (with_answer a) boxes i) ≡ with_more k g boxes
-one_more k f g a [] i here others = refl
-one_more k f g a (b ∷ bs) zero here others =
-    ap (λ l. l ∷ with_more (k + 1) f bs) (joined b (f k) a ∙ sym (ap (λ l. b ++ l) (here k (omega arith))))
-    ∙ ap (λ l. (b ++ g k) ∷ l) (more_same (k + 1) f g bs (λ s le. sym (others s (λ (q : s ≡ k + 0). omega arith))))
-one_more k f g a (b ∷ bs) (suc i) here others =
-    ap (λ l. (b ++ l) ∷ with_more (k + 1) f (changed (with_answer a) bs i)) (sym (others k (λ (q : k ≡ k + suc i). omega arith)))
-    ∙ ap (λ l. (b ++ g k) ∷ l) (one_more (k + 1) f g a bs i (λ s e. here s (omega arith)) (λ s ne. others s (λ (q : s ≡ k + suc i). ne (omega arith))))
-
-none_more : (k : ℕ) (f : ℕ → List Answer) (boxes : List (List Answer)) → ((s : ℕ) → f s ≡ []) → with_more k f boxes ≡ boxes
-none_more k f [] none = refl
-none_more k f (b ∷ bs) none = ap (λ l. (b ++ l) ∷ with_more (k + 1) f bs) (none k) ∙ ap (λ l. l ∷ with_more (k + 1) f bs) (append_none b) ∙ ap (λ l. b ∷ l) (none_more (k + 1) f bs none)
-
--- what is for a session, if it is live
-abbrev pub shared : (ℕ → Bool) → List (Sid × Answer) → ℕ → List Answer
-shared lives ps s = cond (lives s) (for_session s ps) []
-
-shared_none : (lives : ℕ → Bool) (s : ℕ) → shared lives [] s ≡ []
-shared_none lives s = at (lives s) where
-  at : (b : Bool) → ◌≡◌ {A = List Answer} (cond b [] []) []
-  at true = refl
-  at false = refl
 
 for_more : (s : ℕ) (p : Sid × Answer) (ps : List (Sid × Answer)) → for_session s (p ∷ ps) ≡ cond (eqb p.0.0 s) (p.1 ∷ for_session s ps) (for_session s ps)
 for_more s p ps = at (eqb p.0.0 s) where
@@ -73,71 +37,55 @@ for_more s p ps = at (eqb p.0.0 s) where
   at true = refl
   at false = refl
 
-shared_here : (lives : ℕ → Bool) (p : Sid × Answer) (ps : List (Sid × Answer)) (s : ℕ) → lives p.0.0 ≡ true → s ≡ p.0.0 → shared lives (p ∷ ps) s ≡ p.1 ∷ shared lives ps s
-shared_here lives p ps s e same =
-    let now : lives s ≡ true = ap lives same ∙ e in
-    let own : eqb p.0.0 s ≡ true = eq-eqb _ _ (sym same) in
-    ap (λ l. cond (lives s) l []) (for_more s p ps) ∙ rw (now, own) refl
+-- what is told to the sessions that are kept
+none_kept : (b : Bool) → ◌≡◌ {A = List Answer} (cond b [] []) []
+none_kept true = refl
+none_kept false = refl
 
-shared_other : (lives : ℕ → Bool) (p : Sid × Answer) (ps : List (Sid × Answer)) (s : ℕ) → (s ≡ p.0.0 → ⊥) → shared lives (p ∷ ps) s ≡ shared lives ps s
-shared_other lives p ps s ne =
-    let other : eqb p.0.0 s ≡ false = ne_eqb _ _ (λ q. ne (sym q)) in
-    ap (λ l. cond (lives s) l []) (for_more s p ps ∙ ap (λ b. cond b (p.1 ∷ for_session s ps) (for_session s ps)) other)
+for_kept : (keep : ℕ → Bool) (s : ℕ) (ps : List (Sid × Answer)) → for_session s (filter (λ p. keep p.0.0) ps) ≡ cond (keep s) (for_session s ps) []
+for_kept keep s [] = sym (none_kept (keep s))
+for_kept keep s (p ∷ ps) = at (keep p.0.0) (eqb p.0.0 s) refl refl (for_kept keep s ps) where
+  rest : List (Sid × Answer)
+  rest = filter (λ q. keep q.0.0) ps
 
-shared_dead : (lives : ℕ → Bool) (p : Sid × Answer) (ps : List (Sid × Answer)) (s : ℕ) → lives p.0.0 ≡ false → shared lives (p ∷ ps) s ≡ shared lives ps s
-shared_dead lives p ps s e = at (eqb p.0.0 s) refl where
-  at : (b : Bool) → eqb p.0.0 s ≡ b → shared lives (p ∷ ps) s ≡ shared lives ps s
-  at true k = let now : lives s ≡ false = ap lives (sym (eqb-true _ _ k)) ∙ e in rw now refl
-  at false k = ap (λ l. cond (lives s) l []) (for_more s p ps ∙ ap (λ b. cond b (p.1 ∷ for_session s ps) (for_session s ps)) k)
+  at : (b own : Bool) → keep p.0.0 ≡ b → eqb p.0.0 s ≡ own → for_session s rest ≡ cond (keep s) (for_session s ps) [] → for_session s (cond b (p ∷ rest) rest) ≡ cond (keep s) (for_session s (p ∷ ps)) []
+  at true true k e so_far =
+      let kept : keep s ≡ true = ap keep (sym (eqb-true p.0.0 s e)) ∙ k in
+      let before : for_session s rest ≡ for_session s ps = so_far ∙ ap (λ b. cond b (for_session s ps) []) kept in
+      for_more s p rest ∙ ap (λ b. cond b (p.1 ∷ for_session s rest) (for_session s rest)) e ∙ ap (λ l. p.1 ∷ l) before
+      ∙ sym (for_more s p ps ∙ ap (λ b. cond b (p.1 ∷ for_session s ps) (for_session s ps)) e)
+      ∙ sym (ap (λ b. cond b (for_session s (p ∷ ps)) []) kept)
+  at true false k e so_far =
+      for_more s p rest ∙ ap (λ b. cond b (p.1 ∷ for_session s rest) (for_session s rest)) e ∙ so_far
+      ∙ ap (λ l. cond (keep s) l []) (sym (for_more s p ps ∙ ap (λ b. cond b (p.1 ∷ for_session s ps) (for_session s ps)) e))
+  at false true k e so_far =
+      let dropped : keep s ≡ false = ap keep (sym (eqb-true p.0.0 s e)) ∙ k in
+      so_far ∙ rw dropped refl
+  at false false k e so_far = so_far ∙ ap (λ l. cond (keep s) l []) (sym (for_more s p ps ∙ ap (λ b. cond b (p.1 ∷ for_session s ps) (for_session s ps)) e))
 
-pub posted_is : (lives : ℕ → Bool) (ps : List (Sid × Answer)) (boxes : List (List Answer)) → posted lives ps boxes ≡ with_more 0 (shared lives ps) boxes
-posted_is lives [] boxes = sym (none_more 0 (shared lives []) boxes (shared_none lives))
-posted_is lives (p ∷ ps) boxes = at (lives p.0.0) refl (posted_is lives ps) where
-  at : (b : Bool) → lives p.0.0 ≡ b → ((now : List (List Answer)) → posted lives ps now ≡ with_more 0 (shared lives ps) now) → posted lives ps (cond b (changed (with_answer p.1) boxes p.0.0) boxes) ≡ with_more 0 (shared lives (p ∷ ps)) boxes
-  at true e rest = rest (changed (with_answer p.1) boxes p.0.0) ∙ one_more 0 (shared lives ps) (shared lives (p ∷ ps)) p.1 boxes p.0.0 (λ s q. shared_here lives p ps s e (omega arith)) (λ s ne. shared_other lives p ps s (λ q. ne (omega arith)))
-  at false e rest = rest boxes ∙ more_same 0 (shared lives ps) (shared lives (p ∷ ps)) boxes (λ s le. sym (shared_dead lives p ps s e))
+-- what an event is answered to sessions that are live after it is what it is answered to those that were live, and to the one that starts
+started_told : (h : History) (s : ℕ) (p : Sid × Answer) (was : Bool) → p.0.0 ≡ hellos h → cond (eqb (hellos h) s || was) (for_session s (p ∷ [])) [] ≡ for_session s (p ∷ [])
+started_told h s p was same = at (eqb p.0.0 s) refl where
+  at : (own : Bool) → eqb p.0.0 s ≡ own → cond (eqb (hellos h) s || was) (for_session s (p ∷ [])) [] ≡ for_session s (p ∷ [])
+  at true e =
+      let here : eqb (hellos h) s ≡ true = ap (λ n. eqb n s) (sym same) ∙ e in
+      rw here refl
+  at false e =
+      let nothing : for_session s (p ∷ []) ≡ [] = for_more s p [] ∙ ap (λ b. cond b (p.1 ∷ []) []) e in
+      rw nothing (none_kept (eqb (hellos h) s || was))
 
--- so a step leaves the outboxes as it should
-after_is : (c : Config) (h : History) (e : Event) (lives : ℕ → Bool) (ps : List (Sid × Answer)) (boxes now : List (List Answer)) → ((s : ℕ) → lives s ≡ live (after_event c h e) s) → ps ≡ answers c h e → now ≡ with_box (starts (verdict c h e) e) boxes → posted lives ps now ≡ untaken_after c h e boxes
-unfolding untaken_after
-after_is c h e lives ps boxes now same all new =
-    posted_is lives ps now
-    ∙ ap (with_more 0 (shared lives ps)) new
-    ∙ more_same 0 (shared lives ps) (added c h e) (with_box (starts (verdict c h e) e) boxes) (λ s le. ap (λ b. cond b (for_session s ps) []) (same s) ∙ ap (λ l. cond (live (after_event c h e) s) (for_session s l) []) all)
+accepted_told : (c : Config) (h : History) (e : Event) (s : ℕ) → cond (live_after s e (hellos h) (live h s)) (for_session s (accepted_answers c h e)) [] ≡ cond (starts None e || live h s) (for_session s (accepted_answers c h e)) []
+accepted_told c h (Hello found) s = started_told h s (record { 0 = hellos h }, Started (record { 0 = hellos h })) (live h s) refl
+accepted_told c h (Do sid call) s = refl
+accepted_told c h (Hangup sid) s = none_kept (not (eqb sid.0 s) && live h s) ∙ sym (none_kept (live h s))
 
--- the same, by what a step does: the state has the event, there is room, and the answers are posted
-pub untaken_is : (a b : Past) (e : Event) (rule : Option Rule) (is_new : Bool) (told : List (Sid × Answer)) (boxes kept now : List (List Answer)) → b ≡ with_event e a → kept ≡ boxes → rule ≡ verdict a.config a.history e → is_new ≡ starts rule e → told ≡ answers a.config a.history e → now ≡ posted (live b.history) told (with_box is_new kept) → now ≡ untaken_after a.config a.history e boxes
-untaken_is a b e rule is_new told boxes kept now added same is new all put =
-    put
-    ∙ rw (added, same) (after_is a.config a.history e (live (with_event e a).history) told boxes (with_box is_new boxes)
-    (λ s. refl)
-    all
-    (ap (λ n. with_box n boxes) (new ∙ ap (λ r. starts r e) is)))
+live_told : (c : Config) (h : History) (e : Event) (rule : Option Rule) (s : ℕ) → cond (live (record { event = e; rule = rule } ∷ h) s) (for_session s (answers_at rule c h e)) [] ≡ cond (starts rule e || live h s) (for_session s (answers_at rule c h e)) []
+live_told c h e (Some rule) s = ap (λ b. cond b (for_session s (answers_at (Some rule) c h e)) []) ((same_values c h e rule).live s)
+live_told c h e None s = ap (λ b. cond b (for_session s (accepted_answers c h e)) []) ((grows c h e).live_or_not s) ∙ accepted_told c h e s
 
--- a session that is live after an event was live before it, or it starts
-after_leave : (b w : Bool) → (not b && w) ≡ true → w ≡ true
-after_leave true w e = absurd cc
-after_leave false w e = e
-
-live_at : (h : History) (e : Event) (s : ℕ) → live_after s e (hellos h) (live h s) ≡ true → (starts None e || live h s) ≡ true
-live_at h (Hello found) s e = refl
-live_at h (Do sid call) s e = e
-live_at h (Hangup sid) s e = after_leave (eqb sid.0 s) (live h s) e
-
-was_live : (c : Config) (h : History) (e : Event) (rule : Option Rule) (s : ℕ) → live (record { event = e; rule = rule } ∷ h) s ≡ true → (starts rule e || live h s) ≡ true
-was_live c h e (Some rule) s k = sym ((same_values c h e rule).live s) ∙ k
-was_live c h e None s k = live_at h e s (sym ((grows c h e).live_or_not s) ∙ k)
-
--- so there is room for what is put
-pub rooms_after : (a b : Past) (e : Event) (rule : Option Rule) (is_new : Bool) (told : Told) (boxes : Boxes) → b ≡ with_event e a → rule ≡ verdict a.config a.history e → is_new ≡ starts rule e → HasRooms (λ s. is_new || live a.history s) is_new told boxes → HasRooms (live b.history) is_new told boxes
-rooms_after a b e rule is_new told boxes added is new has = record {
-  caller = λ sid k lives. has.caller sid k (was sid.0 lives);
-  other = λ sid k lives. has.other sid k (was sid.0 lives);
-  places = has.places;
-  next = has.next;
-} where
-  was : (s : ℕ) → live b.history s ≡ true → (is_new || live a.history s) ≡ true
-  was s k = rw (new, is) (was_live a.config a.history e (verdict a.config a.history e) s (ap (λ (p : Past). live p.history s) (sym added) ∙ k))
+added_is : (c : Config) (h : History) (e : Event) (s : ℕ) → added c h e s ≡ for_session s (filter (λ p. starts (verdict c h e) e || live h p.0.0) (answers c h e))
+unfolding answers
+added_is c h e s = live_told c h e (verdict c h e) s ∙ sym (for_kept (λ t. starts (verdict c h e) e || live h t) s (answers c h e))
 
 -- each has the last of what its session was answered
 count_more : (k : ℕ) (f : ℕ → List Answer) (boxes : List (List Answer)) → length (with_more k f boxes) ≡ length boxes
@@ -220,6 +168,48 @@ boxes_after c h e boxes a = record {
       (subst (λ all. IsSuffix (box_at boxes s ++ added c h e s) all) (sym (outbox_after c h e s)) (suffix_more (box_at boxes s) (outbox c h s) (added c h e s) (a.suffix s)));
 }
 
+-- what a step leaves untaken, session by session
+box_new : (c : Config) (h : History) (e : Event) (rule : Option Rule) (untaken : ℕ → List Answer) → untaken (hellos h) ≡ [] → with_box (starts rule e) (of_first (hellos h) untaken) ≡ of_first (hellos (record { event = e; rule = rule } ∷ h)) untaken
+box_new c h e rule untaken none = at (starts rule e) ∙ ap (λ n. of_first n untaken) (sym (hellos_at c h e rule)) where
+  at : (b : Bool) → cond b (of_first (hellos h) untaken ++ [] ∷ []) (of_first (hellos h) untaken) ≡ of_first (cond b (hellos h + 1) (hellos h)) untaken
+  at true = let one : suc (hellos h) ≡ hellos h + 1 = omega arith in ap (λ box. of_first (hellos h) untaken ++ box ∷ []) (sym none) ∙ ap (λ n. of_first n untaken) one
+  at false = refl
+
+first_after : (c : Config) (h : History) (e : Event) (untaken now : ℕ → List Answer) → untaken (hellos h) ≡ [] → ((s : ℕ) → now s ≡ untaken s ++ added c h e s) → of_first (hellos (after_event c h e)) now ≡ untaken_after c h e (of_first (hellos h) untaken)
+unfolding untaken_after
+first_after c h e untaken now none is =
+    first_same (hellos (after_event c h e)) now (λ s. untaken s ++ added c h e s) is
+    ∙ sym (more_first (hellos (after_event c h e)) untaken (added c h e))
+    ∙ ap (with_more 0 (added c h e)) (sym (box_new c h e (verdict c h e) untaken none))
+
+hellos_grow : (c : Config) (h : History) (e : Event) → hellos h ≤ hellos (after_event c h e)
+hellos_grow c h e = subst (λ n. hellos h ≤ n) (sym (hellos_at c h e (verdict c h e))) (at (starts (verdict c h e) e)) where
+  at : (b : Bool) → hellos h ≤ cond b (hellos h + 1) (hellos h)
+  at true = omega arith
+  at false = omega arith
+
+stand_after : (c : Config) (h : History) (e : Event) (untaken now : ℕ → List Answer) → Stand c h untaken → ((s : ℕ) → now s ≡ untaken s ++ added c h e s) → Stand c (after_event c h e) now
+stand_after c h e untaken now k is = record {
+  unstarted = λ s le. let grown = hellos_grow c h e in is s ∙ ap (λ box. box ++ added c h e s) (k.unstarted s (omega arith)) ∙ added_past c h e s le;
+  agree = subst (λ boxes. BoxesAgree c (after_event c h e) boxes) (sym (first_after c h e untaken now (k.unstarted (hellos h) (omega arith)) is)) (boxes_after c h e (of_first (hellos h) untaken) k.agree);
+}
+
+-- the same, by what a step does: what is for nobody that is live is dropped, there is room, and the rest is put
+pub record Stepped (a : StateView) (e : Event) (untaken now : ℕ → List Answer) : Type 0 where
+  pub stand : Stand a.config (after_event a.config a.history e) now
+  pub first : of_first (hellos (after_event a.config a.history e)) now ≡ untaken_after a.config a.history e (of_first (hellos a.history) untaken)
+
+pub stepped : (a : StateView) (e : Event) (rule : Option Rule) (kept : List (Sid × Answer)) (untaken room now : ℕ → List Answer) → rule ≡ verdict a.config a.history e → kept ≡ filter (λ p. starts rule e || live a.history p.0.0) (answers a.config a.history e) → ((s : ℕ) → room s ≡ untaken s) → ((s : ℕ) → now s ≡ room s ++ for_session s kept) → Stand a.config a.history untaken → Stepped a e untaken now
+stepped a e rule kept untaken room now is cut same put k = record {
+  stand = stand_after a.config a.history e untaken now k adds;
+  first = first_after a.config a.history e untaken now (k.unstarted (hellos a.history) (omega arith)) adds;
+} where
+  cut_is : kept ≡ filter (λ p. starts (verdict a.config a.history e) e || live a.history p.0.0) (answers a.config a.history e)
+  cut_is = cut ∙ rw is refl
+
+  adds : (s : ℕ) → now s ≡ untaken s ++ added a.config a.history e s
+  adds s = put s ∙ ap (λ box. box ++ for_session s kept) (same s) ∙ ap (λ ps. untaken s ++ for_session s ps) cut_is ∙ ap (λ more. untaken s ++ more) (sym (added_is a.config a.history e s))
+
 -- there are none at the start
 pub boxes_new : (c : Config) → BoxesAgree c [] []
 unfolding hellos outbox
@@ -251,11 +241,28 @@ boxes_taken c h boxes i a = record {
   suffix = λ s. subst (λ w. IsSuffix (unwrap_or w []) (outbox c h s)) (sym (at_changed taken boxes i s)) (taken_at (eqb i s) (slice_get boxes s) (outbox c h s) (a.suffix s));
 }
 
+pub stand_new : (c : Config) (untaken : ℕ → List Answer) → ((s : ℕ) → untaken s ≡ []) → Stand c [] untaken
+unfolding hellos
+stand_new c untaken none = record { unstarted = λ s le. none s; agree = boxes_new c }
+
+pub state_new : (c : Config) (untaken : ℕ → List Answer) → ◌≡◌ {A = CoreView} (record { config = c; history = []; untaken = of_first (hellos []) untaken }) (record { config = c; history = []; untaken = [] })
+unfolding hellos
+state_new c untaken = refl
+
+pub stand_taken : (c : Config) (h : History) (f g : ℕ → List Answer) (i : ℕ) → ((s : ℕ) → g s ≡ cond (eqb i s) [] (f s)) → Stand c h f → Stand c h g
+stand_taken c h f g i is k = record {
+  unstarted = λ s le. is s ∙ at (eqb i s) (f s) (k.unstarted s le);
+  agree = subst (λ boxes. BoxesAgree c h boxes) (sym (first_changed taken (hellos h) f g i is)) (boxes_taken c h (of_first (hellos h) f) i k.agree);
+} where
+  at : (b : Bool) (box : List Answer) → box ≡ [] → cond b [] box ≡ []
+  at true box none = refl
+  at false box none = none
+
 -- one more event at the end of a list
-pub steps_more : (es : List Event) (e : Event) (a : State) → after_steps (es ++ e ∷ []) a ≡ after_step e (after_steps es a)
+pub steps_more : (es : List Event) (e : Event) (a : CoreView) → after_steps (es ++ e ∷ []) a ≡ after_step e (after_steps es a)
 steps_more [] e a = refl
 steps_more (d ∷ es) e a = steps_more es e (after_step d a)
 
-pub steps_answers : (es : List Event) (e : Event) (a : State) → answers (after_steps es a).config (after_steps es a).history e ≡ answers a.config (after_events a.config a.history es) e
+pub steps_answers : (es : List Event) (e : Event) (a : CoreView) → answers (after_steps es a).config (after_steps es a).history e ≡ answers a.config (after_events a.config a.history es) e
 steps_answers [] e a = refl
 steps_answers (d ∷ es) e a = steps_answers es e (after_step d a)

@@ -21,7 +21,7 @@ use Rattle.ipc_policy.specs.Registrations.{registered}
 use Rattle.ipc_policy.specs.Rules.{attributes_held}
 use Rattle.ipc_policy.specs.Verdict.{Legal, answers_of, noticed, send_answers}
 use Rattle.ipc_state.specs.Agrees.{receiver_of}
-use Rattle.ipc_state.specs.Past.{brought, queue_by, semaphore_by, value_by}
+use Rattle.ipc_state.specs.StateView.{brought, queue_by, semaphore_by, value_by}
 use Rattle.ipc_state.specs.Meetings.{description, by_description, queue_held, semaphore_held}
 use Rattle.ipc_state.proofs.HeldQueues.{held_length, held_receiver, held_waiter, held_value, held_sender, held_place, message_there, message_some}
 use Rattle.ipc_core.proofs.Noticing.{full_told, served_told, noticed_told}

@@ -18,7 +18,7 @@ use Rattle.ipc_policy.specs.Queues.{Wait, Queue, has_none, attributes, queue, is
 use Rattle.ipc_policy.specs.Registrations.{is_idle, registered}
 use Rattle.ipc_policy.specs.Rules.{attributes_held}
 use Rattle.ipc_policy.specs.Verdict.{answers_of, given, noticed, send_answers}
-use Rattle.ipc_state.specs.Past.{queue_by}
+use Rattle.ipc_state.specs.StateView.{queue_by}
 
 -- a receive that is served gets the message, and no notice is sent
 served_list : (priority : ℕ) (bytes : List ℕ) (q : Queue) (g : Option Registration) (r : Sid) → option_map (λ (w : Wait). record { 0 = w.session }) (first q.receivers) ≡ Some r → given priority bytes (first q.receivers) ++ cond (is_idle q) (noticed g) [] ≡ (r, Received priority bytes) ∷ []

@@ -8,7 +8,7 @@ use Rattle.ipc_policy.specs.History.{History}
 use Rattle.ipc_policy.specs.Verdict.{outbox}
 use Rattle.ipc_core.specs.Boxes.{box_at, taken}
 use Rattle.ipc_core.specs.Outboxes.{BoxesAgree, added, untaken_after, after_steps}
-use Rattle.ipc_core.specs.State.{State}
+use Rattle.ipc_core.specs.CoreView.{CoreView}
 
 -- an event adds its answers to a session at the end of what that has not taken, where the session is live after the
 -- record; nothing else changes there
@@ -16,14 +16,14 @@ abbrev pub EachIsAdded : Type 0
 EachIsAdded = (c : Config) (h : History) (e : Event) (boxes : List (List Answer)) (s : ℕ) → BoxesAgree c h boxes → box_at (untaken_after c h e boxes) s ≡ box_at boxes s ++ added c h e s
 
 -- a session's untaken answers and the whole of its outbox gain the same
-pub record Gains (a b : State) (s : ℕ) : Type 0 where
+pub record Gains (a b : CoreView) (s : ℕ) : Type 0 where
   pub more : List Answer
   pub outbox_is : outbox b.config b.history s ≡ outbox a.config a.history s ++ more
   pub untaken_is : box_at b.untaken s ≡ box_at a.untaken s ++ more
 
 -- whatever events are stepped
 abbrev pub AllIsKept : Type 0
-AllIsKept = (es : List Event) (a : State) (s : ℕ) → BoxesAgree a.config a.history a.untaken → Gains a (after_steps es a) s
+AllIsKept = (es : List Event) (a : CoreView) (s : ℕ) → BoxesAgree a.config a.history a.untaken → Gains a (after_steps es a) s
 
 -- a take of session s leaves that nothing
 abbrev pub TakenIsGone : Type 0

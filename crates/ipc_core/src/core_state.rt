@@ -1,20 +1,22 @@
 //! The core.
 
-ghost use Rattle.std.specs.Prelude.{◌≡◌, ◌≤◌, ◌++◌, [], IfOk, IfErr, OnOk, OnErr, length, map, take, MatchOption};
+ghost use Rattle.std.specs.Prelude.{◌≡◌, ◌≤◌, ◌||◌, ◌++◌, [], IfOk, IfErr, OnOk, OnErr, filter, length, map, take, MatchOption};
 ghost use Rattle.ipc_terms.specs.Lists.{changed};
 ghost use Rattle.ipc_core.specs.Boxes.{box_at, taken};
 ghost use Rattle.ipc_policy.specs.History.{listed};
+ghost use Rattle.ipc_policy.specs.Sessions.{live};
 ghost use Rattle.ipc_policy.specs.Verdict.{verdict, answers, Legal, all_answers};
-ghost use Rattle.ipc_core.specs.Outboxes.{BoxesAgree, told_list, session_at, after_step, after_steps};
+ghost use Rattle.ipc_core.specs.Outboxes.{BoxesAgree, starts, told_list, session_at, after_step, after_steps};
+ghost use Rattle.ipc_state.specs.Meetings.{by_description, by_name, object_by, object_bound};
 ghost use Rattle.ipc_state.specs.Ranges.{first_bad};
 
 use crate::answer::{Posted, Told, answers_to};
 use crate::fault::CoreFault;
 use crate::outboxes::Outboxes;
-use crate::posting::{make_room, put_all, starts};
+use crate::posting::{ended, for_live, make_room, put_all, starts};
 use ipc_policy::Config;
 use ipc_rules::decide;
-use ipc_state::{Lookup, State, first_bad};
+use ipc_state::{Lookup, Meant, State, first_bad};
 use ipc_terms::{Answer, Event, NoMemory, Rule, Sid};
 use ipc_trail::Trail;
 use std::alloc::Global;
@@ -29,15 +31,17 @@ pub struct Core {
 }
 
 impl Model for Core {
-    ghost use Rattle.ipc_core.specs.State.{State};
+    ghost use Rattle.ipc_core.specs.CoreView.{CoreView};
 
-    ghost Value = { State };
+    ghost Value = { CoreView };
 
-    ghost use Rattle.ipc_core.specs.Outboxes.{BoxesAgree};
+    ghost use Rattle.ipc_policy.specs.Sessions.{hellos};
+    ghost use Rattle.ipc_core.specs.Boxes.{of_first, untaken_by};
+    ghost use Rattle.ipc_core.specs.Outboxes.{Stand};
 
-    ghost view = { λ a. record { config = a.state.config; history = a.state.history; untaken = a.outboxes.untaken } };
+    ghost view = { λ a. record { config = a.state.config; history = a.state.history; untaken = of_first (hellos a.state.history) (untaken_by a.outboxes) } };
 
-    ghost invariant = { λ a. BoxesAgree a.state.config a.state.history a.outboxes.untaken };
+    ghost invariant = { λ a. Stand a.state.config a.state.history (untaken_by a.outboxes) };
 }
 
 /// What the event is answered where this is the verdict on it, and copies of it in a list.
@@ -114,7 +118,7 @@ impl Core {
     pub fn waiting(&self, sid: Sid) -> usize
         ensures { result ≡ length (box_at self.now.untaken sid.0) }
     {
-        self.outboxes.get(sid).len()
+        self.answers(sid).len()
     }
 
     /// Gives the answers that the session has not taken yet, in order, and leaves none. Takes no
@@ -124,6 +128,13 @@ impl Core {
         ensures left { self.new ≡ record self.old { untaken = changed taken self.old.untaken sid.0 } }
     {
         self.outboxes.take(sid)
+    }
+
+    /// Leaves no untaken answers of the session, as `take` does. Takes no memory.
+    pub fn clear(&mut self, sid: Sid)
+        ensures { self.new ≡ record self.old { untaken = changed taken self.old.untaken sid.0 } }
+    {
+        self.outboxes.clear(sid);
     }
 
     /// Each session has an outbox, and what is untaken is the last of all that it was answered while
@@ -145,7 +156,9 @@ impl Core {
         let lookup = Lookup::new(&self.state, &event);
         let rule = decide(&lookup);
         let (told, given) = told_with_copies(&lookup, alloc, rule)?;
-        self.commit(alloc, event, rule, told)?;
+        let told = for_live(told, &lookup, starts(rule, &event));
+        let meant = lookup.meant();
+        self.commit(alloc, event, rule, meant, told)?;
         Ok(given)
     }
 
@@ -169,28 +182,34 @@ impl Core {
             caller: told.caller(),
             other: told.other(),
         };
-        self.commit(alloc, event, verdict, told)?;
+        let told = for_live(told, &lookup, starts(verdict, &event));
+        let meant = lookup.meant();
+        self.commit(alloc, event, verdict, meant, told)?;
         Ok(posted)
     }
 
-    /// Records the event with its verdict, does what is accepted, and puts what is answered into
-    /// outboxes. An `Err` changes nothing, and drops the event.
+    /// Records the event with its verdict, does what is accepted to the objects that it means, and puts
+    /// what is answered to sessions that are live into outboxes. An `Err` changes nothing, and drops the
+    /// event.
     fn commit(
         &mut self,
         alloc: Global,
         event: Event,
         rule: Option<Rule>,
+        meant: Meant,
         told: Told,
     ) -> Result<(), NoMemory>
         requires verdict { rule ≡ verdict self.old.config self.old.history event }
-        requires answers { told_list told ≡ answers self.old.config self.old.history event }
+        requires held { meant.held ≡ by_description (object_by self.old.history) event }
+        requires bound { meant.bound ≡ by_name (object_bound self.old.history) event }
+        requires answers { told_list told ≡ filter (λ p. starts rule event || live self.old.history p.0.0) (answers self.old.config self.old.history event) }
         ensures ok { OnOk result (self.new ≡ after_step event self.old) }
         ensures err { OnErr result (self.new ≡ self.old) }
     {
-        let is_new = starts(rule, &event);
-        make_room(&mut self.outboxes, &self.state, is_new, &told)?;
-        self.state.add(alloc, event, rule)?;
-        put_all(&mut self.outboxes, &self.state, is_new, told);
+        let ended = ended(rule, &event);
+        make_room(&mut self.outboxes, &told)?;
+        self.state.add(alloc, event, rule, meant)?;
+        put_all(&mut self.outboxes, told, ended);
         Ok(())
     }
 

@@ -1,12 +1,13 @@
 //! Messages.
 
+use ipc_terms::Bytes;
 use std::marker::Model;
 
 /// What a receive gets.
 #[derive(Drop)]
 pub struct Message<'a> {
     pub priority: u32,
-    pub bytes: &'a [u8],
+    pub bytes: &'a Bytes,
 }
 
 impl<'a> Model for Message<'a> {

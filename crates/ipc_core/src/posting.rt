@@ -1,13 +1,15 @@
 //! What a step answers is put into outboxes.
 
-ghost use Rattle.std.specs.Prelude.{◌≡◌, ℕ, ◌||◌, true, [], ◌∷◌, Some, OnOk};
+ghost use Rattle.std.specs.Prelude.{◌≡◌, true, ℕ, ◌||◌, [], ◌∷◌, ◌++◌, filter, OnOk};
+ghost use Rattle.ipc_policy.specs.History.{listed};
 ghost use Rattle.ipc_policy.specs.Sessions.{live};
-ghost use Rattle.ipc_core.specs.Boxes.{HasRoom};
-ghost use Rattle.ipc_core.specs.Outboxes.{HasRooms, told_list, starts, with_box, posted};
+ghost use Rattle.ipc_policy.specs.Verdict.{for_session};
+ghost use Rattle.ipc_core.specs.Boxes.{untaken_by};
+ghost use Rattle.ipc_core.specs.Outboxes.{HasRooms, told_list, starts};
 
 use crate::answer::Told;
 use crate::outboxes::Outboxes;
-use ipc_state::State;
+use ipc_state::Lookup;
 use ipc_terms::{Answer, Event, NoMemory, Rule, Sid};
 
 /// How many answers one step gives a session at most.
@@ -23,74 +25,85 @@ pub fn starts(rule: Option<Rule>, event: &Event) -> bool
     }
 }
 
-/// Makes room for the outbox of a session that starts, and for what a step answers. An `Err` leaves
-/// the answers as they were; the room may differ.
-pub fn make_room(
-    outboxes: &mut Outboxes,
-    state: &State,
-    is_new: bool,
-    told: &Told,
-) -> Result<(), NoMemory>
-    ensures kept { outboxes.new.untaken ≡ outboxes.old.untaken }
-    ensures room { OnOk result (HasRooms (λ s. is_new || live state.now.history s) is_new told.now outboxes.new) }
-{
-    if is_new {
-        outboxes.reserve_box(MOST)?;
+/// The session that ends where this is the verdict on the event.
+pub fn ended(rule: Option<Rule>, event: &Event) -> Option<Sid> {
+    match (rule, event) {
+        (None, Event::Hangup { sid }) => Some(*sid),
+        _ => None,
     }
-    reserve(outboxes, state, is_new, told.caller())?;
-    reserve(outboxes, state, is_new, told.other())?;
-    Ok(())
 }
 
-/// Makes room for answers to the session, if it is live or starts. An `Err` leaves the answers as
-/// they were; the room may differ.
-fn reserve(
-    outboxes: &mut Outboxes,
-    state: &State,
-    is_new: bool,
-    session: Option<Sid>,
-) -> Result<(), NoMemory>
-    ensures kept { outboxes.new.untaken ≡ outboxes.old.untaken }
-    ensures room { OnOk result ((sid : Sid) → session ≡ Some sid → (is_new || live state.now.history sid.0) ≡ true → HasRoom 2 outboxes.new.rooms sid.0) }
-    ensures more { (n s : ℕ) → HasRoom n outboxes.old.rooms s → HasRoom n outboxes.new.rooms s }
-    ensures places { outboxes.new.places ≡ outboxes.old.places }
-    ensures next { outboxes.new.next ≡ outboxes.old.next }
+/// What a step answers to sessions that are live, or to the one that starts.
+pub fn for_live(told: Told, lookup: &Lookup<'_>, is_new: bool) -> Told
+    ensures { told_list result ≡ filter (λ p. is_new || live lookup.now.history p.0.0) (told_list told) }
 {
-    if let Some(sid) = session {
-        if is_new || state.is_live(sid) {
-            outboxes.reserve(sid, MOST)?;
-        }
-    }
-    Ok(())
-}
-
-/// Adds the outbox of a session that starts, and puts each answer to a session that is live at the
-/// end of its outbox. Takes no memory.
-pub fn put_all(outboxes: &mut Outboxes, state: &State, is_new: bool, told: Told)
-    requires { HasRooms (live state.now.history) is_new told outboxes.old }
-    ensures { outboxes.new.untaken ≡ posted (live state.now.history) (told_list told) (with_box is_new outboxes.old.untaken) }
-{
-    if is_new {
-        outboxes.open();
+    if are_live(&told, lookup, is_new) {
+        return told;
     }
     match told {
-        Told::Nothing => {}
-        Told::One(answer) => put(outboxes, state, answer),
-        Told::Two(caller, other) => {
-            put(outboxes, state, caller);
-            put(outboxes, state, other);
+        Told::Nothing => Told::Nothing,
+        Told::One(answer) => Told::of(if_live(answer, lookup, is_new), None),
+        Told::Two(caller, other) => Told::of(
+            if_live(caller, lookup, is_new),
+            if_live(other, lookup, is_new),
+        ),
+    }
+}
+
+/// Whether each answer is for a session that is live, or for the one that starts.
+fn are_live(told: &Told, lookup: &Lookup<'_>, is_new: bool) -> bool
+    ensures { result ≡ true → filter (λ p. is_new || live lookup.now.history p.0.0) (told_list told.now) ≡ told_list told.now }
+{
+    match told {
+        Told::Nothing => true,
+        Told::One((sid, _)) => is_new || lookup.is_session_live(*sid),
+        Told::Two((caller, _), (other, _)) => {
+            lookup.is_session_live(*caller) && lookup.is_session_live(*other)
         }
     }
 }
 
-/// Puts the answer at the end of its session's outbox, if that is live. Takes no memory.
-fn put(outboxes: &mut Outboxes, state: &State, told: (Sid, Answer))
-    requires { live state.now.history told.0.0 ≡ true → HasRoom 1 outboxes.old.rooms told.0.0 }
-    ensures boxes { outboxes.new.untaken ≡ posted (live state.now.history) (told ∷ []) outboxes.old.untaken }
-    ensures rooms { (s : ℕ) → HasRoom 2 outboxes.old.rooms s → HasRoom 1 outboxes.new.rooms s }
+/// The answer, if its session is live or starts.
+fn if_live(answer: (Sid, Answer), lookup: &Lookup<'_>, is_new: bool) -> Option<(Sid, Answer)>
+    ensures { listed result ≡ filter (λ p. is_new || live lookup.now.history p.0.0) (answer ∷ []) }
 {
-    let (sid, answer) = told;
-    if state.is_live(sid) {
-        outboxes.put(sid, answer);
+    if is_new || lookup.is_session_live(answer.0) {
+        return Some(answer);
+    }
+    None
+}
+
+/// Makes room for what a step answers. An `Err` leaves the answers as they were; the room may differ.
+pub fn make_room(outboxes: &mut Outboxes, told: &Told) -> Result<(), NoMemory>
+    ensures kept { (s : ℕ) → untaken_by outboxes.new s ≡ untaken_by outboxes.old s }
+    ensures room { OnOk result (HasRooms (told_list told.now) outboxes.new) }
+{
+    match told {
+        Told::Nothing => {}
+        Told::One((sid, _)) => outboxes.reserve(*sid, MOST)?,
+        Told::Two((caller, _), (other, _)) => {
+            outboxes.reserve(*caller, MOST)?;
+            outboxes.reserve(*other, MOST)?;
+        }
+    }
+    Ok(())
+}
+
+/// Puts each answer at the end of its session's outbox, and closes that of the session that ended.
+/// Takes no memory.
+pub fn put_all(outboxes: &mut Outboxes, told: Told, ended: Option<Sid>)
+    requires { HasRooms (told_list told) outboxes.old }
+    ensures { (s : ℕ) → untaken_by outboxes.new s ≡ untaken_by outboxes.old s ++ for_session s (told_list told) }
+{
+    match told {
+        Told::Nothing => {}
+        Told::One(answer) => outboxes.put(answer.0, answer.1),
+        Told::Two(caller, other) => {
+            outboxes.put(caller.0, caller.1);
+            outboxes.put(other.0, other.1);
+        }
+    }
+    if let Some(sid) = ended {
+        outboxes.close(sid);
     }
 }

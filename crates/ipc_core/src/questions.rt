@@ -1,20 +1,19 @@
 //! What answers ask of a lookup.
 
-ghost use Rattle.std.specs.Prelude.{◌≡◌, length, option_and_then, IsTrue, IfOk};
+ghost use Rattle.std.specs.Prelude.{◌≡◌, length, option_and_then, IfOk};
 ghost use Rattle.std.specs.Option.{option_map};
 ghost use Rattle.ipc_terms.specs.Lists.{first};
-ghost use Rattle.ipc_terms.specs.Events.{caller};
 ghost use Rattle.ipc_terms.specs.Pages.{page};
-ghost use Rattle.ipc_policy.specs.Sessions.{hellos, live, mask};
+ghost use Rattle.ipc_policy.specs.Sessions.{hellos};
 ghost use Rattle.ipc_policy.specs.Descriptions.{opens};
 ghost use Rattle.ipc_policy.specs.Life.{names};
 ghost use Rattle.ipc_policy.specs.Queues.{next};
-ghost use Rattle.ipc_state.specs.Past.{brought, queue_by, semaphore_by, value_by};
+ghost use Rattle.ipc_state.specs.StateView.{brought, queue_by, semaphore_by, value_by};
 ghost use Rattle.ipc_state.specs.Meetings.{by_description};
 
 use crate::message::Message;
 use ipc_state::Lookup;
-use ipc_terms::{Family, Mode, Names, NoMemory, Sid};
+use ipc_terms::{Family, Names, NoMemory, Sid};
 use std::alloc::Global;
 
 /// How many sessions were started: the number of the next one.
@@ -22,17 +21,6 @@ pub fn session_count(lookup: &Lookup<'_>) -> u64
     ensures { result ≡ hellos lookup.now.history }
 {
     lookup.tables().session_count() as u64
-}
-
-/// The mask of a session that is live.
-pub fn mask(lookup: &Lookup<'_>) -> Mode
-    requires { IsTrue (live lookup.now.history (caller lookup.now.event).0) }
-    ensures { result ≡ record { 0 = mask lookup.now.history (caller lookup.now.event).0 } }
-{
-    let Some(session) = lookup.tables().session(lookup.event().caller()) else {
-        unreachable!();
-    };
-    session.mask
 }
 
 /// A page of the names that are bound, in the order in which they were created: from the position

@@ -20,7 +20,7 @@ use Rattle.ipc_state.specs.declared.limits.Field.TheVariants.{MsgMax, MsgsizeMax
 use Rattle.ipc_state.specs.Ranges.{first_bad}
 use Rattle.ipc_core.specs.Boxes.{box_at}
 use Rattle.ipc_core.specs.Outboxes.{session_at, after_step, after_steps, BoxesAgree}
-use Rattle.ipc_core.specs.State.{State}
+use Rattle.ipc_core.specs.CoreView.{CoreView}
 use Rattle.ipc_fields.specs.Field.{◌⊕◌}
 use Rattle.ipc_wire.specs.declared.request.Request.{Request}
 use Rattle.ipc_wire.specs.declared.request.Request.TheVariants as request
@@ -33,7 +33,7 @@ use Rattle.ipc_hub.specs.Sessions.{IsSessionOf, EachHasItsOwn}
 use Rattle.ipc_terms.specs.Sizes.{IsSmall}
 use Rattle.ipc_hub.specs.Hub.{Feeds, HangsUp, Takes, core_after_take}
 use Rattle.ipc_hub.proofs.SessionLemmas.{calls_no_hello, ChangesSessions, IsOpen, none_kept, hangs_up, fed_changes, changed_all, opened_all}
-use Rattle.ipc_policy.proofs.AnswerSizes.{outbox_small}
+use Rattle.ipc_policy.proofs.Outcomes.AnswerSizes.{outbox_small}
 use Rattle.ipc_policy.specs.declared.config.TheConstants.{HARD_MSGSIZE_MAX}
 use Rattle.ipc_wire.proofs.SmallAnswers.{small_spelled}
 
@@ -44,18 +44,18 @@ none_is None k = refl
 none_is (Some rule) k = absurd cc
 
 -- an accepted hello is answered to the session that it starts
-hello_starts : (a : State) (found : Option Uid) → is_some (verdict a.config a.history (Hello found)) ≡ false → session_at 0 (answers a.config a.history (Hello found)) ≡ Some (record { 0 = hellos a.history })
+hello_starts : (a : CoreView) (found : Option Uid) → is_some (verdict a.config a.history (Hello found)) ≡ false → session_at 0 (answers a.config a.history (Hello found)) ≡ Some (record { 0 = hellos a.history })
 unfolding answers
 hello_starts a found accepted = ap (λ r. session_at 0 (answers_at r a.config a.history (Hello found))) (none_is _ accepted)
 
-pub hello_stepped : (a : State) (found known : Option Uid) (v : Option Rule) (w : Option Sid) → found ≡ known → v ≡ verdict a.config a.history (Hello found) → is_some v ≡ false → w ≡ session_at 0 (answers a.config a.history (Hello found)) → w ≡ cond (is_some (verdict a.config a.history (Hello known))) None (Some (record { 0 = hellos a.history }))
+pub hello_stepped : (a : CoreView) (found known : Option Uid) (v : Option Rule) (w : Option Sid) → found ≡ known → v ≡ verdict a.config a.history (Hello found) → is_some v ≡ false → w ≡ session_at 0 (answers a.config a.history (Hello found)) → w ≡ cond (is_some (verdict a.config a.history (Hello known))) None (Some (record { 0 = hellos a.history }))
 hello_stepped a found known v w same' is off e =
     let sid : Sid = record { 0 = hellos a.history } in
     let accepted : is_some (verdict a.config a.history (Hello found)) ≡ false = ap is_some (sym is) ∙ off in
     let then : is_some (verdict a.config a.history (Hello known)) ≡ false = ap (λ u. is_some (verdict a.config a.history (Hello u))) (sym same') ∙ accepted in
     e ∙ hello_starts a found accepted ∙ sym (ap (λ b. cond b None (Some sid)) then)
 
-pub hello_ends : (a : State) (s w : Option Sid) (q : Request) (key : List ℕ) → q ≡ request.Hello key → same (is_hello_request q) (is_none s) ≡ true → w ≡ cond (is_some (verdict a.config a.history (Hello (user_of_key a.config.users key)))) None (Some (record { 0 = hellos a.history })) → w ≡ cond (is_hello_refused a s (q ∷ [])) None (Some (session_or_next a s))
+pub hello_ends : (a : CoreView) (s w : Option Sid) (q : Request) (key : List ℕ) → q ≡ request.Hello key → same (is_hello_request q) (is_none s) ≡ true → w ≡ cond (is_some (verdict a.config a.history (Hello (user_of_key a.config.users key)))) None (Some (record { 0 = hellos a.history })) → w ≡ cond (is_hello_refused a s (q ∷ [])) None (Some (session_or_next a s))
 unfolding request_with
 hello_ends a None w q key is may e = e ∙ ap (λ p. cond (is_hello_refused a None (p ∷ [])) None (Some (session_or_next a None))) (sym is)
 hello_ends a (Some sid) w q key is may e = absurd (let k : false ≡ true = ap (λ p. same (is_hello_request p) false) (sym is) ∙ may in cc)
@@ -65,36 +65,36 @@ has_session : (q : Request) (c : Call) (s : Option Sid) → q ≡ request.Do c �
 has_session q c (Some sid) is may = (sid, refl)
 has_session q c None is may = absurd (let k : false ≡ true = ap (λ b. same b true) (sym (ap is_hello_request is ∙ calls_no_hello c)) ∙ may in cc)
 
-pub call_ends : (a : State) (s : Option Sid) (q : Request) (c : Call) (sid none : Sid) → q ≡ request.Do c → same (is_hello_request q) (is_none s) ≡ true → sid ≡ unwrap_or s none → ◌≡◌ {A = Option Sid} (Some sid) (cond (is_hello_refused a s (q ∷ [])) None (Some (session_or_next a s)))
+pub call_ends : (a : CoreView) (s : Option Sid) (q : Request) (c : Call) (sid none : Sid) → q ≡ request.Do c → same (is_hello_request q) (is_none s) ≡ true → sid ≡ unwrap_or s none → ◌≡◌ {A = Option Sid} (Some sid) (cond (is_hello_refused a s (q ∷ [])) None (Some (session_or_next a s)))
 call_ends a s q c sid none is may e =
     let own = has_session q c s is may in
     ap (λ (x : Sid). Some x) (e ∙ ap (λ w. unwrap_or w none) own.1) ∙ sym (ap (λ w. cond (is_hello_refused a w (q ∷ [])) None (Some (session_or_next a w))) own.1)
 
-pub call_is : (a b : State) (s : Option Sid) (q : Request) (c : Call) (sid none : Sid) → q ≡ request.Do c → same (is_hello_request q) (is_none s) ≡ true → sid ≡ unwrap_or s none → b ≡ after_step (Do sid c) a → b ≡ after_step (event_of a.config (session_or_next a s) q) a
+pub call_is : (a b : CoreView) (s : Option Sid) (q : Request) (c : Call) (sid none : Sid) → q ≡ request.Do c → same (is_hello_request q) (is_none s) ≡ true → sid ≡ unwrap_or s none → b ≡ after_step (Do sid c) a → b ≡ after_step (event_of a.config (session_or_next a s) q) a
 call_is a b s q c sid none is may e now =
     let own = has_session q c s is may in
     now ∙ ap (λ (x : Sid). after_step (Do x c) a) (e ∙ ap (λ w. unwrap_or w none) own.1 ∙ sym (ap (session_or_next a) own.1)) ∙ ap (λ p. after_step (event_of a.config (session_or_next a s) p) a) (sym is)
 
 -- ---- what holds of every hub
 
-pub open_at : (a : State) (xs : List Connection) (i : ℕ) (x : Connection) → EachHasItsOwn a xs → slice_get xs i ≡ Some x → x.is_over ≡ false → IsOpen a x
+pub open_at : (a : CoreView) (xs : List Connection) (i : ℕ) (x : Connection) → EachHasItsOwn a xs → slice_get xs i ≡ Some x → x.is_over ≡ false → IsOpen a x
 open_at a xs i x all there open' = record { own = λ sid e. all.own i x sid there e; refused = λ e. all.refused i x there e; is = open' }
 
-pub opened_sessions : (a : State) (xs ys : List Connection) (x : Connection) → EachHasItsOwn a xs → x ≡ new_connection → ys ≡ xs ++ x ∷ [] → EachHasItsOwn a ys
+pub opened_sessions : (a : CoreView) (xs ys : List Connection) (x : Connection) → EachHasItsOwn a xs → x ≡ new_connection → ys ≡ xs ++ x ∷ [] → EachHasItsOwn a ys
 opened_sessions a xs ys x s new all = subst (λ (zs : List Connection). EachHasItsOwn a zs) (sym (all ∙ ap (λ (z : Connection). xs ++ z ∷ []) new)) (opened_all a xs s)
 
-pub hung_up_sessions : (a b : State) (xs : List Connection) (i : ℕ) (x y : Connection) → EachHasItsOwn a xs → slice_get xs i ≡ Some x → x.is_over ≡ false → b ≡ after_steps (hang_up_of x.session) a → y ≡ record x { kept = []; is_over = true } → EachHasItsOwn b (set xs i y)
+pub hung_up_sessions : (a b : CoreView) (xs : List Connection) (i : ℕ) (x y : Connection) → EachHasItsOwn a xs → slice_get xs i ≡ Some x → x.is_over ≡ false → b ≡ after_steps (hang_up_of x.session) a → y ≡ record x { kept = []; is_over = true } → EachHasItsOwn b (set xs i y)
 hung_up_sessions a b xs i x y s there open' now is = changed_all a b xs i x y s there (subst (λ (z : Connection). ChangesSessions a x b z) (sym is) (hangs_up a a b x x.session [] (open_at a xs i x s there open') (none_kept a x.session) now))
 
-pub fed_sessions : (fed : Fed) (a b : State) (xs : List Connection) (i : ℕ) (x y : Connection) (w : List ℕ) → EachHasItsOwn a xs → slice_get xs i ≡ Some x → x.is_over ≡ false → IsOutcome fed a x (cut (is_none x.session) w) b y → EachHasItsOwn b (set xs i y)
+pub fed_sessions : (fed : Fed) (a b : CoreView) (xs : List Connection) (i : ℕ) (x y : Connection) (w : List ℕ) → EachHasItsOwn a xs → slice_get xs i ≡ Some x → x.is_over ≡ false → IsOutcome fed a x (cut (is_none x.session) w) b y → EachHasItsOwn b (set xs i y)
 fed_sessions fed a b xs i x y w s there open' h = changed_all a b xs i x y s there (fed_changes fed a b x y w (open_at a xs i x s there open') h)
 
 -- a take changes no history
-pub same_history : (a : State) (s : Option Sid) → (core_after_take a s).history ≡ a.history
+pub same_history : (a : CoreView) (s : Option Sid) → (core_after_take a s).history ≡ a.history
 same_history a None = refl
 same_history a (Some sid) = refl
 
-pub takes_changes : (a b : State) (x : Connection) → ((sid : Sid) → x.session ≡ Some sid → IsSessionOf a x sid) → b.history ≡ a.history → ChangesSessions a x b (record x { has_refusal = false })
+pub takes_changes : (a b : CoreView) (x : Connection) → ((sid : Sid) → x.session ≡ Some sid → IsSessionOf a x sid) → b.history ≡ a.history → ChangesSessions a x b (record x { has_refusal = false })
 takes_changes a b x own same' = record {
   later = let k : hellos b.history ≡ hellos a.history = ap hellos same' in omega arith;
   others = λ n lt ne. ap (λ h. live h n) same';
@@ -104,8 +104,8 @@ takes_changes a b x own same' = record {
   refused = λ e. absurd cc;
 }
 
-pub taken_sessions : (a b : State) (xs : List Connection) (i : ℕ) (x y : Connection) → EachHasItsOwn a xs → slice_get xs i ≡ Some x → b ≡ core_after_take a x.session → y ≡ record x { has_refusal = false } → EachHasItsOwn b (set xs i y)
-taken_sessions a b xs i x y s there now is = changed_all a b xs i x y s there (subst (λ (z : Connection). ChangesSessions a x b z) (sym is) (takes_changes a b x (λ sid e. s.own i x sid there e) (ap (λ (z : State). z.history) now ∙ same_history a x.session)))
+pub taken_sessions : (a b : CoreView) (xs : List Connection) (i : ℕ) (x y : Connection) → EachHasItsOwn a xs → slice_get xs i ≡ Some x → b ≡ core_after_take a x.session → y ≡ record x { has_refusal = false } → EachHasItsOwn b (set xs i y)
+taken_sessions a b xs i x y s there now is = changed_all a b xs i x y s there (subst (λ (z : Connection). ChangesSessions a x b z) (sym is) (takes_changes a b x (λ sid e. s.own i x sid there e) (ap (λ (z : CoreView). z.history) now ∙ same_history a x.session)))
 
 -- ---- what is untaken has spellings
 
@@ -132,7 +132,7 @@ each_end : {A : Type 0} (P : A → Type 0) (xs ys : List A) → Each P (xs ++ ys
 each_end P [] ys h = h
 each_end P (x ∷ xs) ys h = each_end P xs ys h.1
 
-pub untaken_spelled : (a : State) (x : Connection) → first_bad a.config.limits ≡ None → Legal a.config a.history → BoxesAgree a.config a.history a.untaken → IsSome (spell_answers (untaken a x))
+pub untaken_spelled : (a : CoreView) (x : Connection) → first_bad a.config.limits ≡ None → Legal a.config a.history → BoxesAgree a.config a.history a.untaken → IsSome (spell_answers (untaken a x))
 untaken_spelled a x range legal last = all_spelled (untaken a x) (at x.has_refusal) where
   left : (w : Option Sid) → Each (IsSmall HARD_MSGSIZE_MAX) (untaken_of a w)
   left None = tt
@@ -144,11 +144,11 @@ untaken_spelled a x range legal last = all_spelled (untaken a x) (at x.has_refus
 
 -- ---- the calls, where the hub is seen as its parts
 
-pub fed_is : (old : Hub) (a b : State) (xs : List Connection) (i : ℕ) (x y : Connection) (piece : List ℕ) (fed : Fed) → record { core = a; connections = xs } ≡ old → slice_get xs i ≡ Some x → x.is_over ≡ false → IsOutcome fed a x (cut (is_none x.session) (x.kept ++ piece)) b y → Feeds old i piece fed (record { core = b; connections = set xs i y })
+pub fed_is : (old : Hub) (a b : CoreView) (xs : List Connection) (i : ℕ) (x y : Connection) (piece : List ℕ) (fed : Fed) → record { core = a; connections = xs } ≡ old → slice_get xs i ≡ Some x → x.is_over ≡ false → IsOutcome fed a x (cut (is_none x.session) (x.kept ++ piece)) b y → Feeds old i piece fed (record { core = b; connections = set xs i y })
 fed_is old a b xs i x y piece fed is there open' h = subst (λ (o : Hub). Feeds o i piece fed (record { core = b; connections = set xs i y })) is (record { before = x; later = y; changes = record { was = there; others = refl }; open_before = open'; outcome = h })
 
-pub hung_up_is : (old : Hub) (a b : State) (xs : List Connection) (i : ℕ) (x y : Connection) → record { core = a; connections = xs } ≡ old → slice_get xs i ≡ Some x → x.is_over ≡ false → b ≡ after_steps (hang_up_of x.session) a → y ≡ record x { kept = []; is_over = true } → HangsUp old i (record { core = b; connections = set xs i y })
+pub hung_up_is : (old : Hub) (a b : CoreView) (xs : List Connection) (i : ℕ) (x y : Connection) → record { core = a; connections = xs } ≡ old → slice_get xs i ≡ Some x → x.is_over ≡ false → b ≡ after_steps (hang_up_of x.session) a → y ≡ record x { kept = []; is_over = true } → HangsUp old i (record { core = b; connections = set xs i y })
 hung_up_is old a b xs i x y is there open' now e = subst (λ (o : Hub). HangsUp o i (record { core = b; connections = set xs i y })) is (record { before = x; changes = record { was = there; others = ap (set xs i) e }; open_before = open'; core = now })
 
-pub taken_is : (old : Hub) (a b : State) (xs : List Connection) (i : ℕ) (x y : Connection) (bytes : List ℕ) → record { core = a; connections = xs } ≡ old → slice_get xs i ≡ Some x → b ≡ core_after_take a x.session → y ≡ record x { has_refusal = false } → spell_answers (untaken a x) ≡ Some bytes → Takes old i bytes (record { core = b; connections = set xs i y })
+pub taken_is : (old : Hub) (a b : CoreView) (xs : List Connection) (i : ℕ) (x y : Connection) (bytes : List ℕ) → record { core = a; connections = xs } ≡ old → slice_get xs i ≡ Some x → b ≡ core_after_take a x.session → y ≡ record x { has_refusal = false } → spell_answers (untaken a x) ≡ Some bytes → Takes old i bytes (record { core = b; connections = set xs i y })
 taken_is old a b xs i x y bytes is there now e given = subst (λ (o : Hub). Takes o i bytes (record { core = b; connections = set xs i y })) is (record { before = x; changes = record { was = there; others = ap (set xs i) e }; given = given; core = now })

@@ -11,11 +11,11 @@ use Rattle.ipc_terms.proofs.Lists.{slice_get_push, slice_past}
 use Rattle.ipc_policy.specs.declared.config.Config.{Config}
 use Rattle.ipc_policy.specs.Sessions.{hellos}
 use Rattle.ipc_policy.specs.Verdict.{Legal, outbox}
-use Rattle.ipc_policy.proofs.Outboxes.{outbox_unbegun}
+use Rattle.ipc_policy.proofs.Outcomes.Outboxes.{outbox_unbegun}
 use Rattle.ipc_state.specs.Ranges.{first_bad}
 use Rattle.ipc_core.specs.Boxes.{box_at}
 use Rattle.ipc_core.specs.Outboxes.{after_step, after_steps, BoxesAgree}
-use Rattle.ipc_core.specs.State.{State}
+use Rattle.ipc_core.specs.CoreView.{CoreView}
 use Rattle.ipc_core.proofs.BoxSteps.{boxes_after, boxes_new, boxes_taken, taken_here, taken_elsewhere}
 use Rattle.ipc_core.proofs.BoxTables.{box_past}
 use Rattle.ipc_fields.specs.Field.{◌⊕◌}
@@ -35,7 +35,7 @@ use Rattle.ipc_hub.proofs.HubLemmas.{open_at, takes_changes, same_history, untak
 -- ---- the answers that a session took
 
 -- the last of its outbox is untaken, and the spellings of what stands in front were given
-record HasGiven (a : State) (sid : Sid) (given : List ℕ) : Type 0 where
+record HasGiven (a : CoreView) (sid : Sid) (given : List ℕ) : Type 0 where
   front : List Answer
   whole : outbox a.config a.history sid.0 ≡ front ++ box_at a.untaken sid.0
   spelled : spell_answers front ≡ Some given
@@ -51,14 +51,14 @@ spelled_both : (xs ys : List Answer) (s t : List ℕ) → spell_answers xs ≡ S
 spelled_both xs ys s t e k = spell_both xs ys ∙ ap (λ (w : Option (List ℕ)). w ⊕ spell_answers ys) e ∙ ap (λ (w : Option (List ℕ)). Some s ⊕ w) k
 
 -- events that are stepped
-given_stepped : (es : List Event) (a b : State) (sid : Sid) (given : List ℕ) → BoxesAgree a.config a.history a.untaken → b ≡ after_steps es a → HasGiven a sid given → HasGiven b sid given
-given_stepped es a b sid given agree now h = subst (λ (z : State). HasGiven z sid given) (sym now) (record {
+given_stepped : (es : List Event) (a b : CoreView) (sid : Sid) (given : List ℕ) → BoxesAgree a.config a.history a.untaken → b ≡ after_steps es a → HasGiven a sid given → HasGiven b sid given
+given_stepped es a b sid given agree now h = subst (λ (z : CoreView). HasGiven z sid given) (sym now) (record {
   front = h.front;
   whole = (let k = all_is_kept es a sid.0 agree in k.outbox_is ∙ ap (λ (xs : List Answer). xs ++ k.more) h.whole ∙ append_assoc h.front (box_at a.untaken sid.0) k.more ∙ ap (λ (xs : List Answer). h.front ++ xs) (sym k.untaken_is));
   spelled = h.spelled;
 })
 
-given_started : (es : List Event) (a b : State) (sid : Sid) → BoxesAgree a.config a.history a.untaken → b ≡ after_steps es a → sid.0 ≡ hellos a.history → HasGiven b sid []
+given_started : (es : List Event) (a b : CoreView) (sid : Sid) → BoxesAgree a.config a.history a.untaken → b ≡ after_steps es a → sid.0 ≡ hellos a.history → HasGiven b sid []
 given_started es a b sid agree now new = given_stepped es a b sid [] agree now (record {
   front = [];
   whole = outbox_unbegun a.config a.history sid.0 (let k = new in omega arith) ∙ sym (box_past a.untaken sid.0 (let k = new in let n = agree.count in omega arith));
@@ -66,14 +66,14 @@ given_started es a b sid agree now new = given_stepped es a b sid [] agree now (
 })
 
 -- answers that are taken
-given_own : (a : State) (sid : Sid) (given bytes : List ℕ) → spell_answers (box_at a.untaken sid.0) ≡ Some bytes → HasGiven a sid given → HasGiven (core_after_take a (Some sid)) sid (given ++ bytes)
+given_own : (a : CoreView) (sid : Sid) (given bytes : List ℕ) → spell_answers (box_at a.untaken sid.0) ≡ Some bytes → HasGiven a sid given → HasGiven (core_after_take a (Some sid)) sid (given ++ bytes)
 given_own a sid given bytes e h = record {
   front = h.front ++ box_at a.untaken sid.0;
   whole = h.whole ∙ sym (ap (λ (xs : List Answer). (h.front ++ box_at a.untaken sid.0) ++ xs) (taken_here a.untaken sid.0) ∙ append-nil (h.front ++ box_at a.untaken sid.0));
   spelled = spelled_both h.front (box_at a.untaken sid.0) given bytes h.spelled e;
 }
 
-given_other : (a : State) (s : Option Sid) (sid : Sid) (given : List ℕ) → ((own : Sid) → s ≡ Some own → own.0 ≡ sid.0 → ⊥) → HasGiven a sid given → HasGiven (core_after_take a s) sid given
+given_other : (a : CoreView) (s : Option Sid) (sid : Sid) (given : List ℕ) → ((own : Sid) → s ≡ Some own → own.0 ≡ sid.0 → ⊥) → HasGiven a sid given → HasGiven (core_after_take a s) sid given
 given_other a None sid given ne h = h
 given_other a (Some own) sid given ne h = record {
   front = h.front;
@@ -83,7 +83,7 @@ given_other a (Some own) sid given ne h = record {
 
 -- ---- what a call at a connection does to what was given
 
-record ChangesOutput (a : State) (x : Connection) (b : State) (y : Connection) (out : List ℕ) : Type 0 where
+record ChangesOutput (a : CoreView) (x : Connection) (b : CoreView) (y : Connection) (out : List ℕ) : Type 0 where
   others : (sid : Sid) (given : List ℕ) → ((own : Sid) → x.session ≡ Some own → own.0 ≡ sid.0 → ⊥) → HasGiven a sid given → HasGiven b sid given
   silent : y.session ≡ None → y.is_over ≡ false → (x.session ≡ None) × (x.is_over ≡ false) × (out ≡ [])
   same : (sid : Sid) (given : List ℕ) → x.session ≡ Some sid → HasGiven a sid given → HasGiven b sid (given ++ out)
@@ -93,7 +93,7 @@ no_session : (s t : Option Sid) → ((sid : Sid) → s ≡ Some sid → t ≡ So
 no_session None t stays none = refl
 no_session (Some sid) t stays none = absurd (let wrong : ◌≡◌ {A = Option Sid} None (Some sid) = sym none ∙ stays sid refl in cc)
 
-stepped_output : (es : List Event) (a b : State) (x y : Connection) → BoxesAgree a.config a.history a.untaken → x.is_over ≡ false → b ≡ after_steps es a → ChangesSessions a x b y → ChangesOutput a x b y []
+stepped_output : (es : List Event) (a b : CoreView) (x y : Connection) → BoxesAgree a.config a.history a.untaken → x.is_over ≡ false → b ≡ after_steps es a → ChangesSessions a x b y → ChangesOutput a x b y []
 stepped_output es a b x y agree on now m = record {
   others = λ sid given ne h. given_stepped es a b sid given agree now h;
   silent = λ none still. (no_session x.session y.session m.stays none, on, refl);
@@ -101,9 +101,9 @@ stepped_output es a b x y agree on now m = record {
   starts = λ sid none is. (on, refl, given_started es a b sid agree now (m.starts none sid is));
 }
 
-taken_output : (a b : State) (x y : Connection) (bytes : List ℕ) → (x.has_refusal ≡ true → (x.session ≡ None) × (x.is_over ≡ true)) → b ≡ core_after_take a x.session → y ≡ record x { has_refusal = false } → spell_answers (untaken a x) ≡ Some bytes → ChangesOutput a x b y bytes
+taken_output : (a b : CoreView) (x y : Connection) (bytes : List ℕ) → (x.has_refusal ≡ true → (x.session ≡ None) × (x.is_over ≡ true)) → b ≡ core_after_take a x.session → y ≡ record x { has_refusal = false } → spell_answers (untaken a x) ≡ Some bytes → ChangesOutput a x b y bytes
 taken_output a b x y bytes refused now is spelled = record {
-  others = λ sid given ne h. subst (λ (z : State). HasGiven z sid given) (sym now) (given_other a x.session sid given ne h);
+  others = λ sid given ne h. subst (λ (z : CoreView). HasGiven z sid given) (sym now) (given_other a x.session sid given ne h);
   silent = λ none on. at_silent (sym session ∙ none) (sym over ∙ on) x.has_refusal refl;
   same = λ sid given own h. at_same sid given own h x.has_refusal refl;
   starts = λ sid none own. absurd (let wrong : ◌≡◌ {A = Option Sid} None (Some sid) = sym none ∙ sym session ∙ own in cc);
@@ -129,7 +129,7 @@ taken_output a b x y bytes refused now is spelled = record {
   at_same sid given own h true e = absurd (let wrong : ◌≡◌ {A = Option Sid} None (Some sid) = sym (refused e).0 ∙ own in cc)
   at_same sid given own h false e =
       let box : spell_answers (box_at a.untaken sid.0) ≡ Some bytes = sym (ap spell_answers (untaken_is false e refl ∙ ap (untaken_of a) own)) ∙ spelled in
-      subst (λ (z : State). HasGiven z sid (given ++ bytes)) (sym (now ∙ ap (core_after_take a) own)) (given_own a sid given bytes box h)
+      subst (λ (z : CoreView). HasGiven z sid (given ++ bytes)) (sym (now ∙ ap (core_after_take a) own)) (given_own a sid given bytes box h)
 
 -- ---- hubs along their calls
 
@@ -144,28 +144,28 @@ record IsAccounted (hub : Hub) (i : ℕ) (given : List ℕ) : Type 0 where
   silent : (x : Connection) → slice_get hub.connections i ≡ Some x → x.session ≡ None → x.is_over ≡ false → given ≡ []
   spoken : (x : Connection) (sid : Sid) → slice_get hub.connections i ≡ Some x → x.session ≡ Some sid → HasGiven hub.core sid given
 
-agree_stepped : (es : List Event) (a : State) → BoxesAgree a.config a.history a.untaken → BoxesAgree (after_steps es a).config (after_steps es a).history (after_steps es a).untaken
+agree_stepped : (es : List Event) (a : CoreView) → BoxesAgree a.config a.history a.untaken → BoxesAgree (after_steps es a).config (after_steps es a).history (after_steps es a).untaken
 agree_stepped [] a agree = agree
 agree_stepped (e ∷ es) a agree = agree_stepped es (after_step e a) (boxes_after a.config a.history e a.untaken agree)
 
-legal_stepped : (es : List Event) (a : State) → Legal a.config a.history → Legal (after_steps es a).config (after_steps es a).history
+legal_stepped : (es : List Event) (a : CoreView) → Legal a.config a.history → Legal (after_steps es a).config (after_steps es a).history
 legal_stepped [] a legal = legal
 legal_stepped (e ∷ es) a legal = legal_stepped es (after_step e a) (refl, legal)
 
 stepped_well : (old new : Hub) (i : ℕ) (x y : Connection) (es : List Event) → IsWell old → ChangesOnly old new i x y → new.core ≡ after_steps es old.core → ChangesSessions old.core x new.core y → IsWell new
 stepped_well old new i x y es w only now m = record {
-  legal = subst (λ (z : State). Legal z.config z.history) (sym now) (legal_stepped es old.core w.legal);
-  agree = subst (λ (z : State). BoxesAgree z.config z.history z.untaken) (sym now) (agree_stepped es old.core w.agree);
+  legal = subst (λ (z : CoreView). Legal z.config z.history) (sym now) (legal_stepped es old.core w.legal);
+  agree = subst (λ (z : CoreView). BoxesAgree z.config z.history z.untaken) (sym now) (agree_stepped es old.core w.agree);
   sessions = subst (λ (zs : List Connection). EachHasItsOwn new.core zs) (sym only.others) (changed_all old.core new.core old.connections i x y w.sessions only.was m);
-  in_range = ap (λ (c : Config). first_bad c.limits) (ap (λ (z : State). z.config) now ∙ config_kept es old.core) ∙ w.in_range;
+  in_range = ap (λ (c : Config). first_bad c.limits) (ap (λ (z : CoreView). z.config) now ∙ config_kept es old.core) ∙ w.in_range;
 }
 
 taken_well : (old new : Hub) (i : ℕ) (x y : Connection) → IsWell old → ChangesOnly old new i x y → (s : Option Sid) → new.core ≡ core_after_take old.core s → ChangesSessions old.core x new.core y → IsWell new
 taken_well old new i x y w only s now m = record {
-  legal = subst (λ (z : State). Legal z.config z.history) (sym now) (legal_at s);
-  agree = subst (λ (z : State). BoxesAgree z.config z.history z.untaken) (sym now) (agree_at s);
+  legal = subst (λ (z : CoreView). Legal z.config z.history) (sym now) (legal_at s);
+  agree = subst (λ (z : CoreView). BoxesAgree z.config z.history z.untaken) (sym now) (agree_at s);
   sessions = subst (λ (zs : List Connection). EachHasItsOwn new.core zs) (sym only.others) (changed_all old.core new.core old.connections i x y w.sessions only.was m);
-  in_range = subst (λ (z : State). first_bad z.config.limits ≡ None) (sym now) (range_at s);
+  in_range = subst (λ (z : CoreView). first_bad z.config.limits ≡ None) (sym now) (range_at s);
 } where
   legal_at : (s : Option Sid) → Legal (core_after_take old.core s).config (core_after_take old.core s).history
   legal_at None = w.legal
@@ -265,12 +265,12 @@ opened_well old new is w = subst IsWell (sym is) (record { legal = w.legal; agre
 
 -- ---- each call
 
-pub steps_append : (es ds : List Event) (a : State) → after_steps (es ++ ds) a ≡ after_steps ds (after_steps es a)
+pub steps_append : (es ds : List Event) (a : CoreView) → after_steps (es ++ ds) a ≡ after_steps ds (after_steps es a)
 steps_append [] ds a = refl
 steps_append (e ∷ es) ds a = steps_append es ds (after_step e a)
 
 -- what a feed does to the core are events
-outcome_events : (fed : Fed) (a b : State) (x y : Connection) (c : Cut) → IsOutcome fed a x c b y → (es : List Event) × (b ≡ after_steps es a)
+outcome_events : (fed : Fed) (a b : CoreView) (x y : Connection) (c : Cut) → IsOutcome fed a x c b y → (es : List Event) × (b ≡ after_steps es a)
 outcome_events Done a b x y c h = (events_of a x.session c.requests, h.steps.core)
 outcome_events Short a b x y c h = (events_of a x.session h.done, h.steps.core)
 outcome_events (Over (Wire fault)) a b x y c h = (events_of a x.session c.requests ++ hang_up_of y.session, h.hung_up ∙ ap (after_steps (hang_up_of y.session)) h.steps.core ∙ sym (steps_append (events_of a x.session c.requests) (hang_up_of y.session) a))
@@ -297,7 +297,7 @@ pub hung_up_change : (old new : Hub) (j : ℕ) → IsWell old → (f : HangsUp o
 hung_up_change old new j w f = hangs_up old.core old.core new.core f.before f.before.session [] (open_at old.core old.connections j f.before w.sessions f.changes.was f.open_before) (none_kept old.core f.before.session) f.core
 
 pub taken_change : (old new : Hub) (j : ℕ) (bytes : List ℕ) → IsWell old → (f : Takes old j bytes new) → ChangesSessions old.core f.before new.core (record f.before { has_refusal = false })
-taken_change old new j bytes w f = takes_changes old.core new.core f.before (λ sid e. w.sessions.own j f.before sid f.changes.was e) (ap (λ (z : State). z.history) f.core ∙ same_history old.core f.before.session)
+taken_change old new j bytes w f = takes_changes old.core new.core f.before (λ sid e. w.sessions.own j f.before sid f.changes.was e) (ap (λ (z : CoreView). z.history) f.core ∙ same_history old.core f.before.session)
 
 pub fed_well : (old new : Hub) (j : ℕ) (piece : List ℕ) (fed : Fed) → IsWell old → Feeds old j piece fed new → IsWell new
 fed_well old new j piece fed w f =

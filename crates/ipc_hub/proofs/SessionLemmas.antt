@@ -13,7 +13,7 @@ use Rattle.ipc_terms.proofs.Lists.{slice_get_push, eqb_suc}
 use Rattle.ipc_policy.specs.Sessions.{hellos, live}
 use Rattle.ipc_policy.specs.Verdict.{verdict}
 use Rattle.ipc_core.specs.Outboxes.{after_step, after_steps}
-use Rattle.ipc_core.specs.State.{State}
+use Rattle.ipc_core.specs.CoreView.{CoreView}
 use Rattle.ipc_wire.specs.declared.request.Request.{Request}
 use Rattle.ipc_wire.specs.declared.request.Request.TheVariants as request
 use Rattle.ipc_wire.specs.Requests.{is_hello_request, same, request_with}
@@ -30,7 +30,7 @@ use Rattle.ipc_hub.proofs.SessionSteps.{hellos_later, live_later, events_hang_no
 -- ---- requests that are stepped
 
 -- no session but the one that starts is touched
-pub record KeepsSessions (a : State) (s : Option Sid) (b : State) (t : Option Sid) : Type 0 where
+pub record KeepsSessions (a : CoreView) (s : Option Sid) (b : CoreView) (t : Option Sid) : Type 0 where
   pub later : hellos a.history ≤ hellos b.history
   pub others : (n : ℕ) → n < hellos a.history → live b.history n ≡ live a.history n
   pub stays : (sid : Sid) → s ≡ Some sid → t ≡ Some sid
@@ -64,7 +64,7 @@ calls_no_hello call.Interrupt = refl
 calls_no_hello (call.Audit start count) = refl
 
 -- the first request is a hello, and it was accepted
-hello_first : (a b : State) (q : Request) (qs : List Request) → same (is_hello_request q) true ≡ true → is_hello_refused a None (q ∷ qs) ≡ false → b ≡ after_steps (events_of a None (q ∷ qs)) a → (hellos a.history < hellos b.history) × (live b.history (hellos a.history) ≡ true)
+hello_first : (a b : CoreView) (q : Request) (qs : List Request) → same (is_hello_request q) true ≡ true → is_hello_refused a None (q ∷ qs) ≡ false → b ≡ after_steps (events_of a None (q ∷ qs)) a → (hellos a.history < hellos b.history) × (live b.history (hellos a.history) ≡ true)
 unfolding request_with
 hello_first a b (request.Hello key) qs is accepted now =
     let sid : Sid = record { 0 = hellos a.history } in
@@ -75,7 +75,7 @@ hello_first a b (request.Hello key) qs is accepted now =
     let le : hellos (after_step e a).history ≤ hellos (after_steps rest (after_step e a)).history = hellos_later rest (after_step e a) in
     let on : live (after_steps rest (after_step e a)).history (hellos a.history) ≡ true = live_later rest (after_step e a) (hellos a.history) (omega arith) (events_hang_no_up a None qs (hellos a.history)) ∙ hello_lives a key sid fine in
     let same' : b ≡ after_steps rest (after_step e a) = now in
-    (subst (λ (z : State). hellos a.history < hellos z.history) (sym same') (omega arith), ap (λ (z : State). live z.history (hellos a.history)) same' ∙ on) where
+    (subst (λ (z : CoreView). hellos a.history < hellos z.history) (sym same') (omega arith), ap (λ (z : CoreView). live z.history (hellos a.history)) same' ∙ on) where
       none_is : (w : Option Rule) → is_some w ≡ false → w ≡ None
       none_is None k = refl
       none_is (Some rule) k = absurd cc
@@ -88,10 +88,10 @@ in_front : (a b : Bool) → (a && b) ≡ true → a ≡ true
 in_front true b e = refl
 in_front false b e = absurd cc
 
-kept_by : (a b : State) (s t : Option Sid) (qs : List Request) → Steps a s qs b t → is_in_order (is_none s) qs ≡ true → KeepsSessions a s b t
+kept_by : (a b : CoreView) (s t : Option Sid) (qs : List Request) → Steps a s qs b t → is_in_order (is_none s) qs ≡ true → KeepsSessions a s b t
 kept_by a b s t qs h order = record {
-  later = subst (λ (z : State). hellos a.history ≤ hellos z.history) (sym h.core) (hellos_later (events_of a s qs) a);
-  others = λ n lt. ap (λ (z : State). live z.history n) h.core ∙ live_later (events_of a s qs) a n lt (events_hang_no_up a s qs n);
+  later = subst (λ (z : CoreView). hellos a.history ≤ hellos z.history) (sym h.core) (hellos_later (events_of a s qs) a);
+  others = λ n lt. ap (λ (z : CoreView). live z.history n) h.core ∙ live_later (events_of a s qs) a n lt (events_hang_no_up a s qs n);
   stays = λ sid e. h.session_is ∙ stays_at s qs sid e;
   starts = λ e sid k. starts_at s qs h order e sid k;
 } where
@@ -121,7 +121,7 @@ cut_order first w done rest e = order_front first done rest.requests (ap (λ (c 
 
 -- ---- what a call does to sessions, its own and others
 
-pub record ChangesSessions (a : State) (x : Connection) (b : State) (y : Connection) : Type 0 where
+pub record ChangesSessions (a : CoreView) (x : Connection) (b : CoreView) (y : Connection) : Type 0 where
   pub later : hellos a.history ≤ hellos b.history
   pub others : (n : ℕ) → n < hellos a.history → ((sid : Sid) → x.session ≡ Some sid → sid.0 ≡ n → ⊥) → live b.history n ≡ live a.history n
   pub own : (sid : Sid) → y.session ≡ Some sid → IsSessionOf b y sid
@@ -130,16 +130,16 @@ pub record ChangesSessions (a : State) (x : Connection) (b : State) (y : Connect
   pub refused : y.has_refusal ≡ true → (y.session ≡ None) × (y.is_over ≡ true)
 
 -- what is known of a connection that is not over
-pub record IsOpen (a : State) (x : Connection) : Type 0 where
+pub record IsOpen (a : CoreView) (x : Connection) : Type 0 where
   pub own : (sid : Sid) → x.session ≡ Some sid → IsSessionOf a x sid
   pub refused : x.has_refusal ≡ true → (x.session ≡ None) × (x.is_over ≡ true)
   pub is : x.is_over ≡ false
 
-never_refused : (a : State) (x : Connection) → IsOpen a x → x.has_refusal ≡ true → ⊥
+never_refused : (a : CoreView) (x : Connection) → IsOpen a x → x.has_refusal ≡ true → ⊥
 never_refused a x o e = let k : true ≡ false = sym (o.refused e).1 ∙ o.is in cc
 
 -- its session is live
-lives_on : (a b : State) (x : Connection) (t : Option Sid) → IsOpen a x → KeepsSessions a x.session b t → (sid : Sid) → t ≡ Some sid → (sid.0 < hellos b.history) × (live b.history sid.0 ≡ true)
+lives_on : (a b : CoreView) (x : Connection) (t : Option Sid) → IsOpen a x → KeepsSessions a x.session b t → (sid : Sid) → t ≡ Some sid → (sid.0 < hellos b.history) × (live b.history sid.0 ≡ true)
 lives_on a b x t o k sid e = at x.session refl where
   at : (s : Option Sid) → x.session ≡ s → (sid.0 < hellos b.history) × (live b.history sid.0 ≡ true)
   at None is = let new = k.starts is sid e in (new.1, new.2)
@@ -151,7 +151,7 @@ lives_on a b x t o k sid e = at x.session refl where
       (omega arith, k.others sid.0 lt ∙ old.live_is ∙ ap not o.is)
 
 -- a connection that goes on
-pub goes_on : (a b : State) (x : Connection) (t : Option Sid) (kept : List ℕ) → IsOpen a x → KeepsSessions a x.session b t → ChangesSessions a x b (record x { kept = kept; session = t })
+pub goes_on : (a b : CoreView) (x : Connection) (t : Option Sid) (kept : List ℕ) → IsOpen a x → KeepsSessions a x.session b t → ChangesSessions a x b (record x { kept = kept; session = t })
 goes_on a b x t kept o k = record {
   later = k.later;
   others = λ n lt ne. k.others n lt;
@@ -162,20 +162,20 @@ goes_on a b x t kept o k = record {
 }
 
 -- a connection whose session is hung up
-others_stay : (b d : State) (t : Option Sid) (n : ℕ) → d ≡ after_steps (hang_up_of t) b → n < hellos b.history → ((sid : Sid) → t ≡ Some sid → sid.0 ≡ n → ⊥) → live d.history n ≡ live b.history n
-others_stay b d None n now lt ne = ap (λ (z : State). live z.history n) now
+others_stay : (b d : CoreView) (t : Option Sid) (n : ℕ) → d ≡ after_steps (hang_up_of t) b → n < hellos b.history → ((sid : Sid) → t ≡ Some sid → sid.0 ≡ n → ⊥) → live d.history n ≡ live b.history n
+others_stay b d None n now lt ne = ap (λ (z : CoreView). live z.history n) now
 others_stay b d (Some sid) n now lt ne =
     let other : eqb sid.0 n ≡ false = ne_eqb _ _ (ne sid refl) in
-    ap (λ (z : State). live z.history n) now ∙ live_later (event.Hangup sid ∷ []) b n lt (other, tt)
+    ap (λ (z : CoreView). live z.history n) now ∙ live_later (event.Hangup sid ∷ []) b n lt (other, tt)
 
-ended : (b d : State) (t : Option Sid) (sid : Sid) → d ≡ after_steps (hang_up_of t) b → t ≡ Some sid → live b.history sid.0 ≡ true → live d.history sid.0 ≡ false
+ended : (b d : CoreView) (t : Option Sid) (sid : Sid) → d ≡ after_steps (hang_up_of t) b → t ≡ Some sid → live b.history sid.0 ≡ true → live d.history sid.0 ≡ false
 ended b d None sid now e on = absurd cc
 ended b d (Some own) sid now e on =
     let same' : own ≡ sid = some_is own sid e in
     let on' : live b.history own.0 ≡ true = ap (λ (z : Sid). live b.history z.0) same' ∙ on in
-    ap (λ (z : Sid). live d.history z.0) (sym same') ∙ ap (λ (z : State). live z.history own.0) now ∙ hang_up_ends b.config b.history own on'
+    ap (λ (z : Sid). live d.history z.0) (sym same') ∙ ap (λ (z : CoreView). live z.history own.0) now ∙ hang_up_ends b.config b.history own on'
 
-pub hangs_up : (a b d : State) (x : Connection) (t : Option Sid) (kept : List ℕ) → IsOpen a x → KeepsSessions a x.session b t → d ≡ after_steps (hang_up_of t) b → ChangesSessions a x d (record x { kept = kept; session = t; is_over = true })
+pub hangs_up : (a b d : CoreView) (x : Connection) (t : Option Sid) (kept : List ℕ) → IsOpen a x → KeepsSessions a x.session b t → d ≡ after_steps (hang_up_of t) b → ChangesSessions a x d (record x { kept = kept; session = t; is_over = true })
 hangs_up a b d x t kept o k now = record {
   later = let le = k.later in let le' = more in omega arith;
   others = λ n lt ne. (let le = k.later in others_stay b d t n now (omega arith) (λ sid e is. other n lt ne x.session refl sid e is) ∙ k.others n lt);
@@ -185,14 +185,14 @@ hangs_up a b d x t kept o k now = record {
   refused = λ e. absurd (never_refused a x o e);
 } where
   more : hellos b.history ≤ hellos d.history
-  more = subst (λ (z : State). hellos b.history ≤ hellos z.history) (sym now) (hellos_later (hang_up_of t) b)
+  more = subst (λ (z : CoreView). hellos b.history ≤ hellos z.history) (sym now) (hellos_later (hang_up_of t) b)
 
   other : (n : ℕ) → n < hellos a.history → ((sid : Sid) → x.session ≡ Some sid → sid.0 ≡ n → ⊥) → (s : Option Sid) → x.session ≡ s → (sid : Sid) → t ≡ Some sid → sid.0 ≡ n → ⊥
   other n lt ne None is sid e at = let new : sid.0 ≡ hellos a.history = (k.starts is sid e).0 in omega arith
   other n lt ne (Some own) is sid e at = ne own is (ap (λ (z : Sid). z.0) (some_is _ _ (sym (k.stays own is) ∙ e)) ∙ at)
 
 -- nothing is stepped
-pub none_kept : (a : State) (s : Option Sid) → KeepsSessions a s a s
+pub none_kept : (a : CoreView) (s : Option Sid) → KeepsSessions a s a s
 none_kept a s = record {
   later = omega arith;
   others = λ n lt. refl;
@@ -201,26 +201,26 @@ none_kept a s = record {
 }
 
 -- a hello is refused
-refuses : (a b : State) (x : Connection) (qs : List Request) → IsOpen a x → (s : Option Sid) → x.session ≡ s → is_hello_refused a s qs ≡ true → b ≡ after_steps (take 1 (events_of a s qs)) a → ChangesSessions a x b (record x { kept = []; has_refusal = true; is_over = true })
+refuses : (a b : CoreView) (x : Connection) (qs : List Request) → IsOpen a x → (s : Option Sid) → x.session ≡ s → is_hello_refused a s qs ≡ true → b ≡ after_steps (take 1 (events_of a s qs)) a → ChangesSessions a x b (record x { kept = []; has_refusal = true; is_over = true })
 refuses a b x qs o (Some sid) is refused now = absurd cc
 refuses a b x [] o None is refused now = absurd cc
 refuses a b x (q ∷ qs) o None is refused now = record {
-  later = subst (λ (z : State). hellos a.history ≤ hellos z.history) (sym now) (hellos_later (events_of a None (q ∷ [])) a);
-  others = λ n lt ne. ap (λ (z : State). live z.history n) now ∙ live_later (events_of a None (q ∷ [])) a n lt (events_hang_no_up a None (q ∷ []) n);
+  later = subst (λ (z : CoreView). hellos a.history ≤ hellos z.history) (sym now) (hellos_later (events_of a None (q ∷ [])) a);
+  others = λ n lt ne. ap (λ (z : CoreView). live z.history n) now ∙ live_later (events_of a None (q ∷ [])) a n lt (events_hang_no_up a None (q ∷ []) n);
   own = λ sid e. absurd (let wrong : ◌≡◌ {A = Option Sid} None (Some sid) = sym is ∙ e in cc);
   stays = λ sid e. e;
   starts = λ none sid e. absurd (let wrong : ◌≡◌ {A = Option Sid} None (Some sid) = sym none ∙ e in cc);
   refused = λ e. (is, refl);
 }
 
-stepped_kept : (a b : State) (x : Connection) (w : List ℕ) (t : Option Sid) (done : List Request) (rest : Cut) → Steps a x.session done b t → cut (is_none x.session) w ≡ after done rest → KeepsSessions a x.session b t
+stepped_kept : (a b : CoreView) (x : Connection) (w : List ℕ) (t : Option Sid) (done : List Request) (rest : Cut) → Steps a x.session done b t → cut (is_none x.session) w ≡ after done rest → KeepsSessions a x.session b t
 stepped_kept a b x w t done rest h e = kept_by a b x.session t done h (cut_order (is_none x.session) w done rest e)
 
-changed_to : (a b : State) (x y z : Connection) → y ≡ z → ChangesSessions a x b z → ChangesSessions a x b y
+changed_to : (a b : CoreView) (x y z : Connection) → y ≡ z → ChangesSessions a x b z → ChangesSessions a x b y
 changed_to a b x y z e h = subst (λ (v : Connection). ChangesSessions a x b v) (sym e) h
 
 -- a piece that is fed
-pub fed_changes : (fed : Fed) (a b : State) (x y : Connection) (w : List ℕ) → IsOpen a x → IsOutcome fed a x (cut (is_none x.session) w) b y → ChangesSessions a x b y
+pub fed_changes : (fed : Fed) (a b : CoreView) (x y : Connection) (w : List ℕ) → IsOpen a x → IsOutcome fed a x (cut (is_none x.session) w) b y → ChangesSessions a x b y
 fed_changes Done a b x y w o h = changed_to a b x y _ h.connection (goes_on a b x y.session _ o (kept_by a b x.session y.session _ h.steps (one_hello (is_none x.session) w)))
 fed_changes Short a b x y w o h = changed_to a b x y _ h.connection (goes_on a b x y.session y.kept o (stepped_kept a b x w y.session h.done _ h.steps h.others))
 fed_changes (Over (Wire fault)) a b x y w o h = changed_to a b x y _ h.connection (hangs_up a h.middle b x y.session [] o (kept_by a h.middle x.session y.session _ h.steps (one_hello (is_none x.session) w)) h.hung_up)
@@ -246,7 +246,7 @@ which xs i x y j z there e = at (eqb i j) refl (sym (get_set xs i x y j there) �
   at true k f = Own (eqb-true _ _ k) (some_is _ _ f)
   at false k f = Other (eqb-false _ _ k) f
 
-pub changed_all : (a b : State) (xs : List Connection) (i : ℕ) (x y : Connection) → EachHasItsOwn a xs → slice_get xs i ≡ Some x → ChangesSessions a x b y → EachHasItsOwn b (set xs i y)
+pub changed_all : (a b : CoreView) (xs : List Connection) (i : ℕ) (x y : Connection) → EachHasItsOwn a xs → slice_get xs i ≡ Some x → ChangesSessions a x b y → EachHasItsOwn b (set xs i y)
 changed_all a b xs i x y all there m = record {
   own = λ j z sid e k. own_at j z sid k (which xs i x y j z there e);
   apart = λ j n z u sid e f k l. apart_at j n z u sid k l (which xs i x y j z there e) (which xs i x y n u there f);
@@ -281,7 +281,7 @@ changed_all a b xs i x y all there m = record {
   refused_at j z k (Other ne e) = all.refused j z e k
 
 -- a connection that is opened
-pub opened_all : (a : State) (xs : List Connection) → EachHasItsOwn a xs → EachHasItsOwn a (xs ++ new_connection ∷ [])
+pub opened_all : (a : CoreView) (xs : List Connection) → EachHasItsOwn a xs → EachHasItsOwn a (xs ++ new_connection ∷ [])
 opened_all a xs all = record {
   own = λ i x sid e k. own_at i x sid k (found i x e);
   apart = λ i j x y sid e f k l. apart_at i j x y sid k l (found i x e) (found j y f);
@@ -313,5 +313,5 @@ opened_all a xs all = record {
   refused_at i x k (inr e) = all.refused i x e k
 
 -- there are none at the start
-pub none_at_all : (a : State) → EachHasItsOwn a []
+pub none_at_all : (a : CoreView) → EachHasItsOwn a []
 none_at_all a = record { own = λ i x sid e. absurd cc; apart = λ i j x y sid e. absurd cc; refused = λ i x e. absurd cc }

@@ -11,10 +11,10 @@ use Rattle.ipc_policy.specs.Sessions.{hellos, live, hangs_up}
 use Rattle.ipc_policy.specs.Grow.{live_after, hellos_after}
 use Rattle.ipc_policy.specs.Rules.{forbids, no_session, in_call, not_in_call, name_form, name_long, not_admin, no_user, bad_descr, not_for_write, not_for_read, dir_search, dir_read, absent, present, mode_denied, dir_write, sticky, not_owner, chown_denied, attr_range, value_range, queue_count, byte_limit, descr_limit, prio_range, message_long, buffer_short, notify_taken, would_block, overflow, bad_key}
 use Rattle.ipc_policy.specs.Verdict.{verdict, after_event}
-use Rattle.ipc_policy.proofs.Grown.{grows}
-use Rattle.ipc_policy.proofs.Refused.{same_values}
+use Rattle.ipc_policy.proofs.Histories.Grown.{grows}
+use Rattle.ipc_policy.proofs.Histories.Refused.{same_values}
 use Rattle.ipc_core.specs.Outboxes.{after_step, after_steps}
-use Rattle.ipc_core.specs.State.{State}
+use Rattle.ipc_core.specs.CoreView.{CoreView}
 use Rattle.ipc_wire.specs.declared.request.Request.{Request}
 use Rattle.ipc_wire.specs.declared.request.Request.TheVariants as request
 use Rattle.ipc_hub.specs.Hub.{session_or_next, event_of, events_of}
@@ -45,14 +45,14 @@ abbrev pub NoneHangsUp : ℕ → List Event → Type 0
 NoneHangsUp s [] = Unit {0}
 NoneHangsUp s (e ∷ es) = (hangs_up s e ≡ false) × NoneHangsUp s es
 
-pub hellos_later : (es : List Event) (a : State) → hellos a.history ≤ hellos (after_steps es a).history
+pub hellos_later : (es : List Event) (a : CoreView) → hellos a.history ≤ hellos (after_steps es a).history
 hellos_later [] a = omega arith
 hellos_later (e ∷ es) a =
     let k = hellos_by a.config a.history e (verdict a.config a.history e) in
     let n = hellos_later es (after_step e a) in
     omega arith
 
-pub live_later : (es : List Event) (a : State) (s : ℕ) → s < hellos a.history → NoneHangsUp s es → live (after_steps es a).history s ≡ live a.history s
+pub live_later : (es : List Event) (a : CoreView) (s : ℕ) → s < hellos a.history → NoneHangsUp s es → live (after_steps es a).history s ≡ live a.history s
 live_later [] a s lt off = refl
 live_later (e ∷ es) a s lt off =
     let k = hellos_by a.config a.history e (verdict a.config a.history e) in
@@ -68,7 +68,7 @@ requests_hang_no_up : (c : Config) (sid : Sid) (qs : List Request) (s : ℕ) →
 requests_hang_no_up c sid [] s = tt
 requests_hang_no_up c sid (q ∷ qs) s = (request_hangs_no_up c sid q s, requests_hang_no_up c sid qs s)
 
-pub events_hang_no_up : (a : State) (session : Option Sid) (qs : List Request) (s : ℕ) → NoneHangsUp s (events_of a session qs)
+pub events_hang_no_up : (a : CoreView) (session : Option Sid) (qs : List Request) (s : ℕ) → NoneHangsUp s (events_of a session qs)
 events_hang_no_up a session qs s = requests_hang_no_up a.config (session_or_next a session) qs s
 
 -- a hello that is accepted starts the next session, which is live
@@ -76,14 +76,14 @@ live_at_hello : (c : Config) (h : History) (e : Event) (rule : Option Rule) → 
 live_at_hello c h e (Some rule) free s is k = absurd cc
 live_at_hello c h e None free s is k = (grows c h e).live_or_not s ∙ k
 
-pub hello_lives : (a : State) (key : List ℕ) (sid : Sid) → verdict a.config a.history (event_of a.config sid (request.Hello key)) ≡ None → live (after_event a.config a.history (event_of a.config sid (request.Hello key))) (hellos a.history) ≡ true
+pub hello_lives : (a : CoreView) (key : List ℕ) (sid : Sid) → verdict a.config a.history (event_of a.config sid (request.Hello key)) ≡ None → live (after_event a.config a.history (event_of a.config sid (request.Hello key))) (hellos a.history) ≡ true
 hello_lives a key sid ok = live_at_hello a.config a.history (event_of a.config sid (request.Hello key)) (verdict a.config a.history (event_of a.config sid (request.Hello key))) ok (hellos a.history) refl (let own : eqb (hellos a.history) (hellos a.history) ≡ true = eq-eqb _ _ refl in rw own refl)
 
 hello_counts_by : (c : Config) (h : History) (e : Event) (rule : Option Rule) → rule ≡ None → hellos_after e (hellos h) ≡ hellos h + 1 → hellos (record { event = e; rule = rule } ∷ h) ≡ hellos h + 1
 hello_counts_by c h e (Some rule) free k = absurd cc
 hello_counts_by c h e None free k = (grows c h e).hello_count ∙ k
 
-pub hello_counts : (a : State) (key : List ℕ) (sid : Sid) → verdict a.config a.history (event_of a.config sid (request.Hello key)) ≡ None → hellos (after_event a.config a.history (event_of a.config sid (request.Hello key))) ≡ hellos a.history + 1
+pub hello_counts : (a : CoreView) (key : List ℕ) (sid : Sid) → verdict a.config a.history (event_of a.config sid (request.Hello key)) ≡ None → hellos (after_event a.config a.history (event_of a.config sid (request.Hello key))) ≡ hellos a.history + 1
 hello_counts a key sid ok = hello_counts_by a.config a.history (event_of a.config sid (request.Hello key)) (verdict a.config a.history (event_of a.config sid (request.Hello key))) ok refl
 
 -- ---- a hang-up

@@ -5,7 +5,7 @@ use Rattle.std.proofs.lemmas.List.{map_push, append-nil, drop-drop}
 use Rattle.ipc_terms.specs.declared.ids.Sid.{Sid}
 use Rattle.ipc_terms.specs.declared.record.Event.{Event}
 use Rattle.ipc_core.specs.Outboxes.{after_step, after_steps}
-use Rattle.ipc_core.specs.State.{State}
+use Rattle.ipc_core.specs.CoreView.{CoreView}
 use Rattle.ipc_core.proofs.BoxSteps.{steps_more}
 use Rattle.ipc_fields.specs.declared.fault.WireFault.{WireFault}
 use Rattle.ipc_fields.proofs.FrontLemmas.{front_some, rest_behind}
@@ -21,24 +21,24 @@ use Rattle.ipc_hub.specs.Hub.{session_or_next, event_of, events_of, is_hello_ref
 use Rattle.ipc_hub.specs.Stepping.{StepsFront, RefusesHello, StepsFrames, IsEnd, connection_after}
 
 -- events leave the configuration
-pub config_kept : (es : List Event) (a : State) → (after_steps es a).config ≡ a.config
+pub config_kept : (es : List Event) (a : CoreView) → (after_steps es a).config ≡ a.config
 config_kept [] a = refl
 config_kept (e ∷ es) a = config_kept es (after_step e a)
 
 -- a request as an event, of the session that a connection calls by
-abbrev event_at : State → Option Sid → Request → Event
+abbrev event_at : CoreView → Option Sid → Request → Event
 event_at a s q = event_of a.config (session_or_next a s) q
 
-pub none_stepped : (a : State) (s : Option Sid) → Steps a s [] a s
+pub none_stepped : (a : CoreView) (s : Option Sid) → Steps a s [] a s
 none_stepped a None = record { accepted = refl; core = refl; session_is = refl }
 none_stepped a (Some sid) = record { accepted = refl; core = refl; session_is = refl }
 
 -- only the first may be refused
-refused_front : (a : State) (s : Option Sid) (q : Request) (ps qs : List Request) → is_hello_refused a s (q ∷ ps) ≡ is_hello_refused a s (q ∷ qs)
+refused_front : (a : CoreView) (s : Option Sid) (q : Request) (ps qs : List Request) → is_hello_refused a s (q ∷ ps) ≡ is_hello_refused a s (q ∷ qs)
 refused_front a None q ps qs = refl
 refused_front a (Some sid) q ps qs = refl
 
-first_stepped : (a b d : State) (s t : Option Sid) (q : Request) → b ≡ a → t ≡ s → is_hello_refused b t (q ∷ []) ≡ false → d ≡ after_step (event_at b t q) b → Steps a s (q ∷ []) d (Some (session_or_next b t))
+first_stepped : (a b d : CoreView) (s t : Option Sid) (q : Request) → b ≡ a → t ≡ s → is_hello_refused b t (q ∷ []) ≡ false → d ≡ after_step (event_at b t q) b → Steps a s (q ∷ []) d (Some (session_or_next b t))
 first_stepped a b d s t q same own accepted now = record {
   accepted = sym (ap (λ z. is_hello_refused z t (q ∷ [])) same ∙ ap (λ z. is_hello_refused a z (q ∷ [])) own) ∙ accepted;
   core = now ∙ ap (λ z. after_step (event_at z t q) z) same ∙ ap (λ z. after_step (event_at a z q) a) own;
@@ -46,11 +46,11 @@ first_stepped a b d s t q same own accepted now = record {
 }
 
 -- one request more
-more_stepped : (a b d : State) (s t : Option Sid) (qs : List Request) (q : Request) → Steps a s qs b t → is_hello_refused b t (q ∷ []) ≡ false → d ≡ after_step (event_at b t q) b → Steps a s (qs ++ q ∷ []) d (Some (session_or_next b t))
+more_stepped : (a b d : CoreView) (s t : Option Sid) (qs : List Request) (q : Request) → Steps a s qs b t → is_hello_refused b t (q ∷ []) ≡ false → d ≡ after_step (event_at b t q) b → Steps a s (qs ++ q ∷ []) d (Some (session_or_next b t))
 more_stepped a b d s t [] q h accepted now = first_stepped a b d s t q h.core h.session_is accepted now
 more_stepped a b d s t (p ∷ ps) q h accepted now =
     let own : session_or_next b t ≡ session_or_next a s = ap (session_or_next b) h.session_is in
-    let same : b.config ≡ a.config = ap (λ (z : State). z.config) h.core ∙ config_kept (events_of a s (p ∷ ps)) a in
+    let same : b.config ≡ a.config = ap (λ (z : CoreView). z.config) h.core ∙ config_kept (events_of a s (p ∷ ps)) a in
     let event : event_at b t q ≡ event_at a s q = ap (λ c. event_of c (session_or_next b t) q) same ∙ ap (λ sid. event_of a.config sid q) own in
     record {
       accepted = refused_front a s p (ps ++ q ∷ []) ps ∙ h.accepted;
@@ -63,24 +63,24 @@ more_stepped a b d s t (p ∷ ps) q h accepted now =
       session_is = ap Some own;
     }
 
-pub none_front : (a : State) (s : Option Sid) (w : List ℕ) → StepsFront a s w a s w
+pub none_front : (a : CoreView) (s : Option Sid) (w : List ℕ) → StepsFront a s w a s w
 none_front a s w = record { done = []; steps = none_stepped a s; others = refl }
 
 -- what a step says of the session
-accepted_is : (a : State) (t : Option Sid) (q : Request) (sid : Sid) → ◌≡◌ {A = Option Sid} (Some sid) (cond (is_hello_refused a t (q ∷ [])) None (Some (session_or_next a t))) → (is_hello_refused a t (q ∷ []) ≡ false) × (sid ≡ session_or_next a t)
+accepted_is : (a : CoreView) (t : Option Sid) (q : Request) (sid : Sid) → ◌≡◌ {A = Option Sid} (Some sid) (cond (is_hello_refused a t (q ∷ [])) None (Some (session_or_next a t))) → (is_hello_refused a t (q ∷ []) ≡ false) × (sid ≡ session_or_next a t)
 accepted_is a t q sid e = at (is_hello_refused a t (q ∷ [])) e where
   at : (b : Bool) → ◌≡◌ {A = Option Sid} (Some sid) (cond b None (Some (session_or_next a t))) → (b ≡ false) × (sid ≡ session_or_next a t)
   at true k = absurd cc
   at false k = (refl, cc)
 
-refused_is : (a : State) (t : Option Sid) (q : Request) → ◌≡◌ {A = Option Sid} None (cond (is_hello_refused a t (q ∷ [])) None (Some (session_or_next a t))) → is_hello_refused a t (q ∷ []) ≡ true
+refused_is : (a : CoreView) (t : Option Sid) (q : Request) → ◌≡◌ {A = Option Sid} None (cond (is_hello_refused a t (q ∷ [])) None (Some (session_or_next a t))) → is_hello_refused a t (q ∷ []) ≡ true
 refused_is a t q e = at (is_hello_refused a t (q ∷ [])) e where
   at : (b : Bool) → ◌≡◌ {A = Option Sid} None (cond b None (Some (session_or_next a t))) → b ≡ true
   at true k = refl
   at false k = absurd cc
 
 -- a request in front was stepped and not refused
-pub front_on : (a b d : State) (s t : Option Sid) (w rest r : List ℕ) (q : Request) (sid : Sid) → StepsFront a s w b t rest → front (is_none t) rest ≡ Ok (Some (q, r)) → ◌≡◌ {A = Option Sid} (Some sid) (cond (is_hello_refused b t (q ∷ [])) None (Some (session_or_next b t))) → d ≡ after_step (event_at b t q) b → StepsFront a s w d (Some sid) r
+pub front_on : (a b d : CoreView) (s t : Option Sid) (w rest r : List ℕ) (q : Request) (sid : Sid) → StepsFront a s w b t rest → front (is_none t) rest ≡ Ok (Some (q, r)) → ◌≡◌ {A = Option Sid} (Some sid) (cond (is_hello_refused b t (q ∷ [])) None (Some (session_or_next b t))) → d ≡ after_step (event_at b t q) b → StepsFront a s w d (Some sid) r
 front_on a b d s t w rest r q sid h found session now =
     let k = accepted_is b t q sid session in
     record {
@@ -100,7 +100,7 @@ cut_finds : (first : Bool) (w r : List ℕ) (q : Request) → front first w ≡ 
 cut_finds first w r q e = ap (λ (c : Cut). c.requests) (cut_is first w ∙ ap (cut_by (cut false) w) e)
 
 -- only where nothing was stepped may a request be refused
-refused_at : (a b d : State) (s t : Option Sid) (w rest r : List ℕ) (q : Request) (qs : List Request) → Steps a s qs b t → cut (is_none s) w ≡ after qs (cut (is_none t) rest) → front (is_none t) rest ≡ Ok (Some (q, r)) → is_hello_refused b t (q ∷ []) ≡ true → d ≡ after_step (event_at b t q) b → RefusesHello a s w d t
+refused_at : (a b d : CoreView) (s t : Option Sid) (w rest r : List ℕ) (q : Request) (qs : List Request) → Steps a s qs b t → cut (is_none s) w ≡ after qs (cut (is_none t) rest) → front (is_none t) rest ≡ Ok (Some (q, r)) → is_hello_refused b t (q ∷ []) ≡ true → d ≡ after_step (event_at b t q) b → RefusesHello a s w d t
 refused_at a b d s (Some sid) w rest r q qs h others found refused now = absurd cc
 refused_at a b d s None w rest r q (p ∷ ps) h others found refused now = absurd (let e = h.session_is in cc)
 refused_at a b d s None w rest r q [] h others found refused now =
@@ -111,7 +111,7 @@ refused_at a b d s None w rest r q [] h others found refused now =
       session = h.session_is;
     }
 
-pub hello_refused : (a b d : State) (s t : Option Sid) (w rest r : List ℕ) (q : Request) → StepsFront a s w b t rest → front (is_none t) rest ≡ Ok (Some (q, r)) → ◌≡◌ {A = Option Sid} None (cond (is_hello_refused b t (q ∷ [])) None (Some (session_or_next b t))) → d ≡ after_step (event_at b t q) b → RefusesHello a s w d t
+pub hello_refused : (a b d : CoreView) (s t : Option Sid) (w rest r : List ℕ) (q : Request) → StepsFront a s w b t rest → front (is_none t) rest ≡ Ok (Some (q, r)) → ◌≡◌ {A = Option Sid} None (cond (is_hello_refused b t (q ∷ [])) None (Some (session_or_next b t))) → d ≡ after_step (event_at b t q) b → RefusesHello a s w d t
 hello_refused a b d s t w rest r q h found session now = refused_at a b d s t w rest r q h.done h.steps h.others found (refused_is b t q session) now
 
 -- ---- where the rest stands
@@ -138,10 +138,10 @@ left_behind first w rest r q h found =
 all_cut : (w : List ℕ) (s t : Option Sid) (rest : List ℕ) (qs : List Request) (fault : Option WireFault) → cut (is_none s) w ≡ after qs (cut (is_none t) rest) → cut (is_none t) rest ≡ record { requests = []; rest = rest; fault = fault } → cut (is_none s) w ≡ record { requests = qs; rest = rest; fault = fault }
 all_cut w s t rest qs fault others none = others ∙ ap (after qs) none ∙ ap (λ (ps : List Request). record { requests = ps; rest = rest; fault = fault }) (append-nil qs)
 
-all_stepped : (a b : State) (s t : Option Sid) (qs : List Request) (c : Cut) (rest : List ℕ) (fault : Option WireFault) → Steps a s qs b t → c ≡ record { requests = qs; rest = rest; fault = fault } → Steps a s c.requests b t
+all_stepped : (a b : CoreView) (s t : Option Sid) (qs : List Request) (c : Cut) (rest : List ℕ) (fault : Option WireFault) → Steps a s qs b t → c ≡ record { requests = qs; rest = rest; fault = fault } → Steps a s c.requests b t
 all_stepped a b s t qs c rest fault h e = let is : c.requests ≡ qs = ap (λ (z : Cut). z.requests) e in rw is h
 
-pub outcome_is : (fed : Fed) (a b : State) (x : Connection) (w : List ℕ) (t : Option Sid) (rest : List ℕ) → StepsFrames fed a x.session w b t rest → IsOutcome fed a x (cut (is_none x.session) w) b (connection_after fed (record x { kept = rest; session = t }))
+pub outcome_is : (fed : Fed) (a b : CoreView) (x : Connection) (w : List ℕ) (t : Option Sid) (rest : List ℕ) → StepsFrames fed a x.session w b t rest → IsOutcome fed a x (cut (is_none x.session) w) b (connection_after fed (record x { kept = rest; session = t }))
 outcome_is Done a b x w t rest (frames, none) =
     let e = all_cut w x.session t rest frames.done None frames.others none in
     record {

@@ -11,7 +11,7 @@ use Rattle.ipc_policy.specs.declared.config.Config.{Config}
 use Rattle.ipc_policy.specs.Sessions.{hellos}
 use Rattle.ipc_state.specs.Ranges.{first_bad}
 use Rattle.ipc_core.specs.Outboxes.{after_step, after_steps}
-use Rattle.ipc_core.specs.State.{State}
+use Rattle.ipc_core.specs.CoreView.{CoreView}
 use Rattle.ipc_fields.specs.declared.fault.WireFault.{WireFault}
 use Rattle.ipc_wire.specs.declared.request.Request.{Request}
 use Rattle.ipc_wire.specs.declared.request.Request.TheVariants as request
@@ -35,8 +35,8 @@ abbrev calls_in : ℕ → List Event → List Request
 calls_in s [] = []
 calls_in s (e ∷ es) = call_in s e ++ calls_in s es
 
-calls_after : (es : List Event) (a b : State) (s : ℕ) → b ≡ after_steps es a → calls_of s b.history ≡ calls_of s a.history ++ calls_in s es
-calls_after [] a b s now = ap (λ (z : State). calls_of s z.history) now ∙ sym (append-nil (calls_of s a.history))
+calls_after : (es : List Event) (a b : CoreView) (s : ℕ) → b ≡ after_steps es a → calls_of s b.history ≡ calls_of s a.history ++ calls_in s es
+calls_after [] a b s now = ap (λ (z : CoreView). calls_of s z.history) now ∙ sym (append-nil (calls_of s a.history))
 calls_after (e ∷ es) a b s now = calls_after es (after_step e a) b s now ∙ append_assoc (calls_of s a.history) (call_in s e) (calls_in s es)
 
 no_call_in : (t : Option Sid) (s : ℕ) → calls_in s (hang_up_of t) ≡ []
@@ -74,7 +74,7 @@ hello_is (request.Do call) e = absurd (let wrong : false ≡ true = sym (ap (λ 
 
 -- ---- what a feed steps of a stream
 
-record Stepping (a : State) (x : Connection) (w : List ℕ) (b : State) (y : Connection) : Type 0 where
+record Stepping (a : CoreView) (x : Connection) (w : List ℕ) (b : CoreView) (y : Connection) : Type 0 where
   done : List Request
   others : Cut
   whole : cut (is_none x.session) w ≡ after done others
@@ -83,17 +83,17 @@ record Stepping (a : State) (x : Connection) (w : List ℕ) (b : State) (y : Con
   calls : (s : ℕ) → calls_of s b.history ≡ calls_of s a.history ++ calls_in s (events_of a x.session done)
 
 -- a hello that is refused adds no call
-record Refusing (a : State) (x : Connection) (b : State) (y : Connection) : Type 0 where
+record Refusing (a : CoreView) (x : Connection) (b : CoreView) (y : Connection) : Type 0 where
   none : x.session ≡ None
   session : y.session ≡ None
   over : y.is_over ≡ true
   calls : (s : ℕ) → calls_of s b.history ≡ calls_of s a.history
 
-data Split (a : State) (x : Connection) (w : List ℕ) (b : State) (y : Connection) : Type 0 where
+data Split (a : CoreView) (x : Connection) (w : List ℕ) (b : CoreView) (y : Connection) : Type 0 where
   Goes : Stepping a x w b y → Split a x w b y
   Ends : Refusing a x b y → Split a x w b y
 
-first_is : (a : State) (s : Option Sid) (qs : List Request) → still_first (is_none s) qs ≡ is_none (session_after a s qs)
+first_is : (a : CoreView) (s : Option Sid) (qs : List Request) → still_first (is_none s) qs ≡ is_none (session_after a s qs)
 first_is a s [] = refl
 first_is a s (q ∷ qs) = refl
 
@@ -103,7 +103,7 @@ rest_is first w =
     let c = cut first w in
     sym (ap (cut first) (append-nil w)) ∙ cuts_alike first w [] ∙ ap (λ (v : List ℕ). after c.requests (cut (still_first first c.requests) v)) (append-nil c.rest)
 
-all_done : (a b : State) (x y : Connection) (w : List ℕ) → IsOutcome Done a x (cut (is_none x.session) w) b y → Stepping a x w b y
+all_done : (a b : CoreView) (x y : Connection) (w : List ℕ) → IsOutcome Done a x (cut (is_none x.session) w) b y → Stepping a x w b y
 all_done a b x y w h =
     let c = cut (is_none x.session) w in
     let first : still_first (is_none x.session) c.requests ≡ is_none y.session = first_is a x.session c.requests ∙ ap is_none (sym h.steps.session_is) in
@@ -116,7 +116,7 @@ all_done a b x y w h =
       calls = λ s. calls_after (events_of a x.session c.requests) a b s h.steps.core;
     }
 
-some_done : (a b : State) (x y : Connection) (w : List ℕ) → IsOutcome Short a x (cut (is_none x.session) w) b y → Stepping a x w b y
+some_done : (a b : CoreView) (x y : Connection) (w : List ℕ) → IsOutcome Short a x (cut (is_none x.session) w) b y → Stepping a x w b y
 some_done a b x y w h = record {
   done = h.done;
   others = cut (is_none y.session) y.kept;
@@ -126,7 +126,7 @@ some_done a b x y w h = record {
   calls = λ s. calls_after (events_of a x.session h.done) a b s h.steps.core;
 }
 
-fault_done : (fault : WireFault) (a b : State) (x y : Connection) (w : List ℕ) → IsOutcome (Over (Wire fault)) a x (cut (is_none x.session) w) b y → Stepping a x w b y
+fault_done : (fault : WireFault) (a b : CoreView) (x y : Connection) (w : List ℕ) → IsOutcome (Over (Wire fault)) a x (cut (is_none x.session) w) b y → Stepping a x w b y
 fault_done fault a b x y w h =
     let c = cut (is_none x.session) w in
     let events = events_of a x.session c.requests in
@@ -139,7 +139,7 @@ fault_done fault a b x y w h =
       calls = λ s. calls_after (hang_up_of y.session) h.middle b s h.hung_up ∙ ap (λ (qs : List Request). calls_of s h.middle.history ++ qs) (no_call_in y.session s) ∙ append-nil (calls_of s h.middle.history) ∙ calls_after events a h.middle s h.steps.core;
     }
 
-hello_refused : (a b : State) (x y : Connection) (w : List ℕ) → IsOutcome (Over BadKey) a x (cut (is_none x.session) w) b y → Refusing a x b y
+hello_refused : (a b : CoreView) (x y : Connection) (w : List ℕ) → IsOutcome (Over BadKey) a x (cut (is_none x.session) w) b y → Refusing a x b y
 hello_refused a b x y w h = at x.session refl (cut (is_none x.session) w).requests refl where
   at : (s : Option Sid) → x.session ≡ s → (qs : List Request) → (cut (is_none x.session) w).requests ≡ qs → Refusing a x b y
   at (Some sid) is qs e = absurd (let wrong : false ≡ true = sym (ap (λ z. is_hello_refused a z (cut (is_none x.session) w).requests) is) ∙ h.refused in cc)
@@ -156,7 +156,7 @@ hello_refused a b x y w h = at x.session refl (cut (is_none x.session) w).reques
         calls = λ s. calls_after (event_of a.config (session_or_next a None) q ∷ []) a b s (h.core ∙ ap (λ es. after_steps es a) events) ∙ ap (λ p. calls_of s a.history ++ (call_in s (event_of a.config (session_or_next a None) p) ++ [])) hello.1 ∙ append-nil (calls_of s a.history);
       }
 
-split : (fed : Fed) (a b : State) (x y : Connection) (w : List ℕ) → IsOutcome fed a x (cut (is_none x.session) w) b y → Split a x w b y
+split : (fed : Fed) (a b : CoreView) (x y : Connection) (w : List ℕ) → IsOutcome fed a x (cut (is_none x.session) w) b y → Split a x w b y
 split Done a b x y w h = Goes (all_done a b x y w h)
 split Short a b x y w h = Goes (some_done a b x y w h)
 split (Over (Wire fault)) a b x y w h = Goes (fault_done fault a b x y w h)
@@ -164,21 +164,21 @@ split (Over BadKey) a b x y w h = Ends (hello_refused a b x y w h)
 
 -- ---- what a call at a connection does to what was stepped
 
-record ChangesStream (a : State) (x : Connection) (b : State) (y : Connection) (piece : List ℕ) : Type 0 where
+record ChangesStream (a : CoreView) (x : Connection) (b : CoreView) (y : Connection) (piece : List ℕ) : Type 0 where
   unstarted : ((s : ℕ) → hellos a.history ≤ s → calls_of s a.history ≡ []) → (s : ℕ) → hellos b.history ≤ s → calls_of s b.history ≡ []
   others : (s : ℕ) → s < hellos a.history → ((own : Sid) → x.session ≡ Some own → own.0 ≡ s → ⊥) → calls_of s b.history ≡ calls_of s a.history
   silent : (stream : List ℕ) → y.session ≡ None → y.is_over ≡ false → (x.session ≡ None) × (x.is_over ≡ false) × (cut true stream ≡ cut true x.kept → cut true (stream ++ piece) ≡ cut true y.kept)
   same : (sid : Sid) (stream : List ℕ) → x.session ≡ Some sid → IsStepped a x sid stream → IsStepped b y sid (stream ++ piece)
   starts : (sid : Sid) (stream : List ℕ) → x.session ≡ None → y.session ≡ Some sid → (x.is_over ≡ false) × (calls_of sid.0 a.history ≡ [] → cut true stream ≡ cut true x.kept → IsStepped b y sid (stream ++ piece))
 
-caller_differs : (a : State) (o : Option Sid) (s : ℕ) → s < hellos a.history → ((own : Sid) → o ≡ Some own → own.0 ≡ s → ⊥) → (session_or_next a o).0 ≡ s → ⊥
+caller_differs : (a : CoreView) (o : Option Sid) (s : ℕ) → s < hellos a.history → ((own : Sid) → o ≡ Some own → own.0 ≡ s → ⊥) → (session_or_next a o).0 ≡ s → ⊥
 caller_differs a None s lt ne q = let k : hellos a.history ≡ s = q in omega arith
 caller_differs a (Some own) s lt ne q = ne own refl q
 
 same_session : (s t : Sid) → Some s ≡ Some t → s ≡ t
 same_session s t e = cc
 
-stepping_changes : (a b : State) (x y : Connection) (piece : List ℕ) → x.is_over ≡ false → ChangesSessions a x b y → Stepping a x (x.kept ++ piece) b y → ChangesStream a x b y piece
+stepping_changes : (a b : CoreView) (x y : Connection) (piece : List ℕ) → x.is_over ≡ false → ChangesSessions a x b y → Stepping a x (x.kept ++ piece) b y → ChangesStream a x b y piece
 stepping_changes a b x y piece on m h = record {
   unstarted = λ all s le. h.calls s ∙ ap (λ (qs : List Request). qs ++ calls_in s (events_of a x.session h.done)) (all s (let k = m.later in omega arith)) ∙ none_new s le h.done refl;
   others = λ s lt ne. h.calls s ∙ ap (λ (qs : List Request). calls_of s a.history ++ qs) (other_calls a.config (session_or_next a x.session) s h.done (caller_differs a x.session s lt ne)) ∙ append-nil (calls_of s a.history);
@@ -234,7 +234,7 @@ stepping_changes a b x y piece on m h = record {
         kept = λ still. h.kept still ∙ ap (λ (o : Option Sid). cut (is_none o) y.kept) own;
       }
 
-refusing_changes : (a b : State) (x y : Connection) (piece : List ℕ) → ChangesSessions a x b y → Refusing a x b y → ChangesStream a x b y piece
+refusing_changes : (a b : CoreView) (x y : Connection) (piece : List ℕ) → ChangesSessions a x b y → Refusing a x b y → ChangesStream a x b y piece
 refusing_changes a b x y piece m r = record {
   unstarted = λ all s le. r.calls s ∙ all s (let k = m.later in omega arith);
   others = λ s lt ne. r.calls s;
@@ -244,7 +244,7 @@ refusing_changes a b x y piece m r = record {
 }
 
 -- nothing is stepped
-quiet_changes : (a b : State) (x y : Connection) → ChangesSessions a x b y → ((s : ℕ) → calls_of s b.history ≡ calls_of s a.history) → y.session ≡ x.session → (y.is_over ≡ false → (x.is_over ≡ false) × (y.kept ≡ x.kept)) → ChangesStream a x b y []
+quiet_changes : (a b : CoreView) (x y : Connection) → ChangesSessions a x b y → ((s : ℕ) → calls_of s b.history ≡ calls_of s a.history) → y.session ≡ x.session → (y.is_over ≡ false → (x.is_over ≡ false) × (y.kept ≡ x.kept)) → ChangesStream a x b y []
 quiet_changes a b x y m calls session open' = record {
   unstarted = λ all s le. calls s ∙ all s (let k = m.later in omega arith);
   others = λ s lt ne. calls s;
@@ -258,7 +258,7 @@ quiet_changes a b x y m calls session open' = record {
   starts = λ sid stream none own. absurd (let wrong : ◌≡◌ {A = Option Sid} None (Some sid) = sym none ∙ sym session ∙ own in cc);
 }
 
-split_changes : (a b : State) (x y : Connection) (piece : List ℕ) → x.is_over ≡ false → ChangesSessions a x b y → Split a x (x.kept ++ piece) b y → ChangesStream a x b y piece
+split_changes : (a b : CoreView) (x y : Connection) (piece : List ℕ) → x.is_over ≡ false → ChangesSessions a x b y → Split a x (x.kept ++ piece) b y → ChangesStream a x b y piece
 split_changes a b x y piece on m (Goes h) = stepping_changes a b x y piece on m h
 split_changes a b x y piece on m (Ends r) = refusing_changes a b x y piece m r
 
@@ -377,7 +377,7 @@ taken_streamed : (old new : Hub) (j : ℕ) (bytes : List ℕ) (i : ℕ) (stream 
 taken_streamed old new j bytes i stream f h =
     let x = f.before in
     let m = taken_change old new j bytes h.well f in
-    let calls = λ (s : ℕ). ap (λ (z : State). calls_of s z.history) f.core ∙ ap (calls_of s) (same_history old.core x.session) in
+    let calls = λ (s : ℕ). ap (λ (z : CoreView). calls_of s z.history) f.core ∙ ap (calls_of s) (same_history old.core x.session) in
     nothing_came new i stream (eqb j i) (changed_streamed old new j x (record x { has_refusal = false }) [] i stream (take_well old new j bytes h.well f) f.changes m (quiet_changes old.core new.core x (record x { has_refusal = false }) m calls refl (λ still. (still, refl))) h)
 
 -- what one call brings of the stream

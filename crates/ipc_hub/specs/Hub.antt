@@ -14,7 +14,7 @@ use Rattle.ipc_policy.specs.Sessions.{hellos}
 use Rattle.ipc_policy.specs.Verdict.{verdict}
 use Rattle.ipc_core.specs.Boxes.{box_at, taken}
 use Rattle.ipc_core.specs.Outboxes.{after_steps}
-use Rattle.ipc_core.specs.State.{State}
+use Rattle.ipc_core.specs.CoreView.{CoreView}
 use Rattle.ipc_fields.specs.Field.{◌⊕◌}
 use Rattle.ipc_fields.specs.declared.fault.WireFault.{WireFault}
 use Rattle.ipc_wire.specs.declared.request.Request.{Request}
@@ -39,7 +39,7 @@ pub record Connection : Type 0 where
 
 -- the connections stand by their numbers
 pub record Hub : Type 0 where
-  pub core : State
+  pub core : CoreView
   pub connections : List Connection
 
 -- a connection of which nothing has come
@@ -57,12 +57,12 @@ with_connection hub = record hub { connections = hub.connections ++ new_connecti
 -- ---- its answers
 
 -- what a session was answered and has not taken; nothing, where there is none
-abbrev pub untaken_of : State → Option Sid → List Answer
+abbrev pub untaken_of : CoreView → Option Sid → List Answer
 untaken_of a None = []
 untaken_of a (Some sid) = box_at a.untaken sid.0
 
 -- what a connection was answered and has not taken: its refusal alone, or what its session was answered
-abbrev pub untaken : State → Connection → List Answer
+abbrev pub untaken : CoreView → Connection → List Answer
 untaken a x = if x.has_refusal then Refused rule.BadKey ∷ [] else untaken_of a x.session
 
 -- the spellings of answers, one after another; none, where an answer has none
@@ -73,7 +73,7 @@ spell_answers (answer ∷ answers) = spell_answer answer ⊕ spell_answers answe
 -- ---- its requests
 
 -- the session whose requests a connection's are: its own, or, before its hello, the next to start
-abbrev pub session_or_next : State → Option Sid → Sid
+abbrev pub session_or_next : CoreView → Option Sid → Sid
 session_or_next a session = unwrap_or session (record { 0 = hellos a.history })
 
 -- a request of a session as an event: a hello finds the user whose key it brings
@@ -81,7 +81,7 @@ abbrev pub event_of : Config → Sid → Request → Event
 event_of c sid (request.Hello key) = event.Hello (user_of_key c.users key)
 event_of c sid (request.Do call) = event.Do sid call
 
-abbrev pub events_of : State → Option Sid → List Request → List Event
+abbrev pub events_of : CoreView → Option Sid → List Request → List Event
 events_of a session requests = map (event_of a.config (session_or_next a session)) requests
 
 -- the hang-up of a session, where there is one
@@ -90,18 +90,18 @@ hang_up_of None = []
 hang_up_of (Some sid) = event.Hangup sid ∷ []
 
 -- whether the first of these requests is a hello that is refused
-abbrev pub is_hello_refused : State → Option Sid → List Request → Bool
+abbrev pub is_hello_refused : CoreView → Option Sid → List Request → Bool
 is_hello_refused a (Some sid) requests = false
 is_hello_refused a None [] = false
 is_hello_refused a None (hello ∷ requests) = is_some (verdict a.config a.history (event_of a.config (session_or_next a None) hello))
 
 -- the session of a connection whose requests these were
-abbrev pub session_after : State → Option Sid → List Request → Option Sid
+abbrev pub session_after : CoreView → Option Sid → List Request → Option Sid
 session_after a session [] = session
 session_after a session (first ∷ requests) = Some (session_or_next a session)
 
 -- the requests are stepped in order, and no hello among them is refused
-pub record Steps (a : State) (session : Option Sid) (requests : List Request) (b : State) (session' : Option Sid) : Type 0 where
+pub record Steps (a : CoreView) (session : Option Sid) (requests : List Request) (b : CoreView) (session' : Option Sid) : Type 0 where
   pub accepted : is_hello_refused a session requests ≡ false
   pub core : b ≡ after_steps (events_of a session requests) a
   pub session_is : session' ≡ session_after a session requests
@@ -109,33 +109,33 @@ pub record Steps (a : State) (session : Option Sid) (requests : List Request) (b
 -- ---- what a feed answers: from core a and connection x, whose stream is cut so, to core b and connection y
 
 -- all requests of the whole frames are stepped, and the rest is kept; no fault stands in front of it
-pub record StepsAll (a : State) (x : Connection) (c : Cut) (b : State) (y : Connection) : Type 0 where
+pub record StepsAll (a : CoreView) (x : Connection) (c : Cut) (b : CoreView) (y : Connection) : Type 0 where
   pub steps : Steps a x.session c.requests b y.session
   pub no_fault : c.fault ≡ None
   pub connection : y ≡ record x { kept = c.rest; session = y.session }
 
 -- the first of them are stepped, and what is kept is cut into the others
-pub record StepsSome (a : State) (x : Connection) (c : Cut) (b : State) (y : Connection) : Type 0 where
+pub record StepsSome (a : CoreView) (x : Connection) (c : Cut) (b : CoreView) (y : Connection) : Type 0 where
   pub done : List Request
   pub steps : Steps a x.session done b y.session
   pub others : c ≡ after done (cut (is_none y.session) y.kept)
   pub connection : y ≡ record x { kept = y.kept; session = y.session }
 
 -- all before the fault are stepped, and then the session is hung up, if there is one
-pub record EndsAtFault (fault : WireFault) (a : State) (x : Connection) (c : Cut) (b : State) (y : Connection) : Type 0 where
-  pub middle : State
+pub record EndsAtFault (fault : WireFault) (a : CoreView) (x : Connection) (c : Cut) (b : CoreView) (y : Connection) : Type 0 where
+  pub middle : CoreView
   pub steps : Steps a x.session c.requests middle y.session
   pub hung_up : b ≡ after_steps (hang_up_of y.session) middle
   pub fault_is : c.fault ≡ Some fault
   pub connection : y ≡ record x { kept = []; session = y.session; is_over = true }
 
 -- the hello is stepped and refused, and nothing behind it is stepped
-pub record EndsAtHello (a : State) (x : Connection) (c : Cut) (b : State) (y : Connection) : Type 0 where
+pub record EndsAtHello (a : CoreView) (x : Connection) (c : Cut) (b : CoreView) (y : Connection) : Type 0 where
   pub refused : is_hello_refused a x.session c.requests ≡ true
   pub core : b ≡ after_steps (take 1 (events_of a x.session c.requests)) a
   pub connection : y ≡ record x { kept = []; has_refusal = true; is_over = true }
 
-abbrev pub IsOutcome : Fed → State → Connection → Cut → State → Connection → Type 0
+abbrev pub IsOutcome : Fed → CoreView → Connection → Cut → CoreView → Connection → Type 0
 IsOutcome Done a x c b y = StepsAll a x c b y
 IsOutcome Short a x c b y = StepsSome a x c b y
 IsOutcome (Over (Wire fault)) a x c b y = EndsAtFault fault a x c b y
@@ -164,7 +164,7 @@ pub record HangsUp (old : Hub) (i : ℕ) (new : Hub) : Type 0 where
   pub core : new.core ≡ after_steps (hang_up_of before.session) old.core
 
 -- the core once all that a session had not taken is taken
-abbrev pub core_after_take : State → Option Sid → State
+abbrev pub core_after_take : CoreView → Option Sid → CoreView
 core_after_take a None = a
 core_after_take a (Some sid) = record a { untaken = changed taken a.untaken sid.0 }
 

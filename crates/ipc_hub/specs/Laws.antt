@@ -7,7 +7,7 @@ use Rattle.ipc_policy.specs.declared.config.Config.{Config}
 use Rattle.ipc_policy.specs.History.{History}
 use Rattle.ipc_policy.specs.Verdict.{outbox}
 use Rattle.ipc_state.specs.Ranges.{first_bad}
-use Rattle.ipc_core.specs.State.{State}
+use Rattle.ipc_core.specs.CoreView.{CoreView}
 use Rattle.ipc_wire.specs.declared.request.Request.{Request}
 use Rattle.ipc_wire.specs.declared.request.Request.TheVariants as request
 use Rattle.ipc_wire.specs.Streams.{Cut, cut, after, still_first}
@@ -76,7 +76,7 @@ calls_of s (r ∷ before) = calls_of s before ++ call_in s r.event
 
 -- the stream is a hello, then the calls of the session in the trail, and then what was not stepped; which is what is kept,
 -- as long as the connection is not over
-pub record IsStepped (a : State) (x : Connection) (sid : Sid) (stream : List ℕ) : Type 0 where
+pub record IsStepped (a : CoreView) (x : Connection) (sid : Sid) (stream : List ℕ) : Type 0 where
   pub key : List ℕ
   pub others : Cut
   pub whole : cut true stream ≡ after (request.Hello key ∷ calls_of sid.0 a.history) others

@@ -3,7 +3,7 @@
 use Rattle.std.specs.Prelude.{◌≡◌, true, ℕ, ◌≤◌, ◌-◌, List, [], length, drop, take, Option, Some, None, is_none}
 use Rattle.ipc_terms.specs.declared.ids.Sid.{Sid}
 use Rattle.ipc_core.specs.Outboxes.{after_steps}
-use Rattle.ipc_core.specs.State.{State}
+use Rattle.ipc_core.specs.CoreView.{CoreView}
 use Rattle.ipc_fields.specs.declared.fault.WireFault.{WireFault}
 use Rattle.ipc_wire.specs.declared.request.Request.{Request}
 use Rattle.ipc_wire.specs.Streams.{cut, after}
@@ -13,25 +13,25 @@ use Rattle.ipc_hub.specs.declared.fed.End.TheVariants.{Wire, BadKey}
 use Rattle.ipc_hub.specs.Hub.{Connection, Steps, events_of, is_hello_refused, hang_up_of}
 
 -- the requests in front are stepped, and the rest is cut into the others
-pub record StepsFront (a : State) (s : Option Sid) (w : List ℕ) (b : State) (t : Option Sid) (rest : List ℕ) : Type 0 where
+pub record StepsFront (a : CoreView) (s : Option Sid) (w : List ℕ) (b : CoreView) (t : Option Sid) (rest : List ℕ) : Type 0 where
   pub done : List Request
   pub steps : Steps a s done b t
   pub others : cut (is_none s) w ≡ after done (cut (is_none t) rest)
 
 -- all before the fault are stepped, and then the session is hung up
-pub record HangsUpAtFault (fault : WireFault) (a : State) (s : Option Sid) (w : List ℕ) (b : State) (t : Option Sid) (rest : List ℕ) : Type 0 where
-  pub middle : State
+pub record HangsUpAtFault (fault : WireFault) (a : CoreView) (s : Option Sid) (w : List ℕ) (b : CoreView) (t : Option Sid) (rest : List ℕ) : Type 0 where
+  pub middle : CoreView
   pub frames : StepsFront a s w middle t rest
   pub fault_is : cut (is_none t) rest ≡ record { requests = []; rest = rest; fault = Some fault }
   pub hung_up : b ≡ after_steps (hang_up_of t) middle
 
 -- the hello in front is refused
-pub record RefusesHello (a : State) (s : Option Sid) (w : List ℕ) (b : State) (t : Option Sid) : Type 0 where
+pub record RefusesHello (a : CoreView) (s : Option Sid) (w : List ℕ) (b : CoreView) (t : Option Sid) : Type 0 where
   pub refused : is_hello_refused a s (cut (is_none s) w).requests ≡ true
   pub core : b ≡ after_steps (take 1 (events_of a s (cut (is_none s) w).requests)) a
   pub session : t ≡ s
 
-abbrev pub StepsFrames : Fed → State → Option Sid → List ℕ → State → Option Sid → List ℕ → Type 0
+abbrev pub StepsFrames : Fed → CoreView → Option Sid → List ℕ → CoreView → Option Sid → List ℕ → Type 0
 StepsFrames Done a s w b t rest = StepsFront a s w b t rest × (cut (is_none t) rest ≡ record { requests = []; rest = rest; fault = None })
 StepsFrames Short a s w b t rest = StepsFront a s w b t rest
 StepsFrames (Over (Wire fault)) a s w b t rest = HangsUpAtFault fault a s w b t rest

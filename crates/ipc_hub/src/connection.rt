@@ -124,7 +124,7 @@ impl Connection {
         let bytes = self.spell_untaken(core, alloc)?;
         self.has_refusal = false;
         if let Some(sid) = self.session {
-            core.take(sid);
+            core.clear(sid);
         }
         Ok(bytes)
     }

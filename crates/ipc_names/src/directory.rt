@@ -79,13 +79,12 @@ impl NameDir {
         ensures ok { OnOk result (self.new ≡ record self.old { bindings = self.old.bindings ++ record { name = name; object = object } ∷ [] }) }
         ensures err { OnErr result (self.new ≡ self.old) }
     {
+        let key = Vec::from_slice(*self.objects.allocator(), name.as_slice())?;
         // The length is what says that a name more can be counted.
         let _names = self.objects.len();
         self.objects.reserve(1)?;
         counts::raise(&mut self.counts, object)?;
-        self.objects
-            .insert(name.into_bytes().into_vec(), object)
-            .unwrap();
+        self.objects.insert(key, object).unwrap();
         Ok(())
     }
 

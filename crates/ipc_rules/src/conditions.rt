@@ -11,7 +11,7 @@ ghost use Rattle.ipc_terms.specs.declared.object.TheConstants.{SEM_VALUE_MAX};
 ghost use Rattle.ipc_policy.specs.Rules.{there_is, is_not_admin, above_limit, is_of_family, denied, denied_at, removal_denied, change_denied, reads_only, writes_only, bits_wanted, out_of_range};
 
 use crate::questions::{charged, limit};
-use ipc_access::{Cred, grants, may_chmod, may_chown, may_remove};
+use ipc_access::{Cred, READ, WRITE, grants, may_chmod, may_chown, may_remove};
 use ipc_descr::checked_bytes_of;
 use ipc_policy::{Config, HARD_MSG_MAX, HARD_MSGSIZE_MAX, Held, kind_of};
 use ipc_state::Lookup;
@@ -105,9 +105,9 @@ pub fn bits_of(access: Access) -> u8
     ensures { result ≡ bits_wanted access }
 {
     match access {
-        Access::Read => 4,
-        Access::Write => 2,
-        Access::Both => 6,
+        Access::Read => READ,
+        Access::Write => WRITE,
+        Access::Both => READ | WRITE,
     }
 }
 

@@ -5,4 +5,4 @@ mod conditions;
 mod questions;
 mod rules;
 
-pub use rules::{decide, forbids};
+pub use rules::decide;

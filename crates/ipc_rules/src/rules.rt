@@ -2,7 +2,7 @@
 
 ghost use Rattle.std.specs.Prelude.{◌≡◌, Some};
 ghost use Rattle.ipc_policy.specs.Names.{creating, opening};
-ghost use Rattle.ipc_policy.specs.Rules.{forbids, no_session, in_call, not_in_call, name_form, name_long, not_admin, no_user, bad_descr, not_for_write, not_for_read, dir_search, dir_read, absent, present, mode_denied, dir_write, sticky, not_owner, chown_denied, attr_range, value_range, queue_count, byte_limit, descr_limit, prio_range, message_long, buffer_short, notify_taken, would_block, overflow, bad_key};
+ghost use Rattle.ipc_policy.specs.Rules.{no_session, in_call, not_in_call, name_form, name_long, not_admin, no_user, bad_descr, not_for_write, not_for_read, dir_search, dir_read, absent, present, mode_denied, dir_write, sticky, not_owner, chown_denied, attr_range, value_range, queue_count, byte_limit, descr_limit, prio_range, message_long, buffer_short, notify_taken, would_block, overflow, bad_key};
 ghost use Rattle.ipc_policy.specs.Verdict.{verdict};
 
 use crate::conditions::{
@@ -12,66 +12,68 @@ use crate::conditions::{
 };
 use crate::questions::{held_count, queues_alive};
 use bitflags::Flags;
+use ipc_access::{READ, SEARCH, WRITE};
 use ipc_names::{has_form, is_long};
 use ipc_policy::{
     DESCRIPTIONS_MAX, LIMIT_MAX, MQ_PRIO_MAX, Opening, description_of, naming_of, opening_of,
     unlinking_of,
 };
 use ipc_state::Lookup;
-use ipc_terms::{Call, EVERY_RULE, Event, OpenFlags, Rule};
+use ipc_terms::{Call, Event, OpenFlags, Rule};
 
-/// The rule of the lowest number that forbids the event, if one does.
-#[tactic(auto, unfolding(ipc_policy::specs::Verdict::verdict))]
+/// The first of these rules whose function says that it forbids the event, if there is one.
+macro_rules! first_of {
+    ($lookup:ident, $($rule:ident => $forbids:ident,)*) => {{
+        $(if $forbids($lookup) {
+            return Some(Rule::$rule);
+        })*
+        None
+    }};
+}
+
+/// The rule of the lowest number that forbids the event, if one does. The rules are inlined, since most are of another call,
+/// and calling them costs more than to see that.
+#[tactic(auto, unfolding(ipc_policy::specs::Verdict::verdict, ipc_policy::specs::Rules::forbids))]
 pub fn decide(lookup: &Lookup<'_>) -> Option<Rule>
     ensures { result ≡ verdict lookup.now.config lookup.now.history lookup.now.event }
 {
-    EVERY_RULE
-        .iter()
-        .copied()
-        .find(|rule| forbids(lookup, *rule))
-}
-
-/// Whether the rule forbids the event.
-#[tactic(auto, unfolding(ipc_policy::specs::Rules::forbids))]
-pub fn forbids(lookup: &Lookup<'_>, rule: Rule) -> bool
-    ensures { result ≡ forbids rule lookup.now.config lookup.now.history lookup.now.event }
-{
-    match rule {
-        Rule::NoSession => no_session(lookup),
-        Rule::InCall => in_call(lookup),
-        Rule::NotInCall => not_in_call(lookup),
-        Rule::NameForm => name_form(lookup),
-        Rule::NameLong => name_long(lookup),
-        Rule::NotAdmin => not_admin(lookup),
-        Rule::NoUser => no_user(lookup),
-        Rule::BadDescr => bad_descr(lookup),
-        Rule::NotForWrite => not_for_write(lookup),
-        Rule::NotForRead => not_for_read(lookup),
-        Rule::DirSearch => dir_search(lookup),
-        Rule::DirRead => dir_read(lookup),
-        Rule::Absent => absent(lookup),
-        Rule::Present => present(lookup),
-        Rule::ModeDenied => mode_denied(lookup),
-        Rule::DirWrite => dir_write(lookup),
-        Rule::Sticky => sticky(lookup),
-        Rule::NotOwner => not_owner(lookup),
-        Rule::ChownDenied => chown_denied(lookup),
-        Rule::AttrRange => attr_range(lookup),
-        Rule::ValueRange => value_range(lookup),
-        Rule::QueueCount => queue_count(lookup),
-        Rule::ByteLimit => byte_limit(lookup),
-        Rule::DescrLimit => descr_limit(lookup),
-        Rule::PrioRange => prio_range(lookup),
-        Rule::MessageLong => message_long(lookup),
-        Rule::BufferShort => buffer_short(lookup),
-        Rule::WouldBlock => would_block(lookup),
-        Rule::Overflow => overflow(lookup),
-        Rule::BadKey => bad_key(lookup),
-        Rule::NotifyTaken => notify_taken(lookup),
-    }
+    first_of!(lookup,
+        NoSession => no_session,
+        InCall => in_call,
+        NotInCall => not_in_call,
+        NameForm => name_form,
+        NameLong => name_long,
+        NotAdmin => not_admin,
+        NoUser => no_user,
+        BadDescr => bad_descr,
+        NotForWrite => not_for_write,
+        NotForRead => not_for_read,
+        DirSearch => dir_search,
+        DirRead => dir_read,
+        Absent => absent,
+        Present => present,
+        ModeDenied => mode_denied,
+        DirWrite => dir_write,
+        Sticky => sticky,
+        NotOwner => not_owner,
+        ChownDenied => chown_denied,
+        AttrRange => attr_range,
+        ValueRange => value_range,
+        QueueCount => queue_count,
+        ByteLimit => byte_limit,
+        DescrLimit => descr_limit,
+        PrioRange => prio_range,
+        MessageLong => message_long,
+        BufferShort => buffer_short,
+        NotifyTaken => notify_taken,
+        WouldBlock => would_block,
+        Overflow => overflow,
+        BadKey => bad_key,
+    )
 }
 
 /// A call or a hang-up of a session that is not live.
+#[inline(always)]
 #[tactic(auto, unfolding(ipc_policy::specs::Rules::no_session))]
 fn no_session(lookup: &Lookup<'_>) -> bool
     ensures { result ≡ no_session lookup.now.config lookup.now.history lookup.now.event }
@@ -83,6 +85,7 @@ fn no_session(lookup: &Lookup<'_>) -> bool
 }
 
 /// Any call but an interrupt while the session is parked; a hang-up is no call.
+#[inline(always)]
 #[tactic(auto, unfolding(ipc_policy::specs::Rules::in_call))]
 fn in_call(lookup: &Lookup<'_>) -> bool
     ensures { result ≡ in_call lookup.now.config lookup.now.history lookup.now.event }
@@ -98,6 +101,7 @@ fn in_call(lookup: &Lookup<'_>) -> bool
 }
 
 /// An interrupt while the session is not parked.
+#[inline(always)]
 #[tactic(auto, unfolding(ipc_policy::specs::Rules::not_in_call))]
 fn not_in_call(lookup: &Lookup<'_>) -> bool
     ensures { result ≡ not_in_call lookup.now.config lookup.now.history lookup.now.event }
@@ -112,6 +116,7 @@ fn not_in_call(lookup: &Lookup<'_>) -> bool
 }
 
 /// A named call, and the name has not the form of a name.
+#[inline(always)]
 #[tactic(auto, unfolding(ipc_policy::specs::Rules::name_form))]
 fn name_form(lookup: &Lookup<'_>) -> bool
     ensures { result ≡ name_form lookup.now.config lookup.now.history lookup.now.event }
@@ -123,6 +128,7 @@ fn name_form(lookup: &Lookup<'_>) -> bool
 }
 
 /// A named call, and the name has more bytes in all than its family's limit.
+#[inline(always)]
 #[tactic(auto, unfolding(ipc_policy::specs::Rules::name_long))]
 fn name_long(lookup: &Lookup<'_>) -> bool
     ensures { result ≡ name_long lookup.now.config lookup.now.history lookup.now.event }
@@ -134,6 +140,7 @@ fn name_long(lookup: &Lookup<'_>) -> bool
 }
 
 /// A SetLimit or an Audit, by another than user 0.
+#[inline(always)]
 #[tactic(auto, unfolding(ipc_policy::specs::Rules::not_admin))]
 fn not_admin(lookup: &Lookup<'_>) -> bool
     ensures { result ≡ not_admin lookup.now.config lookup.now.history lookup.now.event }
@@ -148,6 +155,7 @@ fn not_admin(lookup: &Lookup<'_>) -> bool
 }
 
 /// A SetLimit of no user of the file.
+#[inline(always)]
 #[tactic(auto, unfolding(ipc_policy::specs::Rules::no_user))]
 fn no_user(lookup: &Lookup<'_>) -> bool
     ensures { result ≡ no_user lookup.now.config lookup.now.history lookup.now.event }
@@ -163,6 +171,7 @@ fn no_user(lookup: &Lookup<'_>) -> bool
 
 /// A call that names a description, and the session does not hold it, or it gives an object of the
 /// other family.
+#[inline(always)]
 #[tactic(auto, unfolding(ipc_policy::specs::Rules::bad_descr))]
 fn bad_descr(lookup: &Lookup<'_>) -> bool
     ensures { result ≡ bad_descr lookup.now.config lookup.now.history lookup.now.event }
@@ -177,6 +186,7 @@ fn bad_descr(lookup: &Lookup<'_>) -> bool
 }
 
 /// A send by a description that was opened for reading alone.
+#[inline(always)]
 #[tactic(auto, unfolding(ipc_policy::specs::Rules::not_for_write))]
 fn not_for_write(lookup: &Lookup<'_>) -> bool
     ensures { result ≡ not_for_write lookup.now.config lookup.now.history lookup.now.event }
@@ -191,6 +201,7 @@ fn not_for_write(lookup: &Lookup<'_>) -> bool
 }
 
 /// A receive by a description that was opened for writing alone.
+#[inline(always)]
 #[tactic(auto, unfolding(ipc_policy::specs::Rules::not_for_read))]
 fn not_for_read(lookup: &Lookup<'_>) -> bool
     ensures { result ≡ not_for_read lookup.now.config lookup.now.history lookup.now.event }
@@ -205,17 +216,19 @@ fn not_for_read(lookup: &Lookup<'_>) -> bool
 }
 
 /// A named call, and search on the family's directory is not granted.
+#[inline(always)]
 #[tactic(auto, unfolding(ipc_policy::specs::Rules::dir_search))]
 fn dir_search(lookup: &Lookup<'_>) -> bool
     ensures { result ≡ dir_search lookup.now.config lookup.now.history lookup.now.event }
 {
     match naming_of(lookup.event()) {
-        Some(what) => is_denied(lookup.cred(), lookup.directory(what.family), 1),
+        Some(what) => is_denied(lookup.cred(), lookup.directory(what.family), SEARCH),
         None => false,
     }
 }
 
 /// A listing, and read on the directory is not granted.
+#[inline(always)]
 #[tactic(auto, unfolding(ipc_policy::specs::Rules::dir_read))]
 fn dir_read(lookup: &Lookup<'_>) -> bool
     ensures { result ≡ dir_read lookup.now.config lookup.now.history lookup.now.event }
@@ -224,12 +237,13 @@ fn dir_read(lookup: &Lookup<'_>) -> bool
         Event::Do {
             call: Call::ListNames { family, .. },
             ..
-        } => { is_denied(lookup.cred(), lookup.directory(*family), 4) }
+        } => { is_denied(lookup.cred(), lookup.directory(*family), READ) }
         _ => false,
     }
 }
 
 /// An open without CREAT, or a named call that is no open, and the name is unbound.
+#[inline(always)]
 #[tactic(auto, unfolding(ipc_policy::specs::Rules::absent))]
 fn absent(lookup: &Lookup<'_>) -> bool
     ensures { result ≡ absent lookup.now.config lookup.now.history lookup.now.event }
@@ -241,6 +255,7 @@ fn absent(lookup: &Lookup<'_>) -> bool
 }
 
 /// An open with CREAT and EXCL, and the name is bound.
+#[inline(always)]
 #[tactic(auto, unfolding(ipc_policy::specs::Rules::present))]
 fn present(lookup: &Lookup<'_>) -> bool
     ensures { result ≡ present lookup.now.config lookup.now.history lookup.now.event }
@@ -256,6 +271,7 @@ fn present(lookup: &Lookup<'_>) -> bool
 }
 
 /// An open of a bound name, and the object does not grant the wanted access.
+#[inline(always)]
 #[tactic(auto, unfolding(ipc_policy::specs::Rules::mode_denied))]
 fn mode_denied(lookup: &Lookup<'_>) -> bool
     ensures { result ≡ mode_denied lookup.now.config lookup.now.history lookup.now.event }
@@ -267,22 +283,24 @@ fn mode_denied(lookup: &Lookup<'_>) -> bool
 }
 
 /// A creating open, or an unlink, and write on the directory is not granted.
+#[inline(always)]
 #[tactic(auto, unfolding(ipc_policy::specs::Rules::dir_write))]
 fn dir_write(lookup: &Lookup<'_>) -> bool
     ensures { result ≡ dir_write lookup.now.config lookup.now.history lookup.now.event }
 {
     if let Some(asked) = opening_of(lookup.event()) {
         return is_creating(lookup, &asked)
-            && is_denied(lookup.cred(), lookup.directory(asked.family), 2);
+            && is_denied(lookup.cred(), lookup.directory(asked.family), WRITE);
     }
     match unlinking_of(lookup.event()) {
-        Some(what) => is_denied(lookup.cred(), lookup.directory(what.family), 2),
+        Some(what) => is_denied(lookup.cred(), lookup.directory(what.family), WRITE),
         None => false,
     }
 }
 
 /// An unlink of a bound name in a sticky directory, by another than user 0, the object's owner
 /// and the directory's.
+#[inline(always)]
 #[tactic(auto, unfolding(ipc_policy::specs::Rules::sticky))]
 fn sticky(lookup: &Lookup<'_>) -> bool
     ensures { result ≡ sticky lookup.now.config lookup.now.history lookup.now.event }
@@ -298,6 +316,7 @@ fn sticky(lookup: &Lookup<'_>) -> bool
 }
 
 /// A chmod, by another than user 0 and the owner of what is meant.
+#[inline(always)]
 #[tactic(auto, unfolding(ipc_policy::specs::Rules::not_owner))]
 fn not_owner(lookup: &Lookup<'_>) -> bool
     ensures { result ≡ not_owner lookup.now.config lookup.now.history lookup.now.event }
@@ -313,6 +332,7 @@ fn not_owner(lookup: &Lookup<'_>) -> bool
 
 /// A chown, by another than user 0 and an owner that stays the owner and keeps the group or takes
 /// one of its own.
+#[inline(always)]
 #[tactic(auto, unfolding(ipc_policy::specs::Rules::chown_denied))]
 fn chown_denied(lookup: &Lookup<'_>) -> bool
     ensures { result ≡ chown_denied lookup.now.config lookup.now.history lookup.now.event }
@@ -331,6 +351,7 @@ fn chown_denied(lookup: &Lookup<'_>) -> bool
 }
 
 /// A creating open with attributes that are 0 or above the caller's limits.
+#[inline(always)]
 #[tactic(auto, unfolding(ipc_policy::specs::Rules::attr_range))]
 fn attr_range(lookup: &Lookup<'_>) -> bool
     ensures { result ≡ attr_range lookup.now.config lookup.now.history lookup.now.event }
@@ -346,6 +367,7 @@ fn attr_range(lookup: &Lookup<'_>) -> bool
 
 /// A creating open of a semaphore with a first value above 2,147,483,647, or a SetLimit above
 /// 1,000,000,000,000,000.
+#[inline(always)]
 #[tactic(auto, unfolding(ipc_policy::specs::Rules::value_range))]
 fn value_range(lookup: &Lookup<'_>) -> bool
     ensures { result ≡ value_range lookup.now.config lookup.now.history lookup.now.event }
@@ -364,6 +386,7 @@ fn value_range(lookup: &Lookup<'_>) -> bool
 }
 
 /// A creating open of a queue, by another than user 0, while `queues_max` queues or more are alive.
+#[inline(always)]
 #[tactic(auto, unfolding(ipc_policy::specs::Rules::queue_count))]
 fn queue_count(lookup: &Lookup<'_>) -> bool
     ensures { result ≡ queue_count lookup.now.config lookup.now.history lookup.now.event }
@@ -379,6 +402,7 @@ fn queue_count(lookup: &Lookup<'_>) -> bool
 
 /// A creating open of a queue, and the caller's queues and the new one take more bytes together than
 /// the caller's limit.
+#[inline(always)]
 #[tactic(auto, unfolding(ipc_policy::specs::Rules::byte_limit))]
 fn byte_limit(lookup: &Lookup<'_>) -> bool
     ensures { result ≡ byte_limit lookup.now.config lookup.now.history lookup.now.event }
@@ -395,6 +419,7 @@ fn byte_limit(lookup: &Lookup<'_>) -> bool
 }
 
 /// An open while the session holds 1,024 descriptions.
+#[inline(always)]
 #[tactic(auto, unfolding(ipc_policy::specs::Rules::descr_limit))]
 fn descr_limit(lookup: &Lookup<'_>) -> bool
     ensures { result ≡ descr_limit lookup.now.config lookup.now.history lookup.now.event }
@@ -406,6 +431,7 @@ fn descr_limit(lookup: &Lookup<'_>) -> bool
 }
 
 /// A send with a priority of 32,768 or more.
+#[inline(always)]
 #[tactic(auto, unfolding(ipc_policy::specs::Rules::prio_range))]
 fn prio_range(lookup: &Lookup<'_>) -> bool
     ensures { result ≡ prio_range lookup.now.config lookup.now.history lookup.now.event }
@@ -420,6 +446,7 @@ fn prio_range(lookup: &Lookup<'_>) -> bool
 }
 
 /// A send that is longer than the queue's message size.
+#[inline(always)]
 #[tactic(auto, unfolding(ipc_policy::specs::Rules::message_long))]
 fn message_long(lookup: &Lookup<'_>) -> bool
     ensures { result ≡ message_long lookup.now.config lookup.now.history lookup.now.event }
@@ -434,6 +461,7 @@ fn message_long(lookup: &Lookup<'_>) -> bool
 }
 
 /// A receive with a length below the queue's message size.
+#[inline(always)]
 #[tactic(auto, unfolding(ipc_policy::specs::Rules::buffer_short))]
 fn buffer_short(lookup: &Lookup<'_>) -> bool
     ensures { result ≡ buffer_short lookup.now.config lookup.now.history lookup.now.event }
@@ -448,6 +476,7 @@ fn buffer_short(lookup: &Lookup<'_>) -> bool
 }
 
 /// A notify on, and the queue has a registration.
+#[inline(always)]
 #[tactic(auto, unfolding(ipc_policy::specs::Rules::notify_taken))]
 fn notify_taken(lookup: &Lookup<'_>) -> bool
     ensures { result ≡ notify_taken lookup.now.config lookup.now.history lookup.now.event }
@@ -463,6 +492,7 @@ fn notify_taken(lookup: &Lookup<'_>) -> bool
 
 /// A send to a full queue, or a receive from an empty one, by a description with NONBLOCK; a trywait
 /// at 0.
+#[inline(always)]
 #[tactic(auto, unfolding(ipc_policy::specs::Rules::would_block))]
 fn would_block(lookup: &Lookup<'_>) -> bool
     ensures { result ≡ would_block lookup.now.config lookup.now.history lookup.now.event }
@@ -479,6 +509,7 @@ fn would_block(lookup: &Lookup<'_>) -> bool
 }
 
 /// A post at 2,147,483,647.
+#[inline(always)]
 #[tactic(auto, unfolding(ipc_policy::specs::Rules::overflow))]
 fn overflow(lookup: &Lookup<'_>) -> bool
     ensures { result ≡ overflow lookup.now.config lookup.now.history lookup.now.event }
@@ -493,6 +524,7 @@ fn overflow(lookup: &Lookup<'_>) -> bool
 }
 
 /// A hello for no user of the file.
+#[inline(always)]
 #[tactic(auto, unfolding(ipc_policy::specs::Rules::bad_key))]
 fn bad_key(lookup: &Lookup<'_>) -> bool
     ensures { result ≡ bad_key lookup.now.config lookup.now.history lookup.now.event }

@@ -7,7 +7,7 @@ ghost use Rattle.std.specs.List.{list_all};
 ghost use Rattle.std.specs.Option.{option_map};
 ghost use Rattle.ipc_script.specs.Labels.{is_label_byte, label_form, newest_of, starter_of};
 
-use ipc_terms::{Sid, push_within};
+use ipc_terms::Sid;
 use std::alloc::{AllocError, Global};
 use std::collections::BTreeMap;
 use std::marker::Model;
@@ -104,7 +104,7 @@ impl Labels {
         self.started.reserve(1)?;
         let place = self.started.len();
         enter(alloc, &mut self.newest, &mut self.places, label, sid, place)?;
-        push_within(&mut self.started, started);
+        self.started.push_reserved(started);
         Ok(())
     }
 

@@ -7,7 +7,6 @@ use crate::links::{Link, LinkReader, LinkWriter, Listen};
 use crate::serve::serve_connection;
 use crossbeam_channel::{Receiver, Sender, bounded};
 use ipc_book::{Seat, Shared};
-use ipc_terms::push_within;
 use std::alloc::Global;
 use std::io::ErrorKind;
 use std::sync::Wait;
@@ -102,7 +101,7 @@ fn seat_all<L: Ledger, R: Wait>(
         let Ok(seat) = shared.seat(rt, alloc) else {
             return (seats, false);
         };
-        push_within(&mut seats, seat);
+        seats.push_reserved(seat);
     }
     (seats, true)
 }
@@ -170,11 +169,11 @@ fn start_all<
 {
     while let Some(seat) = seats.pop() {
         match scope.spawn(move || work(rt, crew, seat)) {
-            Ok(handle) => push_within(handles, handle),
+            Ok(handle) => handles.push_reserved(handle),
             Err(refused) => {
                 // There is no thread for it, so it ends here, at once: nobody sends any more.
                 drop(sender);
-                push_within(seats, (refused.value)());
+                seats.push_reserved((refused.value)());
                 return None;
             }
         }
@@ -192,7 +191,7 @@ fn join_all<L: Ledger, R: Threads>(
     ensures { vec_len seats.new ≡ vec_len seats.old + vec_len handles }
 {
     for handle in handles {
-        push_within(seats, handle.join(rt));
+        seats.push_reserved(handle.join(rt));
     }
 }
 

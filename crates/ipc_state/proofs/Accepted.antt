@@ -31,19 +31,19 @@ use Rattle.ipc_policy.specs.Descriptions.{holds}
 use Rattle.ipc_policy.specs.Rules.{there_is, is_of_family, not_held, out_of_range, above_limit, queue_made}
 use Rattle.ipc_policy.specs.Charges.{limit}
 use Rattle.ipc_policy.specs.Verdict.{verdict}
-use Rattle.ipc_policy.proofs.Known.{bound_iff}
+use Rattle.ipc_policy.proofs.Histories.Known.{bound_iff}
 use Rattle.ipc_tables.specs.declared.rows.Session.{Session}
 use Rattle.ipc_terms.specs.Objects.{family_of, of_queue, as_queue, of_semaphore, as_semaphore, attributes_asked, value_asked}
 use Rattle.ipc_terms.specs.declared.object.Kind.{Kind}
 use Rattle.ipc_terms.specs.declared.object.Kind.TheVariants.{Queue as QueueKind, Semaphore as SemaphoreKind}
 use Rattle.ipc_tables.specs.Objects.{HasRoom}
-use Rattle.ipc_tables.specs.Kept.{Kept, is_live_row, live_at}
+use Rattle.ipc_tables.specs.TablesView.{TablesView, is_live_row, live_at}
 use Rattle.ipc_state.specs.Agrees.{Agrees, SessionsAgree, ChargesAgree}
 use Rattle.ipc_state.specs.Ranges.{first_bad}
 use Rattle.ipc_state.specs.declared.limits.Field.TheVariants.{MsgMax, MsgsizeMax}
-use Rattle.ipc_policy.proofs.Unforbidden.{off, caller_live, leaver_live}
-use Rattle.ipc_policy.proofs.OpenAccepted.{open_there, open_in_range, open_value_in_range, open_within_limit}
-use Rattle.ipc_policy.proofs.Limiting.{caller_limited}
+use Rattle.ipc_policy.proofs.Histories.Unforbidden.{off, caller_live, leaver_live}
+use Rattle.ipc_policy.proofs.Directories.OpenAccepted.{open_there, open_in_range, open_value_in_range, open_within_limit}
+use Rattle.ipc_policy.proofs.Queues.Limiting.{caller_limited}
 use Rattle.ipc_descr.specs.declared.charges.Charge.{Charge}
 use Rattle.ipc_tables.specs.Charging.{Affords}
 use Rattle.ipc_state.proofs.ChargeTables.{affords_kind}
@@ -145,9 +145,12 @@ attributes_range c who (Some given) e k =
     let part3 = or_off _ _ part2.0 in
     ((not_zero given.maxmsg part3.0, under (eqb who.uid.0 0) 65536 c.limits.msg_max given.maxmsg range.0.1 part2.1), (not_zero given.msgsize part3.1, under (eqb who.uid.0 0) 16777216 c.limits.msgsize_max given.msgsize range.1.1 part1.1))
 
--- an accepted call's session stands in the table
-pub caller_within : (c : Config) (h : History) (t : Kept) (sid : Sid) (call : Call) → Agrees c h t → verdict c h (Do sid call) ≡ None → sid.0 < length t.sessions
-caller_within c h t sid call a e = within_live t.sessions sid.0 (a.sessions.lives sid.0 ∙ caller_live c h sid call e)
+-- an accepted call's session is live, so it stands in the table
+pub caller_lives : (c : Config) (h : History) (t : TablesView) (sid : Sid) (call : Call) → Agrees c h t → verdict c h (Do sid call) ≡ None → live_at t.sessions sid.0 ≡ true
+caller_lives c h t sid call a e = a.sessions.lives sid.0 ∙ caller_live c h sid call e
+
+pub caller_within : (c : Config) (h : History) (t : TablesView) (sid : Sid) (call : Call) → Agrees c h t → verdict c h (Do sid call) ≡ None → sid.0 < length t.sessions
+caller_within c h t sid call a e = within_live t.sessions sid.0 (caller_lives c h t sid call a e)
 
 pub opener_live : (c : Config) (h : History) (e : Event) (asked : Opening) → opening e ≡ Some asked → verdict c h e ≡ None → live h asked.session.0 ≡ true
 opener_live c h (Do sid (MqOpen given)) asked k accepted = let same : queue_opening sid given ≡ asked = cc in subst (λ (a : Opening). live h a.session.0 ≡ true) same (caller_live c h sid (MqOpen given) accepted)
@@ -156,7 +159,10 @@ opener_live c h (Do sid call) asked k accepted = absurd cc
 opener_live c h (Hello found) asked k accepted = absurd cc
 opener_live c h (Hangup sid) asked k accepted = absurd cc
 
-pub leaver_within : (c : Config) (h : History) (t : Kept) (sid : Sid) → Agrees c h t → verdict c h (Hangup sid) ≡ None → sid.0 < length t.sessions
+pub opener_row : (c : Config) (h : History) (e : Event) (asked : Opening) (xs : List Session) (sid : Sid) (row : Session) → SessionsAgree c h xs → opening e ≡ Some asked → verdict c h e ≡ None → sid ≡ asked.session → slice_get xs sid.0 ≡ Some row → row.is_live ≡ true
+opener_row c h e asked xs sid row a is accepted same there = sym (ap is_live_row there) ∙ a.lives sid.0 ∙ subst (λ (s : Sid). live h s.0 ≡ true) (sym same) (opener_live c h e asked is accepted)
+
+pub leaver_within : (c : Config) (h : History) (t : TablesView) (sid : Sid) → Agrees c h t → verdict c h (Hangup sid) ≡ None → sid.0 < length t.sessions
 leaver_within c h t sid a e = within_live t.sessions sid.0 (a.sessions.lives sid.0 ∙ leaver_live c h sid e)
 
 -- an accepted open of an unbound name creates, and what it creates has its room

@@ -1,7 +1,7 @@
 -- What each accepted event does to the tables keeps them the history's.
 use Rattle.std.proofs.Common.{◌≡◌, ℕ, find, filter, ◌%◌, ◌<◌, Bool, true, false, not, eqb, cond, List, [], ◌∷◌, length, Option, Some, None, is_some, refl, sym, ap, subst, ◌∙◌}
 use Rattle.std.specs.Option.{option_map}
-use Rattle.std.proofs.lemmas.Bool.{eqb-true, ne_eqb}
+use Rattle.std.proofs.lemmas.Bool.{eqb-true, eq-eqb, ne_eqb}
 use Rattle.ipc_terms.specs.declared.rule.Rule.{Rule}
 use Rattle.ipc_terms.specs.declared.ids.Uid.{Uid}
 use Rattle.ipc_terms.specs.declared.ids.Sid.{Sid}
@@ -22,9 +22,9 @@ use Rattle.ipc_policy.specs.declared.config.Config.{Config}
 use Rattle.ipc_policy.specs.declared.config.Held.{Held}
 use Rattle.ipc_policy.specs.declared.config.Registration.{Registration}
 use Rattle.ipc_policy.specs.Registrations.{registered}
-use Rattle.ipc_policy.proofs.Registering.{IsHeldFor, registered_held}
-use Rattle.ipc_policy.proofs.RegisteredSteps.{registered_stays, registered_send_other, registered_on, registered_on_other, registered_off, registered_hangup, other_s_description}
-use Rattle.ipc_policy.proofs.Creating.{holds_is_held}
+use Rattle.ipc_policy.proofs.Queues.Registering.{IsHeldFor, registered_held}
+use Rattle.ipc_policy.proofs.Queues.RegisteredSteps.{registered_stays, registered_send_other, registered_on, registered_on_other, registered_off, registered_hangup, other_s_description}
+use Rattle.ipc_policy.proofs.Directories.Creating.{holds_is_held}
 use Rattle.ipc_terms.proofs.Lists.{eqb_swapped}
 use Rattle.ipc_policy.specs.History.{History, after_accepted, kept, there_is, gathered_below}
 use Rattle.ipc_policy.specs.Sessions.{hellos, user, live, cred, mask}
@@ -36,17 +36,17 @@ use Rattle.ipc_policy.specs.Queues.{Withdraws, queue, queue_after, maxmsg}
 use Rattle.ipc_policy.specs.Semaphores.{Cancels, semaphore, semaphore_after, with_first}
 use Rattle.ipc_terms.specs.declared.object.Object.{Object}
 use Rattle.ipc_policy.specs.Charges.{sets_limit, limit}
-use Rattle.ipc_policy.proofs.Bindings.{object_with_facts}
+use Rattle.ipc_policy.proofs.Directories.Bindings.{object_with_facts}
 use Rattle.ipc_policy.specs.Parking.{Parked, parked}
 use Rattle.ipc_policy.specs.Laws.{SameValues}
 use Rattle.ipc_policy.specs.Grow.{Grows, hellos_after, user_after, live_after, mask_after, nonblock_after, named_after, held_after, opens_after, bindings_after, creations_after, made_after, first_value}
 use Rattle.ipc_policy.specs.Verdict.{verdict, Legal}
-use Rattle.ipc_policy.proofs.Holding.{kept_all}
-use Rattle.ipc_policy.proofs.Grown.{grows}
-use Rattle.ipc_policy.proofs.Refused.{same_values}
-use Rattle.ipc_policy.proofs.ParkedSessions.{withdrawn_elsewhere, cancelled_elsewhere, if_of_is, session_is}
-use Rattle.ipc_policy.proofs.WaitSteps.{semaphore_by_others, semaphore_by_send, semaphore_by_receive, semaphore_by_post, semaphore_by_wait, semaphore_by_try, semaphore_by_interrupt, semaphore_by_hangup, queue_by_post, queue_by_wait, queue_by_try, parked_by_try}
-use Rattle.ipc_policy.proofs.ParkedSteps.{moves, parked_by_others, queue_by_others, queue_by_send, queue_by_receive, queue_by_interrupt, queue_by_hangup}
+use Rattle.ipc_policy.proofs.Holdings.Holding.{kept_all}
+use Rattle.ipc_policy.proofs.Histories.Grown.{grows}
+use Rattle.ipc_policy.proofs.Histories.Refused.{same_values}
+use Rattle.ipc_policy.proofs.Blocked.ParkedSessions.{withdrawn_elsewhere, cancelled_elsewhere, if_of_is, session_is}
+use Rattle.ipc_policy.proofs.Blocked.WaitSteps.{semaphore_by_others, semaphore_by_send, semaphore_by_receive, semaphore_by_post, semaphore_by_wait, semaphore_by_try, semaphore_by_interrupt, semaphore_by_hangup, queue_by_post, queue_by_wait, queue_by_try, parked_by_try}
+use Rattle.ipc_policy.proofs.Blocked.ParkedSteps.{moves, parked_by_others, queue_by_others, queue_by_send, queue_by_receive, queue_by_interrupt, queue_by_hangup}
 use Rattle.ipc_queue.specs.Tickets.{Tickets, sent, received, with_registration, without_registration}
 use Rattle.ipc_sem.specs.Counters.{Counter, posted, waited, tried}
 use Rattle.ipc_tables.specs.Objects.{with_body, with_counter, without_call}
@@ -56,7 +56,7 @@ use Rattle.ipc_tables.specs.declared.rows.Session.{Session}
 use Rattle.ipc_terms.specs.Lists.{changed}
 use Rattle.ipc_descr.specs.declared.charges.Charge.{Charge}
 use Rattle.ipc_descr.specs.Descriptions.{Descriptions, is_of, is_desc}
-use Rattle.ipc_tables.specs.Kept.{Kept, parked_on_at, is_kept}
+use Rattle.ipc_tables.specs.TablesView.{TablesView, parked_on_at, is_kept}
 use Rattle.ipc_tables.specs.Charging.{settled}
 use Rattle.ipc_tables.specs.Steps.{hung_up, living, ended, after_hello, after_umask, after_send, after_receive, after_post, after_wait, after_try, after_withdrawal, after_setattr, after_limit, after_notify, after_hangup, first_tables}
 use Rattle.ipc_state.specs.Ranges.{first_bad}
@@ -68,7 +68,7 @@ use Rattle.ipc_state.proofs.SessionTables.{Columns, columns_of, columns_moved, s
 use Rattle.ipc_state.proofs.ParkedColumn.{parked_object, column_by_send, column_by_receive, column_by_post, column_by_wait, column_by_interrupt, column_by_hangup}
 use Rattle.ipc_state.proofs.Posting.{sessions_posted, sessions_waited, counter_posted, counter_waited, counter_tried, counter_cancelled}
 use Rattle.ipc_state.proofs.Serving.{IsHereQueue, IsHereSemaphore, is_open, none_receives, none_sends, sessions_sent, sessions_received, queue_sent, queue_received, queue_withdrawn, registered_receive}
-use Rattle.ipc_policy.proofs.Facts.{GivesNothing, facts_made, directory_left}
+use Rattle.ipc_policy.proofs.Directories.Facts.{GivesNothing, facts_made, directory_left}
 use Rattle.ipc_state.proofs.ObjectTables.{directory_kept, rows_kept, objects_kept, alive_kept, alive_less, objects_left, rows_changed, descriptions_kept, descriptions_dropped, descriptions_set, released, left_in}
 
 -- an event that says nothing of names, objects and descriptions
@@ -104,7 +104,7 @@ charges_left : (c : Config) (h : History) (e : Event) (charges : List Charge) �
 charges_left c h e charges u none a = charges_kept c h (after_accepted h e) charges (λ v. limit_left c h e v (none v)) (λ v. charged_same c h (after_accepted h e) v (alive_same c h (after_accepted h e) u) u.object' u.creations') a
 
 -- it leaves their tables, whatever it does to the sessions and to what stands in the objects
-pub left_alone : (c : Config) (h k : History) (t : Kept) (ss : List Session) (rows : List ObjectRow) → Untouched c h k → ((s d : ℕ) → is_nonblock k s d ≡ is_nonblock h s d) → ChargesAgree c k t.charges → SessionsAgree c k ss → ObjectsAgree c k rows t.created → Agrees c h t → Agrees c k (record t { sessions = ss; objects = rows })
+pub left_alone : (c : Config) (h k : History) (t : TablesView) (ss : List Session) (rows : List ObjectRow) → Untouched c h k → ((s d : ℕ) → is_nonblock k s d ≡ is_nonblock h s d) → ChargesAgree c k t.charges → SessionsAgree c k ss → ObjectsAgree c k rows t.created → Agrees c h t → Agrees c k (record t { sessions = ss; objects = rows })
 left_alone c h k t ss rows u n charges' sessions' objects' a = record {
   sessions = sessions';
   queues = record { bound = a.queues.bound ∙ sym (u.bindings' Mq); facts = a.queues.facts ∙ sym (u.directory' Mq) };
@@ -115,7 +115,7 @@ left_alone c h k t ss rows u n charges' sessions' objects' a = record {
 }
 
 -- and the objects too, where it says nothing of what stands in them
-pub objects_same : (c : Config) (h k : History) (t : Kept) → Untouched c h k → ((o : ℕ) → inside c k o ≡ inside c h o) → Agrees c h t → ObjectsAgree c k t.objects t.created
+pub objects_same : (c : Config) (h k : History) (t : TablesView) → Untouched c h k → ((o : ℕ) → inside c k o ≡ inside c h o) → Agrees c h t → ObjectsAgree c k t.objects t.created
 objects_same c h k t u q a = objects_kept c h k t.objects t.created (alive_same c h k u) u.object' u.facts' q u.creations' a.objects
 
 -- what stands in an object stays, where its queue and its semaphore do
@@ -130,16 +130,16 @@ pub within : (c : Config) (h : History) (e : Event) (o : ℕ) → moves e ≡ fa
 within c h e o still none = rw (queue_by_others c h e o still, semaphore_by_others h e o still ∙ ap (λ v. with_first v (semaphore h o)) none) refl
 
 -- a refused event
-agrees_as : (c : Config) (h k : History) (t : Kept) → SameValues c k h → Agrees c h t → Agrees c k t
+agrees_as : (c : Config) (h k : History) (t : TablesView) → SameValues c k h → Agrees c h t → Agrees c k t
 agrees_as c h k t q a =
     let u : Untouched c h k = record { named' = q.named; held' = q.held; opens' = q.opens; bindings' = q.bindings; directory' = q.directory; creations' = q.creations; object' = q.object; facts' = q.facts } in
     left_alone c h k t t.sessions t.objects u q.is_nonblock
     (charges_kept c h k t.charges q.limit q.charged a.charges)
-    (record { users = λ s. a.sessions.users s ∙ sym (q.user s); masks = λ s row is. a.sessions.masks s row is ∙ sym (q.mask s); lives = λ s. a.sessions.lives s ∙ sym (q.live s); parks = λ s. a.sessions.parks s ∙ sym (ap (option_map (λ (p : Parked). p.object)) (q.parked s)); count = a.sessions.count ∙ sym q.hellos })
+    (record { users = λ s. a.sessions.users s ∙ sym (q.user s); masks = λ s row is lives. a.sessions.masks s row is lives ∙ sym (q.mask s); lives = λ s. a.sessions.lives s ∙ sym (q.live s); parks = λ s. a.sessions.parks s ∙ sym (ap (option_map (λ (p : Parked). p.object)) (q.parked s)); count = a.sessions.count ∙ sym q.hellos })
     (objects_same c h k t u (λ o. inside_same c h k o (q.queue o) (q.registered o) (q.semaphore o)) a) a
 
 -- an accepted hello
-pub agrees_begun : (c : Config) (h : History) (t : Kept) (uid : Uid) → IsCore c h t → Agrees c (after_accepted h (Hello (Some uid))) (after_hello t uid)
+pub agrees_begun : (c : Config) (h : History) (t : TablesView) (uid : Uid) → IsCore c h t → Agrees c (after_accepted h (Hello (Some uid))) (after_hello t uid)
 agrees_begun c h t uid k =
     let e = Hello (Some uid) in
     let g = grows c h e in
@@ -147,7 +147,7 @@ agrees_begun c h t uid k =
     left_alone c h _ t _ t.objects u g.nonblock_of (charges_left c h e t.charges u (λ v. refl) k.agrees.charges) (sessions_begun c h t.sessions uid k.legal g k.agrees.sessions) (objects_same c h _ t u (λ o. others_inside c h e o refl (registered_stays c h e o refl (λ x k. refl)) refl) k.agrees) k.agrees
 
 -- an accepted umask
-pub agrees_masked : (c : Config) (h : History) (t : Kept) (sid : Sid) (m : Mode) → Agrees c h t → Agrees c (after_accepted h (Do sid (Umask m))) (after_umask t sid.0 (record { 0 = m.0 % 512 }))
+pub agrees_masked : (c : Config) (h : History) (t : TablesView) (sid : Sid) (m : Mode) → Agrees c h t → Agrees c (after_accepted h (Do sid (Umask m))) (after_umask t sid.0 (record { 0 = m.0 % 512 }))
 agrees_masked c h t sid m a =
     let e = Do sid (Umask m) in
     let g = grows c h e in
@@ -155,28 +155,28 @@ agrees_masked c h t sid m a =
     left_alone c h _ t _ t.objects u g.nonblock_of (charges_left c h e t.charges u (λ v. refl) a.charges) (sessions_masked c h t.sessions sid m g a.sessions) (objects_same c h _ t u (λ o. others_inside c h e o refl (registered_stays c h e o refl (λ x k. refl)) refl) a) a
 
 -- a question changes nothing
-asked : (c : Config) (h : History) (t : Kept) (e : Event) → Untouched c h (after_accepted h e) → ((v : Uid) → sets_limit v e h ≡ None) → ((o : ℕ) → registered c (after_accepted h e) o ≡ registered c h o) → moves e ≡ false → ((o : ℕ) → first_value o e (is_bound h) (creations h) ≡ None) → hellos_after e (hellos h) ≡ hellos h → ((s : ℕ) → user_after s e (hellos h) (user h s) ≡ user h s) → ((s : ℕ) → live_after s e (hellos h) (live h s) ≡ live h s) → ((s : ℕ) → mask_after s e (mask h s) ≡ mask h s) → ((s d : ℕ) → nonblock_after s d e (opens h) (is_nonblock h s d) ≡ is_nonblock h s d) → Agrees c h t → Agrees c (after_accepted h e) t
+asked : (c : Config) (h : History) (t : TablesView) (e : Event) → Untouched c h (after_accepted h e) → ((v : Uid) → sets_limit v e h ≡ None) → ((o : ℕ) → registered c (after_accepted h e) o ≡ registered c h o) → moves e ≡ false → ((o : ℕ) → first_value o e (is_bound h) (creations h) ≡ None) → hellos_after e (hellos h) ≡ hellos h → ((s : ℕ) → user_after s e (hellos h) (user h s) ≡ user h s) → ((s : ℕ) → live_after s e (hellos h) (live h s) ≡ live h s) → ((s : ℕ) → mask_after s e (mask h s) ≡ mask h s) → ((s d : ℕ) → nonblock_after s d e (opens h) (is_nonblock h s d) ≡ is_nonblock h s d) → Agrees c h t → Agrees c (after_accepted h e) t
 asked c h t e u limits stays still none n w l m b a =
     let g = grows c h e in
     left_alone c h _ t t.sessions t.objects u (λ s d. g.nonblock_of s d ∙ b s d) (charges_left c h e t.charges u limits a.charges) (sessions_kept c h _ e t.sessions g n w l m (λ s. parked_by_others c h e s still) a.sessions) (objects_same c h _ t u (λ o. others_inside c h e o still (stays o) (none o)) a) a
 
-pub agrees_listed : (c : Config) (h : History) (t : Kept) (sid : Sid) (family : Family) (start count : ℕ) → Agrees c h t → Agrees c (after_accepted h (Do sid (ListNames family start count))) t
+pub agrees_listed : (c : Config) (h : History) (t : TablesView) (sid : Sid) (family : Family) (start count : ℕ) → Agrees c h t → Agrees c (after_accepted h (Do sid (ListNames family start count))) t
 agrees_listed c h t sid family start count =
     asked c h t (Do sid (ListNames family start count)) (untouched c h (Do sid (ListNames family start count)) (record { owner = λ m. refl; group = λ m. refl; mode = λ m. refl }) (λ o. refl) (λ d. refl) refl (λ f. refl) refl (λ o. refl) (λ o. refl)) (λ v. refl) (λ o. registered_stays c h _ o refl (λ x k. refl)) refl (λ o. refl) refl (λ s. refl) (λ s. refl) (λ s. refl) (λ s d. refl)
 
-pub agrees_told : (c : Config) (h : History) (t : Kept) (sid : Sid) (target : Target) → Agrees c h t → Agrees c (after_accepted h (Do sid (StatName target))) t
+pub agrees_told : (c : Config) (h : History) (t : TablesView) (sid : Sid) (target : Target) → Agrees c h t → Agrees c (after_accepted h (Do sid (StatName target))) t
 agrees_told c h t sid target =
     asked c h t (Do sid (StatName target)) (untouched c h (Do sid (StatName target)) (record { owner = λ m. refl; group = λ m. refl; mode = λ m. refl }) (λ o. refl) (λ d. refl) refl (λ f. refl) refl (λ o. refl) (λ o. refl)) (λ v. refl) (λ o. registered_stays c h _ o refl (λ x k. refl)) refl (λ o. refl) refl (λ s. refl) (λ s. refl) (λ s. refl) (λ s d. refl)
 
-pub agrees_asked : (c : Config) (h : History) (t : Kept) (sid : Sid) (desc : Desc) → Agrees c h t → Agrees c (after_accepted h (Do sid (MqGetattr desc))) t
+pub agrees_asked : (c : Config) (h : History) (t : TablesView) (sid : Sid) (desc : Desc) → Agrees c h t → Agrees c (after_accepted h (Do sid (MqGetattr desc))) t
 agrees_asked c h t sid desc =
     asked c h t (Do sid (MqGetattr desc)) (untouched c h (Do sid (MqGetattr desc)) (record { owner = λ m. refl; group = λ m. refl; mode = λ m. refl }) (λ o. refl) (λ d. refl) refl (λ f. refl) refl (λ o. refl) (λ o. refl)) (λ v. refl) (λ o. registered_stays c h _ o refl (λ x k. refl)) refl (λ o. refl) refl (λ s. refl) (λ s. refl) (λ s. refl) (λ s d. refl)
 
-pub agrees_valued : (c : Config) (h : History) (t : Kept) (sid : Sid) (desc : Desc) → Agrees c h t → Agrees c (after_accepted h (Do sid (SemGetvalue desc))) t
+pub agrees_valued : (c : Config) (h : History) (t : TablesView) (sid : Sid) (desc : Desc) → Agrees c h t → Agrees c (after_accepted h (Do sid (SemGetvalue desc))) t
 agrees_valued c h t sid desc =
     asked c h t (Do sid (SemGetvalue desc)) (untouched c h (Do sid (SemGetvalue desc)) (record { owner = λ m. refl; group = λ m. refl; mode = λ m. refl }) (λ o. refl) (λ d. refl) refl (λ f. refl) refl (λ o. refl) (λ o. refl)) (λ v. refl) (λ o. registered_stays c h _ o refl (λ x k. refl)) refl (λ o. refl) refl (λ s. refl) (λ s. refl) (λ s. refl) (λ s d. refl)
 
-pub agrees_audited : (c : Config) (h : History) (t : Kept) (sid : Sid) (start count : ℕ) → Agrees c h t → Agrees c (after_accepted h (Do sid (Audit start count))) t
+pub agrees_audited : (c : Config) (h : History) (t : TablesView) (sid : Sid) (start count : ℕ) → Agrees c h t → Agrees c (after_accepted h (Do sid (Audit start count))) t
 agrees_audited c h t sid start count =
     asked c h t (Do sid (Audit start count)) (untouched c h (Do sid (Audit start count)) (record { owner = λ m. refl; group = λ m. refl; mode = λ m. refl }) (λ o. refl) (λ d. refl) refl (λ f. refl) refl (λ o. refl) (λ o. refl)) (λ v. refl) (λ o. registered_stays c h _ o refl (λ x k. refl)) refl (λ o. refl) refl (λ s. refl) (λ s. refl) (λ s. refl) (λ s d. refl)
 
@@ -194,7 +194,7 @@ semaphore_changed x change m n e same reg = at x.kind where
   at (SemaphoreKind value) = ap SemaphoreBody e
 
 -- an accepted send
-pub agrees_sent : (c : Config) (h : History) (t : Kept) (sid : Sid) (desc : Desc) (priority : ℕ) (bytes : List ℕ) (o : ℕ) → IsCore c h t → IsHereQueue c h t sid.0 desc.0 o → Agrees c (after_accepted h (Do sid (MqSend desc priority bytes))) (after_send t o (record { place = length h; priority = priority }) sid)
+pub agrees_sent : (c : Config) (h : History) (t : TablesView) (sid : Sid) (desc : Desc) (priority : ℕ) (bytes : List ℕ) (o : ℕ) → IsCore c h t → IsHereQueue c h t sid.0 desc.0 o → Agrees c (after_accepted h (Do sid (MqSend desc priority bytes))) (after_send t o (record { place = length h; priority = priority }) sid)
 agrees_sent c h t sid desc priority bytes o k here =
     let e = Do sid (MqSend desc priority bytes) in
     let g = grows c h e in
@@ -218,7 +218,7 @@ agrees_sent c h t sid desc priority bytes o k here =
     k.agrees)
 
 -- an accepted receive
-pub agrees_received : (c : Config) (h : History) (t : Kept) (sid : Sid) (desc : Desc) (room : ℕ) (o : ℕ) → IsCore c h t → IsHereQueue c h t sid.0 desc.0 o → Agrees c (after_accepted h (Do sid (MqReceive desc room))) (after_receive t o sid)
+pub agrees_received : (c : Config) (h : History) (t : TablesView) (sid : Sid) (desc : Desc) (room : ℕ) (o : ℕ) → IsCore c h t → IsHereQueue c h t sid.0 desc.0 o → Agrees c (after_accepted h (Do sid (MqReceive desc room))) (after_receive t o sid)
 agrees_received c h t sid desc room o k here =
     let e = Do sid (MqReceive desc room) in
     let g = grows c h e in
@@ -242,7 +242,7 @@ agrees_received c h t sid desc room o k here =
     k.agrees)
 
 -- an accepted post
-pub agrees_posted : (c : Config) (h : History) (t : Kept) (sid : Sid) (desc : Desc) (o : ℕ) → IsCore c h t → IsHereSemaphore c h t sid.0 desc.0 o → Agrees c (after_accepted h (Do sid (SemPost desc))) (after_post t o)
+pub agrees_posted : (c : Config) (h : History) (t : TablesView) (sid : Sid) (desc : Desc) (o : ℕ) → IsCore c h t → IsHereSemaphore c h t sid.0 desc.0 o → Agrees c (after_accepted h (Do sid (SemPost desc))) (after_post t o)
 agrees_posted c h t sid desc o k here =
     let e = Do sid (SemPost desc) in
     let g = grows c h e in
@@ -263,7 +263,7 @@ agrees_posted c h t sid desc o k here =
     k.agrees)
 
 -- an accepted wait
-pub agrees_waited : (c : Config) (h : History) (t : Kept) (sid : Sid) (desc : Desc) (o : ℕ) → IsCore c h t → IsHereSemaphore c h t sid.0 desc.0 o → Agrees c (after_accepted h (Do sid (SemWait desc))) (after_wait t o sid)
+pub agrees_waited : (c : Config) (h : History) (t : TablesView) (sid : Sid) (desc : Desc) (o : ℕ) → IsCore c h t → IsHereSemaphore c h t sid.0 desc.0 o → Agrees c (after_accepted h (Do sid (SemWait desc))) (after_wait t o sid)
 agrees_waited c h t sid desc o k here =
     let e = Do sid (SemWait desc) in
     let g = grows c h e in
@@ -284,7 +284,7 @@ agrees_waited c h t sid desc o k here =
     k.agrees)
 
 -- an accepted trywait
-pub agrees_tried : (c : Config) (h : History) (t : Kept) (sid : Sid) (desc : Desc) (o : ℕ) → IsCore c h t → IsHereSemaphore c h t sid.0 desc.0 o → Agrees c (after_accepted h (Do sid (SemTryWait desc))) (after_try t o)
+pub agrees_tried : (c : Config) (h : History) (t : TablesView) (sid : Sid) (desc : Desc) (o : ℕ) → IsCore c h t → IsHereSemaphore c h t sid.0 desc.0 o → Agrees c (after_accepted h (Do sid (SemTryWait desc))) (after_try t o)
 agrees_tried c h t sid desc o k here =
     let e = Do sid (SemTryWait desc) in
     let g = grows c h e in
@@ -310,7 +310,7 @@ registers_body x sid desc m n q u was now = at x.kind where
   at (QueueKind given) = rw (q, was, now) refl
   at (SemaphoreKind value) = ap (λ u. SemaphoreBody (counter_of u)) u
 
-pub agrees_registered : (c : Config) (h : History) (t : Kept) (sid : Sid) (desc : Desc) (o : ℕ) → IsCore c h t → IsHereQueue c h t sid.0 desc.0 o → registered c h o ≡ None → Agrees c (after_accepted h (Do sid (MqNotify desc true))) (after_notify t o desc true)
+pub agrees_registered : (c : Config) (h : History) (t : TablesView) (sid : Sid) (desc : Desc) (o : ℕ) → IsCore c h t → IsHereQueue c h t sid.0 desc.0 o → registered c h o ≡ None → Agrees c (after_accepted h (Do sid (MqNotify desc true))) (after_notify t o desc true)
 agrees_registered c h t sid desc o k here none =
     let e = Do sid (MqNotify desc true) in
     let g = grows c h e in
@@ -349,7 +349,7 @@ kept_none : (p : Registration → Bool) (w : Option Registration) → ((x : Regi
 kept_none p None none = refl
 kept_none p (Some x) none = ap (λ b. cond b None (Some x)) (none x refl)
 
-pub agrees_unregistered : (c : Config) (h : History) (t : Kept) (sid : Sid) (desc : Desc) (o : ℕ) → IsCore c h t → IsHereQueue c h t sid.0 desc.0 o → Agrees c (after_accepted h (Do sid (MqNotify desc false))) (after_notify t o desc false)
+pub agrees_unregistered : (c : Config) (h : History) (t : TablesView) (sid : Sid) (desc : Desc) (o : ℕ) → IsCore c h t → IsHereQueue c h t sid.0 desc.0 o → Agrees c (after_accepted h (Do sid (MqNotify desc false))) (after_notify t o desc false)
 agrees_unregistered c h t sid desc o k here =
     let e = Do sid (MqNotify desc false) in
     let g = grows c h e in
@@ -369,7 +369,7 @@ agrees_unregistered c h t sid desc o k here =
     k.agrees)
 
 -- a withdrawal: the tables of sessions and of objects, where the session was parked on this object, if on one
-pub record IsWithdrawn (c : Config) (h : History) (t u : Kept) (sid : Sid) (q : ℕ → Inside) : Type 0 where
+pub record IsWithdrawn (c : Config) (h : History) (t u : TablesView) (sid : Sid) (q : ℕ → Inside) : Type 0 where
   pub sessions : Columns u.sessions (hellos h) (user h) (mask h) (live h) (λ s. cond (eqb sid.0 s) None (parked_object c h s))
   pub rows : u.objects ≡ gathered_below (row_with c h q) (creations h)
   pub others : u ≡ record t { sessions = u.sessions; objects = u.objects }
@@ -391,7 +391,7 @@ body_withdrawn : (c : Config) (h : History) (sid : Sid) (o : ℕ) (kind : Kind) 
 body_withdrawn c h sid o (QueueKind given) legal = ap QueueBody (queue_withdrawn c h sid o (maxmsg c h o) given legal)
 body_withdrawn c h sid o (SemaphoreKind value) legal = ap SemaphoreBody (counter_cancelled c h sid o legal)
 
-pub withdrawn_at : (c : Config) (h : History) (t : Kept) (sid : Sid) (q : ℕ → Inside) → IsCore c h t → ((o : ℕ) → q o ≡ without_calls c h sid o) → sid.0 < length t.sessions → (w : Option Parked) → parked c h sid.0 ≡ w → IsWithdrawn c h t (after_withdrawal t sid) sid q
+pub withdrawn_at : (c : Config) (h : History) (t : TablesView) (sid : Sid) (q : ℕ → Inside) → IsCore c h t → ((o : ℕ) → q o ≡ without_calls c h sid o) → sid.0 < length t.sessions → (w : Option Parked) → parked c h sid.0 ≡ w → IsWithdrawn c h t (after_withdrawal t sid) sid q
 withdrawn_at c h t sid q k made lt None e =
     let none : parked_on_at t.sessions sid.0 ≡ None = k.agrees.sessions.parks sid.0 ∙ ap (option_map (λ (p : Parked). p.object)) e in
     rw none (record {
@@ -418,7 +418,7 @@ hangup_inside : (c : Config) (h : History) (sid : Sid) (o : ℕ) → inside c (a
 hangup_inside c h sid o = rw (queue_by_hangup c h sid o, semaphore_by_hangup h sid o) refl
 
 -- an accepted interrupt
-interrupted : (c : Config) (h : History) (t u : Kept) (sid : Sid) → IsCore c h t → IsWithdrawn c h t u sid (inside c (after_accepted h (Do sid Interrupt))) → Agrees c (after_accepted h (Do sid Interrupt)) (record t { sessions = u.sessions; objects = u.objects })
+interrupted : (c : Config) (h : History) (t u : TablesView) (sid : Sid) → IsCore c h t → IsWithdrawn c h t u sid (inside c (after_accepted h (Do sid Interrupt))) → Agrees c (after_accepted h (Do sid Interrupt)) (record t { sessions = u.sessions; objects = u.objects })
 interrupted c h t u sid k w =
     let e = Do sid Interrupt in
     let g = grows c h e in
@@ -429,13 +429,13 @@ interrupted c h t u sid k w =
     (record { rows = w.rows ∙ rows_kept c h (after_accepted h e) (inside c (after_accepted h e)) (inside c (after_accepted h e)) (alive_same c h _ v) v.object' v.facts' (λ o. refl) v.creations'; count = k.agrees.objects.count ∙ sym v.creations' })
     k.agrees
 
-pub agrees_interrupted : (c : Config) (h : History) (t : Kept) (sid : Sid) → IsCore c h t → sid.0 < length t.sessions → Agrees c (after_accepted h (Do sid Interrupt)) (after_withdrawal t sid)
+pub agrees_interrupted : (c : Config) (h : History) (t : TablesView) (sid : Sid) → IsCore c h t → sid.0 < length t.sessions → Agrees c (after_accepted h (Do sid Interrupt)) (after_withdrawal t sid)
 agrees_interrupted c h t sid k lt =
     let w = withdrawn_at c h t sid (inside c (after_accepted h (Do sid Interrupt))) k (interrupt_inside c h sid) lt (parked c h sid.0) refl in
     subst (Agrees c (after_accepted h (Do sid Interrupt))) (sym w.others) (interrupted c h t (after_withdrawal t sid) sid k w)
 
 -- an accepted change of whether calls are refused where they would wait
-pub agrees_set : (c : Config) (h : History) (t : Kept) (sid : Sid) (desc : Desc) (nonblock : Bool) (x : Held) → Agrees c h t → holds h sid.0 desc.0 ≡ Some x → Agrees c (after_accepted h (Do sid (MqSetattr desc nonblock))) (after_setattr t desc.0 nonblock)
+pub agrees_set : (c : Config) (h : History) (t : TablesView) (sid : Sid) (desc : Desc) (nonblock : Bool) (x : Held) → Agrees c h t → holds h sid.0 desc.0 ≡ Some x → Agrees c (after_accepted h (Do sid (MqSetattr desc nonblock))) (after_setattr t desc.0 nonblock)
 agrees_set c h t sid desc nonblock x a is =
     let e = Do sid (MqSetattr desc nonblock) in
     let g = grows c h e in
@@ -450,7 +450,7 @@ agrees_set c h t sid desc nonblock x a is =
     }
 
 -- an accepted limit
-pub agrees_limited : (c : Config) (h : History) (t : Kept) (sid : Sid) (uid : Uid) (bytes : ℕ) → Agrees c h t → Agrees c (after_accepted h (Do sid (SetLimit uid bytes))) (after_limit t uid.0 bytes)
+pub agrees_limited : (c : Config) (h : History) (t : TablesView) (sid : Sid) (uid : Uid) (bytes : ℕ) → Agrees c h t → Agrees c (after_accepted h (Do sid (SetLimit uid bytes))) (after_limit t uid.0 bytes)
 agrees_limited c h t sid uid bytes a =
     let e = Do sid (SetLimit uid bytes) in
     let g = grows c h e in
@@ -494,7 +494,7 @@ left_is_so : (c : Config) (h k : History) (d : Descriptions) (w : ℕ → Held �
 left_is_so c h k d w v q o was a h' by_session ends = ap (λ (g : Option Registration). record q { registered = g }) (released_is c h k d w v o a h' by_session ends ∙ ap (released d.rows) (sym was))
 
 -- an event that creates nothing, after which objects may be gone
-pub gone : (c : Config) (h k : History) (e : Event) (t : Kept) (ss : List Session) (xs : List ObjectRow) (queues' semaphores' : Directory) (d : Descriptions) (q : ℕ → Inside) (p : Opening → Bool) (w : ℕ → Held → Bool) → Grows c h k e → ((o : ℕ) → named k o ≡ kept p (named h o)) → ((i : ℕ) → held k i ≡ kept (w i) (held h i)) → opens k ≡ opens h → creations k ≡ creations h → ((o : ℕ) → object c k o ≡ object c h o) → ((o : ℕ) → facts c k o ≡ facts c h o) → ((o : ℕ) → inside c k o ≡ record (q o) { registered = registered c k o }) → ((o : ℕ) → (q o).registered ≡ registered c h o) → (v : ℕ → ℕ → Bool) → ((o : ℕ) → registered c k o ≡ kept (λ x. v x.session.0 x.desc.0) (registered c h o)) → ((i : ℕ) (y : Held) → w i y ≡ v y.session.0 i) → xs ≡ gathered_below (row_with c h q) (creations h) → Legal c h → ((u : Uid) → limit c k u ≡ limit c h u) → SessionsAgree c k ss → DirectoryAgrees k Mq queues' → DirectoryAgrees k Sem semaphores' → DescriptionsAgree k d → Agrees c h t → Agrees c k (record t { sessions = ss; queues = queues'; semaphores = semaphores'; objects = living queues' semaphores' d.rows xs; descriptions = d; charges = settled (is_kept queues' semaphores' d.rows) xs t.charges })
+pub gone : (c : Config) (h k : History) (e : Event) (t : TablesView) (ss : List Session) (xs : List ObjectRow) (queues' semaphores' : Directory) (d : Descriptions) (q : ℕ → Inside) (p : Opening → Bool) (w : ℕ → Held → Bool) → Grows c h k e → ((o : ℕ) → named k o ≡ kept p (named h o)) → ((i : ℕ) → held k i ≡ kept (w i) (held h i)) → opens k ≡ opens h → creations k ≡ creations h → ((o : ℕ) → object c k o ≡ object c h o) → ((o : ℕ) → facts c k o ≡ facts c h o) → ((o : ℕ) → inside c k o ≡ record (q o) { registered = registered c k o }) → ((o : ℕ) → (q o).registered ≡ registered c h o) → (v : ℕ → ℕ → Bool) → ((o : ℕ) → registered c k o ≡ kept (λ x. v x.session.0 x.desc.0) (registered c h o)) → ((i : ℕ) (y : Held) → w i y ≡ v y.session.0 i) → xs ≡ gathered_below (row_with c h q) (creations h) → Legal c h → ((u : Uid) → limit c k u ≡ limit c h u) → SessionsAgree c k ss → DirectoryAgrees k Mq queues' → DirectoryAgrees k Sem semaphores' → DescriptionsAgree k d → Agrees c h t → Agrees c k (record t { sessions = ss; queues = queues'; semaphores = semaphores'; objects = living queues' semaphores' d.rows xs; descriptions = d; charges = settled (is_kept queues' semaphores' d.rows) xs t.charges })
 gone c h k e t ss xs queues' semaphores' d q p w g n h' i m o f same was v ends by_session rows' legal limits sessions' mq sem descriptions' a =
     let left = objects_left c h k q queues' semaphores' d xs t.created mq sem descriptions' (λ j. alive_less h k j p w (n j) h' i) o f (λ j. same j ∙ left_is_so c h k d w v (q j) j (was j) descriptions' h' by_session (ends j)) m rows' a.objects.count in
     let made : HaveFacts c h = object_with_facts c h legal in
@@ -509,19 +509,19 @@ gone c h k e t ss xs queues' semaphores' d q p w g n h' i m o f same was v ends 
     }
 
 -- an accepted hang-up
-hung : (c : Config) (h : History) (t u : Kept) (sid : Sid) → IsCore c h t → IsWithdrawn c h t u sid (without_calls c h sid) → Agrees c (after_accepted h (Hangup sid)) (ended (record t { sessions = u.sessions; objects = u.objects }) sid.0)
+hung : (c : Config) (h : History) (t u : TablesView) (sid : Sid) → IsCore c h t → IsWithdrawn c h t u sid (without_calls c h sid) → Agrees c (after_accepted h (Hangup sid)) (ended (record t { sessions = u.sessions; objects = u.objects }) sid.0)
 hung c h t u sid core w =
     let a = core.agrees in
     let e = Hangup sid in
     let g = grows c h e in
     gone c h (after_accepted h e) e t (changed hung_up u.sessions sid.0) u.objects t.queues t.semaphores _ (without_calls c h sid) (λ x. false) (λ i x. eqb sid.0 x.session.0) g g.named_by g.held_by g.open_count g.creation_count g.object_of (λ o. facts_made c h e (record { owner = λ m. refl; group = λ m. refl; mode = λ m. refl }) o) (hangup_inside c h sid) (λ o. refl) (λ s i. eqb sid.0 s) (registered_hangup c h sid) (λ i y. refl) w.rows core.legal (λ v. limit_left c h e v refl)
-    (sessions_ended c h u.sessions sid (λ s. cond (eqb sid.0 s) None (parked_object c h s)) g (column_by_hangup c h sid) w.sessions)
+    (sessions_ended c h u.sessions sid (λ s. cond (eqb sid.0 s) None (parked_object c h s)) g (column_by_hangup c h sid) (ap (λ b. cond b None (parked_object c h sid.0)) (eq-eqb sid.0 sid.0 refl)) w.sessions)
     (directory_kept h (after_accepted h e) Mq t.queues (g.bindings_of Mq) (directory_left h e (record { owner = λ m. refl; group = λ m. refl; mode = λ m. refl }) Mq) a.queues)
     (directory_kept h (after_accepted h e) Sem t.semaphores (g.bindings_of Sem) (directory_left h e (record { owner = λ m. refl; group = λ m. refl; mode = λ m. refl }) Sem) a.semaphores)
     (descriptions_dropped h (after_accepted h e) t.descriptions (is_of sid.0) (λ i x. eqb sid.0 x.session.0) (λ i x. refl) g.held_by g.nonblock_of g.open_count a.descriptions)
     a
 
-pub agrees_ended : (c : Config) (h : History) (t : Kept) (sid : Sid) → IsCore c h t → sid.0 < length t.sessions → Agrees c (after_accepted h (Hangup sid)) (after_hangup t sid)
+pub agrees_ended : (c : Config) (h : History) (t : TablesView) (sid : Sid) → IsCore c h t → sid.0 < length t.sessions → Agrees c (after_accepted h (Hangup sid)) (after_hangup t sid)
 agrees_ended c h t sid k lt =
     let w = withdrawn_at c h t sid (without_calls c h sid) k (λ o. refl) lt (parked c h sid.0) refl in
     subst (λ v. Agrees c (after_accepted h (Hangup sid)) (ended v sid.0)) (sym w.others) (hung c h t (after_withdrawal t sid) sid k w)
@@ -535,10 +535,10 @@ pub some_from : {X : Type 0} (o : Option X) (b : Bool) → is_some o ≡ not b �
 some_from o b e f = e ∙ ap not f
 
 -- one more record with its verdict
-pub core_accepted : (c : Config) (h : History) (t u : Kept) (e : Event) (rule : Option Rule) → IsCore c h t → rule ≡ verdict c h e → rule ≡ None → Agrees c (after_accepted h e) u → IsCore c (record { event = e; rule = rule } ∷ h) u
+pub core_accepted : (c : Config) (h : History) (t u : TablesView) (e : Event) (rule : Option Rule) → IsCore c h t → rule ≡ verdict c h e → rule ≡ None → Agrees c (after_accepted h e) u → IsCore c (record { event = e; rule = rule } ∷ h) u
 core_accepted c h t u e rule k is none a = record { in_range = k.in_range; legal = (is, k.legal); agrees = rw none a }
 
-pub core_refused : (c : Config) (h : History) (t : Kept) (e : Event) (rule : Option Rule) → IsCore c h t → rule ≡ verdict c h e → is_some rule ≡ true → IsCore c (record { event = e; rule = rule } ∷ h) t
+pub core_refused : (c : Config) (h : History) (t : TablesView) (e : Event) (rule : Option Rule) → IsCore c h t → rule ≡ verdict c h e → is_some rule ≡ true → IsCore c (record { event = e; rule = rule } ∷ h) t
 core_refused c h t e None k is some = absurd cc
 core_refused c h t e (Some rule) k is some = record { in_range = k.in_range; legal = (is, k.legal); agrees = agrees_as c h (record { event = e; rule = Some rule } ∷ h) t (same_values c h e rule) k.agrees }
 
@@ -549,7 +549,7 @@ core_new c in_range = record {
   in_range = in_range;
   legal = tt;
   agrees = record {
-    sessions = record { users = λ s. refl; masks = λ s row e. absurd cc; lives = λ s. refl; parks = λ s. refl; count = refl };
+    sessions = record { users = λ s. refl; masks = λ s row e lives. absurd cc; lives = λ s. refl; parks = λ s. refl; count = refl };
     queues = record { bound = refl; facts = refl };
     semaphores = record { bound = refl; facts = refl };
     objects = record { rows = refl; count = refl };

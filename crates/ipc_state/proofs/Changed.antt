@@ -28,17 +28,18 @@ use Rattle.ipc_policy.specs.Objects.{object, facts, directory, object_bits, dire
 use Rattle.ipc_policy.specs.Descriptions.{held}
 use Rattle.ipc_policy.specs.Life.{bindings, alive}
 use Rattle.ipc_policy.specs.Grow.{named_after, held_after, bindings_after}
-use Rattle.ipc_policy.proofs.Facts.{facts_left, facts_given, directory_grows}
-use Rattle.ipc_policy.proofs.Grown.{grows}
-use Rattle.ipc_policy.proofs.Known.{bound_iff}
-use Rattle.ipc_policy.proofs.Unforbidden.{unforbidden, off}
-use Rattle.ipc_policy.proofs.Holding.{kept_all}
+use Rattle.ipc_policy.proofs.Directories.Facts.{facts_left, facts_given, directory_grows}
+use Rattle.ipc_policy.proofs.Histories.Grown.{grows}
+use Rattle.ipc_policy.proofs.Histories.Known.{bound_iff}
+use Rattle.ipc_policy.proofs.Histories.Unforbidden.{unforbidden, off}
+use Rattle.ipc_policy.proofs.Holdings.Holding.{kept_all}
 use Rattle.ipc_names.specs.Directory.{Directory, object_named}
-use Rattle.ipc_tables.specs.Kept.{Kept, directory_kept as directory_of}
+use Rattle.ipc_tables.specs.TablesView.{TablesView, directory_kept as directory_of}
 use Rattle.ipc_tables.specs.Objects.{is_number, facts_at, with_facts}
 use Rattle.ipc_tables.specs.declared.tables.Owned.TheVariants.{Object as OwnedObject, Directory as OwnedDirectory}
 use Rattle.ipc_tables.specs.Steps.{after_facts}
 use Rattle.ipc_state.specs.Agrees.{Agrees, IsCore, SessionsAgree, DescriptionsAgree, ChargesAgree, Inside, inside, row_made, row_with}
+use Rattle.ipc_state.specs.Meetings.{by_name, object_bound}
 use Rattle.ipc_state.specs.Changes.{changing, changed_by}
 use Rattle.ipc_state.proofs.Gathered.{gathered_changed}
 use Rattle.ipc_state.proofs.Lookups.{row_other, row_own, found_is, directory_agrees, facts_alive, bound_alive}
@@ -46,7 +47,7 @@ use Rattle.ipc_state.proofs.ObjectTables.{directory_kept, objects_kept, row_kept
 use Rattle.ipc_state.proofs.ChargeTables.{charged_same, limit_left, charges_kept}
 use Rattle.ipc_state.proofs.Opens.{Ends, made_left}
 use Rattle.ipc_policy.specs.Registrations.{registered}
-use Rattle.ipc_policy.proofs.RegisteredSteps.{registered_stays}
+use Rattle.ipc_policy.proofs.Queues.RegisteredSteps.{registered_stays}
 use Rattle.ipc_state.proofs.Accepting.{others_inside}
 use Rattle.ipc_state.proofs.Opened.{sessions_apart}
 
@@ -64,7 +65,7 @@ changes_of sid (Chown owner group target) meant k = record { calm' = λ c h o. r
 changes_of sid call meant k = absurd cc
 
 -- what it leaves of the tables
-record Left (c : Config) (h k : History) (t : Kept) : Type 0 where
+record Left (c : Config) (h k : History) (t : TablesView) : Type 0 where
   sessions : SessionsAgree c k t.sessions
   descriptions : DescriptionsAgree k t.descriptions
   charges : ChargesAgree c k t.charges
@@ -74,7 +75,7 @@ record Left (c : Config) (h k : History) (t : Kept) : Type 0 where
   inside' : (o : ℕ) → inside c k o ≡ inside c h o
   creations' : creations k ≡ creations h
 
-left_by : (c : Config) (h : History) (t : Kept) (e : Event) → Changes e → Agrees c h t → Left c h (after_accepted h e) t
+left_by : (c : Config) (h : History) (t : TablesView) (e : Event) → Changes e → Agrees c h t → Left c h (after_accepted h e) t
 left_by c h t e p a =
     let g = grows c h e in
     let held' = λ (d : ℕ). g.held_by d ∙ p.held' d _ _ _ _ ∙ kept_all (held h d) in
@@ -94,7 +95,7 @@ left_by c h t e p a =
     }
 
 -- of a directory
-in_directory : (c : Config) (h k : History) (t : Kept) (f : Family) (x : Facts) → Left c h k t → ((g : Family) → directory k g ≡ cond (same_family f g) x (directory h g)) → ((o : ℕ) → facts c k o ≡ facts c h o) → Agrees c h t → Agrees c k (after_facts t (OwnedDirectory f) x)
+in_directory : (c : Config) (h k : History) (t : TablesView) (f : Family) (x : Facts) → Left c h k t → ((g : Family) → directory k g ≡ cond (same_family f g) x (directory h g)) → ((o : ℕ) → facts c k o ≡ facts c h o) → Agrees c h t → Agrees c k (after_facts t (OwnedDirectory f) x)
 in_directory c h k t Mq x l d o a = record {
   sessions = l.sessions;
   queues = record { bound = a.queues.bound ∙ sym (l.bindings' Mq); facts = sym (d Mq) };
@@ -140,7 +141,7 @@ facts_apart c h sid (Chown owner group target) f k o =
     rw same (facts_left c h sid (Chown owner group (Dir f)) refl o refl refl refl)
 facts_apart c h sid call f k o = absurd cc
 
-pub agrees_in_directory : (c : Config) (h : History) (t : Kept) (sid : Sid) (call : Call) (f : Family) → changing call ≡ Some (Dir f) → Agrees c h t → Agrees c (after_accepted h (Do sid call)) (after_facts t (OwnedDirectory f) (changed_by call (directory h f)))
+pub agrees_in_directory : (c : Config) (h : History) (t : TablesView) (sid : Sid) (call : Call) (f : Family) → changing call ≡ Some (Dir f) → Agrees c h t → Agrees c (after_accepted h (Do sid call)) (after_facts t (OwnedDirectory f) (changed_by call (directory h f)))
 agrees_in_directory c h t sid call f k a =
     in_directory c h (after_accepted h (Do sid call)) t f (changed_by call (directory h f)) (left_by c h t (Do sid call) (changes_of sid call (Dir f) k) a) (directory_given h sid call f k) (facts_apart c h sid call f k) a
 
@@ -150,7 +151,7 @@ row_given o x true None v at m e = refl
 row_given o x true (Some y) v at m e = rw e refl
 row_given o x false w v at m e = refl
 
-in_object : (c : Config) (h k : History) (t : Kept) (o : ℕ) (x at : Facts) → Left c h k t → ((f : Family) → directory k f ≡ directory h f) → facts c h o ≡ Some at → facts c k o ≡ Some x → ((i : ℕ) → (i ≡ o → ⊥) → facts c k i ≡ facts c h i) → Agrees c h t → Agrees c k (after_facts t (OwnedObject o) x)
+in_object : (c : Config) (h k : History) (t : TablesView) (o : ℕ) (x at : Facts) → Left c h k t → ((f : Family) → directory k f ≡ directory h f) → facts c h o ≡ Some at → facts c k o ≡ Some x → ((i : ℕ) → (i ≡ o → ⊥) → facts c k i ≡ facts c h i) → Agrees c h t → Agrees c k (after_facts t (OwnedObject o) x)
 in_object c h k t o x at l d was is others a = record {
   sessions = l.sessions;
   queues = directory_kept h k Mq t.queues (l.bindings' Mq) (d Mq) a.queues;
@@ -211,7 +212,7 @@ directory_apart h sid (Chown owner group target) f name k g =
     rw same (directory_grows h (Do sid (Chown owner group (Name f name))) g)
 directory_apart h sid call f name k g = absurd cc
 
-pub agrees_in_object : (c : Config) (h : History) (t : Kept) (sid : Sid) (call : Call) (f : Family) (name : List ℕ) (o : ℕ) (at : Facts) → changing call ≡ Some (Name f name) → bound h f name ≡ Some o → facts c h o ≡ Some at → Agrees c h t → Agrees c (after_accepted h (Do sid call)) (after_facts t (OwnedObject o) (changed_by call at))
+pub agrees_in_object : (c : Config) (h : History) (t : TablesView) (sid : Sid) (call : Call) (f : Family) (name : List ℕ) (o : ℕ) (at : Facts) → changing call ≡ Some (Name f name) → bound h f name ≡ Some o → facts c h o ≡ Some at → Agrees c h t → Agrees c (after_accepted h (Do sid call)) (after_facts t (OwnedObject o) (changed_by call at))
 agrees_in_object c h t sid call f name o at k e is a =
     in_object c h (after_accepted h (Do sid call)) t o (changed_by call at) at (left_by c h t (Do sid call) (changes_of sid call (Name f name) k) a) (directory_apart h sid call f name k) is (object_given c h sid call f name o at k e is) (λ i ne. others_left c h sid call f name o i k e ne) a
 
@@ -229,9 +230,11 @@ bound_there c h sid call f name k accepted = absurd cc
 pub changed_bound : (c : Config) (h : History) (sid : Sid) (call : Call) (f : Family) (name : List ℕ) → changing call ≡ Some (Name f name) → verdict c h (Do sid call) ≡ None → is_some (bound h f name) ≡ true
 changed_bound c h sid call f name k accepted = sym (bound_iff h f name) ∙ bound_there c h sid call f name k accepted
 
--- what is looked up is what it means, and what that has
-pub found_meant : (c : Config) (h : History) (t : Kept) (f : Family) (name : List ℕ) (d : Directory) (w : Option ℕ) → Agrees c h t → d ≡ directory_of f t → w ≡ object_named d.bindings name → bound h f name ≡ w
-found_meant c h t f name d w a same found = sym (found_is h f (directory_of f t) name (directory_agrees c h t f a)) ∙ ap (λ (x : Directory). object_named x.bindings name) (sym same) ∙ sym found
+-- the name that one names is bound to what it means, and that has what is looked up
+pub named_by_change : (h : History) (sid : Sid) (call : Call) (f : Family) (name : List ℕ) → changing call ≡ Some (Name f name) → by_name (object_bound h) (Do sid call) ≡ bound h f name
+named_by_change h sid (Chmod mode target) f name k = let same : target ≡ Name f name = cc in rw same refl
+named_by_change h sid (Chown owner group target) f name k = let same : target ≡ Name f name = cc in rw same refl
+named_by_change h sid call f name k = absurd cc
 
-pub facts_meant_is : (c : Config) (h : History) (t : Kept) (f : Family) (name : List ℕ) (o : ℕ) (w : Option Facts) → IsCore c h t → bound h f name ≡ Some o → w ≡ facts_at t.objects o → facts c h o ≡ w
+pub facts_meant_is : (c : Config) (h : History) (t : TablesView) (f : Family) (name : List ℕ) (o : ℕ) (w : Option Facts) → IsCore c h t → bound h f name ≡ Some o → w ≡ facts_at t.objects o → facts c h o ≡ w
 facts_meant_is c h t f name o w k is found = sym (facts_alive c h t.objects t.created o k.legal k.agrees.objects (bound_alive h f name o is)) ∙ sym found

@@ -26,18 +26,18 @@ use Rattle.ipc_policy.specs.Life.{alive}
 use Rattle.ipc_policy.specs.Charges.{bytes_of, charge, charge_of as charge_of_object, charged, queues_alive, is_queue_alive, sets_limit, limit}
 use Rattle.ipc_policy.specs.Rules.{above_limit}
 use Rattle.ipc_policy.specs.Verdict.{Legal}
-use Rattle.ipc_policy.proofs.Gathering.{passes, weighed, gathered_sum, gathered_count as gathered_passing}
-use Rattle.ipc_policy.proofs.Holding.{how_many_below_same}
-use Rattle.ipc_policy.proofs.Charging.{sum_below_same}
-use Rattle.ipc_policy.proofs.Limiting.{creator_limited}
-use Rattle.ipc_policy.proofs.Bindings.{object_with_facts}
+use Rattle.ipc_policy.proofs.Lists.Gathering.{passes, weighed, gathered_sum, gathered_count as gathered_passing}
+use Rattle.ipc_policy.proofs.Holdings.Holding.{how_many_below_same}
+use Rattle.ipc_policy.proofs.Queues.Charging.{sum_below_same}
+use Rattle.ipc_policy.proofs.Queues.Limiting.{creator_limited}
+use Rattle.ipc_policy.proofs.Directories.Bindings.{object_with_facts}
 use Rattle.ipc_descr.specs.declared.charges.Charge.{Charge}
 use Rattle.ipc_descr.specs.Charges.{charge_of, used_of, limit_of, with_limit, raised, limited, lowered, uncharged}
 use Rattle.ipc_tables.specs.declared.rows.ObjectRow.{ObjectRow}
 use Rattle.ipc_tables.specs.Objects.{queue_in, bytes_taken, is_queue}
 use Rattle.ipc_tables.specs.Charging.{taken_by, taken, Covered, Affords, charged_with, settled}
 use Rattle.ipc_tables.proofs.CoveredCharges.{charge_changed, settled_charge, taken_parted}
-use Rattle.ipc_tables.specs.Kept.{Kept}
+use Rattle.ipc_tables.specs.TablesView.{TablesView}
 use Rattle.ipc_state.specs.Agrees.{IsCore, ObjectsAgree, ChargesAgree, charge_meant, Inside, inside, body_of, row_made, row_with}
 
 -- what is charged, where the same objects are alive
@@ -218,7 +218,7 @@ queues_counted c h xs created legal a =
     ∙ gathered_passing is_queue (row_with c h (inside c h)) (creations h)
     ∙ how_many_below_same _ _ (creations h) (λ i lt. row_counts i (alive h i) (object c h i) (facts c h i) (inside c h i) (object_with_facts c h legal i))
 
-pub core_covered : (c : Config) (h : History) (t : Kept) → IsCore c h t → Covered t.charges t.objects
+pub core_covered : (c : Config) (h : History) (t : TablesView) → IsCore c h t → Covered t.charges t.objects
 core_covered c h t k = covered_by c h (inside c h) t.objects t.charges (object_with_facts c h k.legal) k.agrees.objects.rows k.agrees.charges
 
 -- the limit that is looked up

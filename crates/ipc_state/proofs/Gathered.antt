@@ -5,8 +5,8 @@ use Rattle.std.proofs.lemmas.Bool.{cases_eq}
 use Rattle.ipc_terms.specs.Lists.{changed_first}
 use Rattle.ipc_terms.proofs.Lists.{counted, count_push}
 use Rattle.ipc_policy.specs.History.{listed, gathered_below, how_many_below}
-use Rattle.ipc_policy.proofs.Gathering.{gathered_same, passes, find_none}
-use Rattle.ipc_policy.proofs.Living.{append_none}
+use Rattle.ipc_policy.proofs.Lists.Gathering.{gathered_same, passes, find_none}
+use Rattle.ipc_policy.proofs.Directories.Living.{append_none}
 
 -- the change of the one that bears a number
 past_none : {X : Type 0} (p : X → Bool) (f : X → X) (xs : List X) (w : Option X) → passes p w ≡ false → changed_first p f (xs ++ listed w) ≡ changed_first p f xs ++ listed w

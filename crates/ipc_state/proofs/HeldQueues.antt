@@ -16,14 +16,14 @@ use Rattle.ipc_policy.specs.Objects.{object}
 use Rattle.ipc_policy.specs.Descriptions.{holds}
 use Rattle.ipc_policy.specs.Queues.{Send, Queue, next, queue, contents}
 use Rattle.ipc_policy.specs.Verdict.{Legal}
-use Rattle.ipc_policy.proofs.ValueCounts.{value_counted}
-use Rattle.ipc_policy.proofs.Sent.{next_sent}
+use Rattle.ipc_policy.proofs.Semaphores.ValueCounts.{value_counted}
+use Rattle.ipc_policy.proofs.Fates.Sent.{next_sent}
 use Rattle.ipc_terms.specs.Objects.{as_semaphore}
 use Rattle.ipc_terms.specs.declared.call.Attributes.{Attributes}
 use Rattle.ipc_policy.specs.Queues.{attributes}
 use Rattle.ipc_policy.specs.Semaphores.{Semaphore, semaphore, value}
 use Rattle.ipc_sem.specs.Counters.{Counter}
-use Rattle.ipc_state.specs.Past.{brought, queue_by, semaphore_by, value_by}
+use Rattle.ipc_state.specs.StateView.{brought, queue_by, semaphore_by, value_by}
 use Rattle.ipc_policy.specs.declared.config.Registration.{Registration}
 use Rattle.ipc_policy.specs.Registrations.{registered}
 use Rattle.ipc_state.specs.Agrees.{ticket_of, tickets_of, sender_of, receiver_of, queue_meant, counter_of, semaphore_meant}

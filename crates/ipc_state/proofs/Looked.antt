@@ -12,7 +12,7 @@ use Rattle.ipc_descr.specs.declared.row.Row.{Row}
 use Rattle.ipc_descr.specs.Descriptions.{Descriptions, row_of}
 use Rattle.ipc_tables.specs.declared.rows.ObjectRow.{ObjectRow}
 use Rattle.ipc_tables.specs.Objects.{row_at, queue_in, queue_at, semaphore_in, semaphore_at}
-use Rattle.ipc_tables.specs.Kept.{Kept, directory_kept}
+use Rattle.ipc_tables.specs.TablesView.{TablesView, directory_kept}
 use Rattle.ipc_policy.specs.declared.config.Config.{Config}
 use Rattle.ipc_policy.specs.declared.config.Held.{Held}
 use Rattle.ipc_policy.specs.declared.config.Registration.{Registration}
@@ -24,17 +24,23 @@ use Rattle.ipc_policy.specs.Descriptions.{holds, is_nonblock}
 use Rattle.ipc_policy.specs.Semaphores.{value}
 use Rattle.ipc_policy.specs.Registrations.{registered}
 use Rattle.ipc_policy.specs.Verdict.{Legal}
-use Rattle.ipc_policy.proofs.Known.{bound_iff}
+use Rattle.ipc_policy.proofs.Histories.Known.{bound_iff}
 use Rattle.ipc_policy.specs.Rules.{there_is, object_held, is_full, is_empty}
 use Rattle.ipc_state.specs.Agrees.{IsCore, DescriptionsAgree, held_in, queue_meant}
 use Rattle.ipc_state.proofs.Lookups.{found_is, facts_found, directory_agrees}
 use Rattle.ipc_state.proofs.QueueLookups.{holds_is, number_is, object_is, queue_is, semaphore_is, held_full_is, held_empty_is, held_test_is, nonblock_is}
 use Rattle.ipc_state.proofs.RegistrationTables.{kept_desc, read_by, registration_read}
-use Rattle.ipc_state.specs.Meetings.{description, by_description, by_name, queue_held, semaphore_held}
+use Rattle.ipc_state.specs.Meetings.{description, by_description, by_name, object_by, queue_held, semaphore_held}
 use Rattle.ipc_state.specs.Rows.{row_meant, number_meant}
 
 -- descriptions
-pub held_meant : (c : Config) (h : History) (t : Kept) (e : Event) → IsCore c h t → option_map held_in (row_meant t.descriptions e) ≡ by_description (holds h) e
+pub number_held : (c : Config) (h : History) (t : TablesView) (e : Event) → IsCore c h t → option_map (λ (r : Row). r.object) (row_meant t.descriptions e) ≡ by_description (object_by h) e
+number_held c h t e a = at (description e) where
+  at : (w : Option Described) → option_map (λ (r : Row). r.object) (option_and_then (λ (x : Described). row_of t.descriptions.rows (caller e).0 x.desc.0) w) ≡ option_and_then (λ (x : Described). object_by h (caller e).0 x.desc.0) w
+  at None = refl
+  at (Some x) = number_is c h t (caller e).0 x.desc.0 a.agrees
+
+pub held_meant : (c : Config) (h : History) (t : TablesView) (e : Event) → IsCore c h t → option_map held_in (row_meant t.descriptions e) ≡ by_description (holds h) e
 held_meant c h t e a = at (description e) where
   at : (w : Option Described) → option_map held_in (option_and_then (λ (x : Described). row_of t.descriptions.rows (caller e).0 x.desc.0) w) ≡ option_and_then (λ (x : Described). holds h (caller e).0 x.desc.0) w
   at None = refl
@@ -44,7 +50,7 @@ map_then : {X Y Z W : Type 0} (f : Z → W) (g : Y → Option Z) (k : X → Y) (
 map_then f g k None = refl
 map_then f g k (Some x) = refl
 
-pub object_meant : (c : Config) (h : History) (t : Kept) (e : Event) → IsCore c h t → option_map (λ (r : ObjectRow). r.object) (option_and_then (λ (r : Row). row_at t.objects r.object) (row_meant t.descriptions e)) ≡ by_description (object_held c h) e
+pub object_meant : (c : Config) (h : History) (t : TablesView) (e : Event) → IsCore c h t → option_map (λ (r : ObjectRow). r.object) (option_and_then (λ (r : Row). row_at t.objects r.object) (row_meant t.descriptions e)) ≡ by_description (object_held c h) e
 object_meant c h t e a = at (description e) where
   at : (w : Option Described) → option_map (λ (r : ObjectRow). r.object) (option_and_then (λ (r : Row). row_at t.objects r.object) (option_and_then (λ (x : Described). row_of t.descriptions.rows (caller e).0 x.desc.0) w)) ≡ option_and_then (λ (x : Described). object_held c h (caller e).0 x.desc.0) w
   at None = refl
@@ -54,7 +60,7 @@ object_meant c h t e a = at (description e) where
       ∙ object_is c h t (caller e).0 x.desc.0 a.legal a.agrees
 
 -- names
-pub bound_meant : (c : Config) (h : History) (t : Kept) (e : Event) → IsCore c h t → number_meant t e ≡ by_name (λ x. bound h x.family x.name) e
+pub bound_meant : (c : Config) (h : History) (t : TablesView) (e : Event) → IsCore c h t → number_meant t e ≡ by_name (λ x. bound h x.family x.name) e
 bound_meant c h t e a = at (naming e) where
   at : (w : Option Naming) → option_and_then (λ (x : Naming). object_named (directory_kept x.family t).bindings x.name) w ≡ option_and_then (λ (x : Naming). bound h x.family x.name) w
   at None = refl
@@ -64,7 +70,7 @@ then_map : {X Y Z : Type 0} (f : Y → Z) (g : X → Option Y) (w : Option X) �
 then_map f g None = refl
 then_map f g (Some x) = refl
 
-facts_named : (c : Config) (h : History) (t : Kept) (e : Event) → IsCore c h t → option_map (λ (r : ObjectRow). r.facts) (option_and_then (row_at t.objects) (by_name (λ x. bound h x.family x.name) e)) ≡ by_name (λ x. option_and_then (facts c h) (bound h x.family x.name)) e
+facts_named : (c : Config) (h : History) (t : TablesView) (e : Event) → IsCore c h t → option_map (λ (r : ObjectRow). r.facts) (option_and_then (row_at t.objects) (by_name (λ x. bound h x.family x.name) e)) ≡ by_name (λ x. option_and_then (facts c h) (bound h x.family x.name)) e
 facts_named c h t e a = at (naming e) where
   at : (w : Option Naming) → option_map (λ (r : ObjectRow). r.facts) (option_and_then (row_at t.objects) (option_and_then (λ (x : Naming). bound h x.family x.name) w)) ≡ option_and_then (λ (x : Naming). option_and_then (facts c h) (bound h x.family x.name)) w
   at None = refl
@@ -72,7 +78,7 @@ facts_named c h t e a = at (naming e) where
       then_map (λ (r : ObjectRow). r.facts) (row_at t.objects) (bound h x.family x.name)
       ∙ facts_found c h t.objects t.created x.family x.name a.legal a.agrees.objects
 
-pub facts_meant_by_name : (c : Config) (h : History) (t : Kept) (e : Event) → IsCore c h t → option_map (λ (r : ObjectRow). r.facts) (option_and_then (row_at t.objects) (number_meant t e)) ≡ by_name (λ x. option_and_then (facts c h) (bound h x.family x.name)) e
+pub facts_meant_by_name : (c : Config) (h : History) (t : TablesView) (e : Event) → IsCore c h t → option_map (λ (r : ObjectRow). r.facts) (option_and_then (row_at t.objects) (number_meant t e)) ≡ by_name (λ x. option_and_then (facts c h) (bound h x.family x.name)) e
 facts_meant_by_name c h t e a =
     ap (λ w. option_map (λ (r : ObjectRow). r.facts) (option_and_then (row_at t.objects) w)) (bound_meant c h t e a)
     ∙ facts_named c h t e a
@@ -81,7 +87,7 @@ bound_there : (h : History) (w : Option Naming) → is_some (option_and_then (λ
 bound_there h None = refl
 bound_there h (Some x) = sym (bound_iff h x.family x.name)
 
-pub is_bound_meant : (c : Config) (h : History) (t : Kept) (e : Event) → IsCore c h t → is_some (number_meant t e) ≡ there_is (λ (x : Naming). is_bound h x.family x.name) (naming e)
+pub is_bound_meant : (c : Config) (h : History) (t : TablesView) (e : Event) → IsCore c h t → is_some (number_meant t e) ≡ there_is (λ (x : Naming). is_bound h x.family x.name) (naming e)
 is_bound_meant c h t e a = ap is_some (bound_meant c h t e a) ∙ bound_there h (naming e)
 
 -- what stands in the object that a description gives
@@ -89,7 +95,7 @@ then_then : {X Y Z W : Type 0} (f : Z → Option W) (g : Y → Option Z) (k : X 
 then_then f g k None = refl
 then_then f g k (Some x) = refl
 
-pub queue_given : (c : Config) (h : History) (t : Kept) (e : Event) → IsCore c h t → option_and_then (λ (r : ObjectRow). queue_in r.body) (option_and_then (λ (r : Row). row_at t.objects r.object) (row_meant t.descriptions e)) ≡ by_description (queue_held c h) e
+pub queue_given : (c : Config) (h : History) (t : TablesView) (e : Event) → IsCore c h t → option_and_then (λ (r : ObjectRow). queue_in r.body) (option_and_then (λ (r : Row). row_at t.objects r.object) (row_meant t.descriptions e)) ≡ by_description (queue_held c h) e
 queue_given c h t e a = at (description e) where
   at : (w : Option Described) → option_and_then (λ (r : ObjectRow). queue_in r.body) (option_and_then (λ (r : Row). row_at t.objects r.object) (option_and_then (λ (x : Described). row_of t.descriptions.rows (caller e).0 x.desc.0) w)) ≡ option_and_then (λ (x : Described). queue_held c h (caller e).0 x.desc.0) w
   at None = refl
@@ -98,7 +104,7 @@ queue_given c h t e a = at (description e) where
       ∙ ap (option_and_then (queue_at t.objects)) (number_is c h t (caller e).0 x.desc.0 a.agrees)
       ∙ queue_is c h t (caller e).0 x.desc.0 a.legal a.agrees
 
-pub semaphore_given : (c : Config) (h : History) (t : Kept) (e : Event) → IsCore c h t → option_and_then (λ (r : ObjectRow). semaphore_in r.body) (option_and_then (λ (r : Row). row_at t.objects r.object) (row_meant t.descriptions e)) ≡ by_description (semaphore_held c h) e
+pub semaphore_given : (c : Config) (h : History) (t : TablesView) (e : Event) → IsCore c h t → option_and_then (λ (r : ObjectRow). semaphore_in r.body) (option_and_then (λ (r : Row). row_at t.objects r.object) (row_meant t.descriptions e)) ≡ by_description (semaphore_held c h) e
 semaphore_given c h t e a = at (description e) where
   at : (w : Option Described) → option_and_then (λ (r : ObjectRow). semaphore_in r.body) (option_and_then (λ (r : Row). row_at t.objects r.object) (option_and_then (λ (x : Described). row_of t.descriptions.rows (caller e).0 x.desc.0) w)) ≡ option_and_then (λ (x : Described). semaphore_held c h (caller e).0 x.desc.0) w
   at None = refl
@@ -148,7 +154,7 @@ registered_meant c h e legal = at (description e) where
   at (Some x) = registered_held c h (holds h (caller e).0 x.desc.0) legal
 
 -- NONBLOCK
-pub nonblock_meant : (c : Config) (h : History) (t : Kept) (e : Event) → IsCore c h t → there_is (λ (r : Row). r.nonblock) (row_meant t.descriptions e) ≡ (is_some (by_description (holds h) e) && there_is (λ (x : Described). is_nonblock h (caller e).0 x.desc.0) (description e))
+pub nonblock_meant : (c : Config) (h : History) (t : TablesView) (e : Event) → IsCore c h t → there_is (λ (r : Row). r.nonblock) (row_meant t.descriptions e) ≡ (is_some (by_description (holds h) e) && there_is (λ (x : Described). is_nonblock h (caller e).0 x.desc.0) (description e))
 nonblock_meant c h t e a = at (description e) where
   at : (w : Option Described) → there_is (λ (r : Row). r.nonblock) (option_and_then (λ (x : Described). row_of t.descriptions.rows (caller e).0 x.desc.0) w) ≡ (is_some (option_and_then (λ (x : Described). holds h (caller e).0 x.desc.0) w) && there_is (λ (x : Described). is_nonblock h (caller e).0 x.desc.0) w)
   at None = refl

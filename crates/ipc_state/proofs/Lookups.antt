@@ -8,6 +8,7 @@ use Rattle.ipc_terms.specs.Names.{same_family, same_name}
 use Rattle.ipc_terms.specs.declared.binding.Binding.{Binding}
 use Rattle.ipc_terms.specs.declared.facts.Facts.{Facts}
 use Rattle.ipc_terms.specs.declared.ids.Family.{Family}
+use Rattle.ipc_terms.specs.declared.ids.Mode.{Mode}
 use Rattle.ipc_terms.specs.declared.ids.Family.TheVariants.{Mq, Sem}
 use Rattle.ipc_access.specs.Users.{cred_of}
 use Rattle.ipc_names.specs.Directory.{Directory, object_named, names_object, bound_names}
@@ -15,26 +16,26 @@ use Rattle.ipc_policy.specs.declared.config.Config.{Config}
 use Rattle.ipc_policy.specs.declared.config.Held.{Held}
 use Rattle.ipc_terms.specs.declared.object.Object.{Object}
 use Rattle.ipc_policy.specs.History.{History, gathered_below, any_below}
-use Rattle.ipc_policy.specs.Sessions.{cred}
+use Rattle.ipc_policy.specs.Sessions.{cred, live, mask}
 use Rattle.ipc_policy.specs.Names.{Opening, creations, bound}
 use Rattle.ipc_policy.specs.Objects.{object, facts}
 use Rattle.ipc_policy.specs.Descriptions.{opens, if_of, held, holds, held_count, is_nonblock}
 use Rattle.ipc_policy.specs.Life.{named, binding_of, bindings, names, gives_object, alive}
 use Rattle.ipc_policy.specs.Parking.{Parked, parked}
-use Rattle.ipc_policy.proofs.Gathering.{passes, gathered_any, gathered_find, any_one, any_below_same, any_below_at}
-use Rattle.ipc_policy.proofs.Holding.{held_below, how_many_below_same}
-use Rattle.ipc_policy.proofs.Living.{named_below}
-use Rattle.ipc_policy.proofs.Listing.{listed_is_bound}
+use Rattle.ipc_policy.proofs.Lists.Gathering.{passes, gathered_any, gathered_find, any_one, any_below_same, any_below_at}
+use Rattle.ipc_policy.proofs.Holdings.Holding.{held_below, how_many_below_same}
+use Rattle.ipc_policy.proofs.Directories.Living.{named_below}
+use Rattle.ipc_policy.proofs.Directories.Listing.{listed_is_bound}
 use Rattle.ipc_policy.specs.Verdict.{Legal}
-use Rattle.ipc_policy.proofs.Known.{object_below}
-use Rattle.ipc_policy.proofs.Bindings.{object_with_facts}
+use Rattle.ipc_policy.proofs.Histories.Known.{object_below}
+use Rattle.ipc_policy.proofs.Directories.Bindings.{object_with_facts}
 use Rattle.ipc_tables.specs.declared.rows.Session.{Session}
 use Rattle.ipc_tables.specs.declared.rows.ObjectRow.{ObjectRow}
 use Rattle.ipc_descr.specs.declared.row.Row.{Row}
 use Rattle.ipc_descr.specs.Descriptions.{Descriptions, is_desc, is_of, is_to, is_open}
 use Rattle.ipc_tables.specs.Objects.{bytes_taken, is_number, row_at, facts_at, queue_in, queue_at, semaphore_in, semaphore_at}
 use Rattle.ipc_tables.specs.declared.rows.Body.{Body}
-use Rattle.ipc_tables.specs.Kept.{Kept, directory_kept, parked_on_at, is_alive}
+use Rattle.ipc_tables.specs.TablesView.{TablesView, directory_kept, parked_on_at, is_live_row, is_alive}
 use Rattle.ipc_terms.specs.Objects.{of_queue, as_queue, of_semaphore, as_semaphore}
 use Rattle.ipc_terms.specs.declared.object.Kind.{Kind}
 use Rattle.ipc_terms.specs.declared.object.Kind.TheVariants.{Queue as QueueKind, Semaphore as SemaphoreKind}
@@ -53,6 +54,11 @@ then_map f g (Some x) = refl
 pub cred_is : (c : Config) (h : History) (xs : List Session) (s : ℕ) → SessionsAgree c h xs → option_and_then (λ (row : Session). cred_of c.users row.user) (slice_get xs s) ≡ cred c h s
 unfolding cred
 cred_is c h xs s a = then_map (λ (row : Session). row.user) (cred_of c.users) (slice_get xs s) ∙ ap (option_and_then (cred_of c.users)) (a.users s)
+
+pub mask_is : (c : Config) (h : History) (xs : List Session) (s : ℕ) (row : Session) → SessionsAgree c h xs → Some row ≡ slice_get xs s → live h s ≡ true → row.mask ≡ record { 0 = mask h s }
+mask_is c h xs s row a is lives =
+    let mode : ℕ → Mode = λ n. record { 0 = n } in
+    ap mode (a.masks s row (sym is) (ap is_live_row is ∙ a.lives s ∙ lives))
 
 mapped_some : {X Y : Type 0} (f : X → Y) (o : Option X) → is_some (option_map f o) ≡ is_some o
 mapped_some f None = refl
@@ -88,6 +94,18 @@ row_is h t d a =
 
 pub held_is : (h : History) (t : Descriptions) (d : ℕ) → DescriptionsAgree h t → option_map held_in (find (is_desc d) t.rows) ≡ held h d
 held_is h t d a = ap (option_map held_in) (row_is h t d a) ∙ held_back (is_nonblock h) d (held h d)
+
+object_given : (h : History) (s d o : ℕ) (w : Option Held) → option_map (λ (x : Held). x.object) (option_and_then (if_of s) w) ≡ Some o → option_map (λ (row : Row). row.object) (option_map (row_held (is_nonblock h) d) w) ≡ Some o
+object_given h s d o None e = e
+object_given h s d o (Some x) e = at (eqb x.session.0 s) e where
+  at : (own : Bool) → option_map (λ (y : Held). y.object) (cond own (Some x) None) ≡ Some o → Some x.object ≡ Some o
+  at true k = k
+  at false k = absurd cc
+
+-- what a session has by a description is what the description gives
+pub given_is : (h : History) (t : Descriptions) (s d o : ℕ) → DescriptionsAgree h t → option_map (λ (x : Held). x.object) (holds h s d) ≡ Some o → option_map (λ (row : Row). row.object) (find (is_desc d) t.rows) ≡ Some o
+unfolding holds
+given_is h t s d o a e = ap (option_map (λ (row : Row). row.object)) (row_is h t d a) ∙ object_given h s d o (held h d) e
 
 of_session : (n : ℕ → ℕ → Bool) (s d : ℕ) (w : Option Held) → passes (is_of s) (option_map (row_held n d) w) ≡ is_some (option_and_then (if_of s) w)
 of_session n s d None = refl
@@ -248,17 +266,17 @@ body_column of meant q none some o true (Some x) None e k = absurd cc
 body_column of meant q none some o true (Some x) (Some y) e k = some x
 body_column of meant q none some o false w v e k = absurd cc
 
-pub object_alive : (c : Config) (h : History) (t : Kept) (o : ℕ) → Legal c h → Agrees c h t → alive h o ≡ true → option_map (λ (row : ObjectRow). row.object) (row_at t.objects o) ≡ object c h o
+pub object_alive : (c : Config) (h : History) (t : TablesView) (o : ℕ) → Legal c h → Agrees c h t → alive h o ≡ true → option_map (λ (row : ObjectRow). row.object) (row_at t.objects o) ≡ object c h o
 object_alive c h t o legal a k =
     ap (option_map (λ (row : ObjectRow). row.object)) (row_at_is c h t.objects t.created o a.objects)
     ∙ object_column o (alive h o) (object c h o) (facts c h o) (inside c h o) k (object_with_facts c h legal o)
 
-pub queue_alive : (c : Config) (h : History) (t : Kept) (o : ℕ) → Legal c h → Agrees c h t → alive h o ≡ true → queue_at t.objects o ≡ queue_meant c h o
+pub queue_alive : (c : Config) (h : History) (t : TablesView) (o : ℕ) → Legal c h → Agrees c h t → alive h o ≡ true → queue_at t.objects o ≡ queue_meant c h o
 queue_alive c h t o legal a k =
     ap (option_and_then (λ (row : ObjectRow). queue_in row.body)) (row_at_is c h t.objects t.created o a.objects)
     ∙ body_column queue_in (λ w. option_map (tickets_of (registered c h o) (queue c h o)) (as_queue w)) (inside c h o) refl (λ x. queue_of_kind x (inside c h o)) o (alive h o) (object c h o) (facts c h o) k (object_with_facts c h legal o)
 
-pub semaphore_alive : (c : Config) (h : History) (t : Kept) (o : ℕ) → Legal c h → Agrees c h t → alive h o ≡ true → semaphore_at t.objects o ≡ semaphore_meant c h o
+pub semaphore_alive : (c : Config) (h : History) (t : TablesView) (o : ℕ) → Legal c h → Agrees c h t → alive h o ≡ true → semaphore_at t.objects o ≡ semaphore_meant c h o
 semaphore_alive c h t o legal a k =
     ap (option_and_then (λ (row : ObjectRow). semaphore_in row.body)) (row_at_is c h t.objects t.created o a.objects)
     ∙ body_column semaphore_in (λ w. option_map (λ first_value. counter_of (semaphore h o)) (as_semaphore w)) (inside c h o) refl (λ x. semaphore_of_kind x (inside c h o)) o (alive h o) (object c h o) (facts c h o) k (object_with_facts c h legal o)
@@ -273,6 +291,6 @@ facts_found c h objects created f name legal a = at (bound h f name) refl where
   at (Some o) e = facts_alive c h objects created o legal a (bound_alive h f name o e)
 
 -- what a family's directory has
-pub directory_agrees : (c : Config) (h : History) (t : Kept) (f : Family) → Agrees c h t → DirectoryAgrees h f (directory_kept f t)
+pub directory_agrees : (c : Config) (h : History) (t : TablesView) (f : Family) → Agrees c h t → DirectoryAgrees h f (directory_kept f t)
 directory_agrees c h t Mq a = a.queues
 directory_agrees c h t Sem a = a.semaphores

@@ -16,8 +16,8 @@ use Rattle.ipc_policy.specs.Names.{Opening, creations}
 use Rattle.ipc_policy.specs.Objects.{object, facts, directory}
 use Rattle.ipc_policy.specs.Descriptions.{opens, if_of, held, holds, is_nonblock}
 use Rattle.ipc_policy.specs.Life.{named, bindings, gives_object, alive}
-use Rattle.ipc_policy.proofs.Gathering.{gathered_same, gathered_more, passing, gathered_filter, any_below_same, any_below_more, more_at}
-use Rattle.ipc_policy.proofs.Holding.{kept_some}
+use Rattle.ipc_policy.proofs.Lists.Gathering.{gathered_same, gathered_more, passing, gathered_filter, any_below_same, any_below_more, more_at}
+use Rattle.ipc_policy.proofs.Holdings.Holding.{kept_some}
 use Rattle.ipc_tables.specs.declared.rows.ObjectRow.{ObjectRow}
 use Rattle.ipc_descr.specs.declared.row.Row.{Row}
 use Rattle.ipc_terms.specs.Lists.{changed_first}
@@ -32,7 +32,7 @@ use Rattle.ipc_policy.specs.Semaphores.{Semaphore}
 use Rattle.ipc_tables.specs.Objects.{is_number, bytes_taken, new_body, new_row, with_queue, with_held}
 use Rattle.ipc_tables.specs.declared.rows.Body.TheVariants.{Queue as QueueBody}
 use Rattle.ipc_tables.specs.declared.rows.Body.{Body}
-use Rattle.ipc_tables.specs.Kept.{is_alive, is_kept}
+use Rattle.ipc_tables.specs.TablesView.{is_alive, is_kept}
 use Rattle.ipc_tables.specs.Steps.{living}
 use Rattle.ipc_state.specs.Agrees.{DirectoryAgrees, ObjectsAgree, DescriptionsAgree, Inside, inside, tickets_of, body_of, row_made, row_with, row_held}
 use Rattle.ipc_state.proofs.Lookups.{alive_is, row_of_other, row_of_own, row_other, row_own}

@@ -21,31 +21,31 @@ use Rattle.ipc_policy.specs.Descriptions.{opens, opened, held}
 use Rattle.ipc_policy.specs.Life.{named, bindings, gives_object, alive}
 use Rattle.ipc_policy.specs.Semaphores.{semaphore, with_first}
 use Rattle.ipc_policy.specs.Grow.{is_new}
-use Rattle.ipc_policy.proofs.Holding.{kept_all}
-use Rattle.ipc_policy.proofs.Grown.{grows}
-use Rattle.ipc_policy.proofs.Gathering.{filter_all}
-use Rattle.ipc_policy.proofs.Known.{bound_iff}
-use Rattle.ipc_policy.proofs.Creating.{not_created_empty, not_created_still}
-use Rattle.ipc_policy.proofs.ParkedSteps.{parked_by_others, queue_by_others}
-use Rattle.ipc_policy.proofs.WaitSteps.{semaphore_by_others}
+use Rattle.ipc_policy.proofs.Holdings.Holding.{kept_all}
+use Rattle.ipc_policy.proofs.Histories.Grown.{grows}
+use Rattle.ipc_policy.proofs.Lists.Gathering.{filter_all}
+use Rattle.ipc_policy.proofs.Histories.Known.{bound_iff}
+use Rattle.ipc_policy.proofs.Directories.Creating.{not_created_empty, not_created_still}
+use Rattle.ipc_policy.proofs.Blocked.ParkedSteps.{parked_by_others, queue_by_others}
+use Rattle.ipc_policy.proofs.Blocked.WaitSteps.{semaphore_by_others}
 use Rattle.ipc_names.specs.Directory.{Directory}
 use Rattle.ipc_descr.specs.Descriptions.{is_of, is_desc}
-use Rattle.ipc_tables.specs.Kept.{Kept}
+use Rattle.ipc_tables.specs.TablesView.{TablesView}
 use Rattle.ipc_tables.specs.Steps.{with_binding, without_binding, with_object, after_found, after_created, after_close, after_unlink}
 use Rattle.ipc_tables.specs.declared.tables.Grant.{Grant}
 use Rattle.ipc_state.specs.Agrees.{Agrees, IsCore, SessionsAgree, DirectoryAgrees, inside}
 use Rattle.ipc_state.proofs.ChargeTables.{charged_same, limit_left, charges_kept, charges_created}
 use Rattle.ipc_state.proofs.Lookups.{bound_alive}
 use Rattle.ipc_state.proofs.SessionTables.{sessions_kept}
-use Rattle.ipc_policy.proofs.Facts.{GivesNothing, facts_made, directory_left}
+use Rattle.ipc_policy.proofs.Directories.Facts.{GivesNothing, facts_made, directory_left}
 use Rattle.ipc_state.proofs.ObjectTables.{directory_kept, objects_kept, objects_created, descriptions_kept, descriptions_dropped}
 use Rattle.ipc_state.proofs.Opens.{Apart, Opens, Ends, Unlinks, Closes, made_open, made_left, body_made, descriptions_opened, alive_opened}
 use Rattle.ipc_policy.specs.Registrations.{registered}
-use Rattle.ipc_policy.proofs.RegisteredSteps.{not_created_unregistered}
+use Rattle.ipc_policy.proofs.Queues.RegisteredSteps.{not_created_unregistered}
 use Rattle.ipc_state.proofs.Accepting.{others_inside, within, gone}
 
 -- the sessions are as they were
-pub sessions_apart : (c : Config) (h : History) (e : Event) (t : Kept) → Apart e → Agrees c h t → SessionsAgree c (after_accepted h e) t.sessions
+pub sessions_apart : (c : Config) (h : History) (e : Event) (t : TablesView) → Apart e → Agrees c h t → SessionsAgree c (after_accepted h e) t.sessions
 sessions_apart c h e t p a = sessions_kept c h _ e t.sessions (grows c h e) (p.hellos' _) (λ s. p.user' s _ _) (λ s. p.live' s _ _) (λ s. p.mask' s _) (λ s. parked_by_others c h e s p.still) a.sessions
 
 -- a directory, where its bindings are as they were
@@ -87,7 +87,7 @@ found_alive c h e asked b o p is =
 made_none : {A : Type 0} (new b : Bool) (w v : A) → new ≡ false → cond (new && b) w v ≡ v
 made_none new b w v e = rw e refl
 
-pub agrees_found : (c : Config) (h : History) (t : Kept) (e : Event) (asked : Opening) (o : ℕ) → Opens e asked → Agrees c h t → bound h asked.family asked.name ≡ Some o → Agrees c (after_accepted h e) (after_found t (granted_by asked) o)
+pub agrees_found : (c : Config) (h : History) (t : TablesView) (e : Event) (asked : Opening) (o : ℕ) → Opens e asked → Agrees c h t → bound h asked.family asked.name ≡ Some o → Agrees c (after_accepted h e) (after_found t (granted_by asked) o)
 agrees_found c h t e asked o p a is =
     let g = grows c h e in
     let old = new_of_bound h asked o is in
@@ -118,7 +118,7 @@ created_alive c h e asked p new none =
     ∙ rw (new, eq-eqb (creations h) (creations h) refl) refl
 
 -- the name stands at the end of its family's directory
-names_bound : (c : Config) (h : History) (t : Kept) (e : Event) (f : Family) (name : List ℕ) → GivesNothing e → Agrees c h t → ((g : Family) → bindings (after_accepted h e) g ≡ cond (same_family f g) (bindings h g ++ record { name = name; object = creations h } ∷ []) (bindings h g)) → DirectoryAgrees (after_accepted h e) Mq (with_binding f name t.created t).queues × DirectoryAgrees (after_accepted h e) Sem (with_binding f name t.created t).semaphores
+names_bound : (c : Config) (h : History) (t : TablesView) (e : Event) (f : Family) (name : List ℕ) → GivesNothing e → Agrees c h t → ((g : Family) → bindings (after_accepted h e) g ≡ cond (same_family f g) (bindings h g ++ record { name = name; object = creations h } ∷ []) (bindings h g)) → DirectoryAgrees (after_accepted h e) Mq (with_binding f name t.created t).queues × DirectoryAgrees (after_accepted h e) Sem (with_binding f name t.created t).semaphores
 names_bound c h t e Mq name p a b = (
   record { bound = ap (λ l. l ++ record { name = name; object = t.created } ∷ []) a.queues.bound ∙ ap (λ n. bindings h Mq ++ record { name = name; object = n } ∷ []) a.objects.count ∙ sym (b Mq); facts = a.queues.facts ∙ sym (directory_left h e p Mq) },
   directory_same h e Sem t.semaphores p (b Sem) a.semaphores,
@@ -129,7 +129,7 @@ names_bound c h t e Sem name p a b = (
 )
 
 -- with the name bound, the other tables are as they were
-rest_of : (f : Family) (name : List ℕ) (o : ℕ) (t : Kept) → with_binding f name o t ≡ record t { queues = (with_binding f name o t).queues; semaphores = (with_binding f name o t).semaphores }
+rest_of : (f : Family) (name : List ℕ) (o : ℕ) (t : TablesView) → with_binding f name o t ≡ record t { queues = (with_binding f name o t).queues; semaphores = (with_binding f name o t).semaphores }
 rest_of Mq name o t = refl
 rest_of Sem name o t = refl
 
@@ -145,7 +145,7 @@ made_who make w who was e = rw e refl
 other_at : {A : Type 0} (n o : ℕ) (w v : A) → o < n → cond (eqb n o) w v ≡ v
 other_at n o w v lt = rw (ne_eqb n o (λ (q : n ≡ o). absurd (omega arith))) refl
 
-pub agrees_created : (c : Config) (h : History) (t : Kept) (e : Event) (asked : Opening) (who : Cred) → Opens e asked → Agrees c h t → is_new asked (is_bound h) ≡ true → bound h asked.family asked.name ≡ None → cred c h asked.session.0 ≡ Some who → Agrees c (after_accepted h e) (after_created t (granted_by asked) asked.name (made_by c asked who) (first_facts asked (mask h asked.session.0) who))
+pub agrees_created : (c : Config) (h : History) (t : TablesView) (e : Event) (asked : Opening) (who : Cred) → Opens e asked → Agrees c h t → is_new asked (is_bound h) ≡ true → bound h asked.family asked.name ≡ None → cred c h asked.session.0 ≡ Some who → Agrees c (after_accepted h e) (after_created t (granted_by asked) asked.name (made_by c asked who) (first_facts asked (mask h asked.session.0) who))
 agrees_created c h t e asked who p a new none is =
     let g = grows c h e in
     let k = after_accepted h e in
@@ -182,7 +182,7 @@ pub ends_inside : (c : Config) (h : History) (e : Event) (o : ℕ) → Ends e �
 ends_inside c h e o p = within c h e o p.apart.still (made_left e p.none o _ _ _ _)
 
 -- an accepted close
-pub agrees_closed : (c : Config) (h : History) (t : Kept) (e : Event) (sid : Sid) (desc : Desc) → Closes e sid desc → IsCore c h t → Agrees c (after_accepted h e) (after_close t sid.0 desc.0)
+pub agrees_closed : (c : Config) (h : History) (t : TablesView) (e : Event) (sid : Sid) (desc : Desc) → Closes e sid desc → IsCore c h t → Agrees c (after_accepted h e) (after_close t sid.0 desc.0)
 agrees_closed c h t e sid desc p core =
     let a = core.agrees in
     let g = grows c h e in
@@ -208,7 +208,7 @@ agrees_closed c h t e sid desc p core =
     a
 
 -- the name is gone from its family's directory
-names_unbound : (c : Config) (h : History) (t : Kept) (e : Event) (f : Family) (name : List ℕ) → GivesNothing e → Agrees c h t → ((g : Family) → bindings (after_accepted h e) g ≡ filter (λ (x : Binding). not (same_family f g && same_name x.name name)) (bindings h g)) → DirectoryAgrees (after_accepted h e) Mq (without_binding f name t).queues × DirectoryAgrees (after_accepted h e) Sem (without_binding f name t).semaphores
+names_unbound : (c : Config) (h : History) (t : TablesView) (e : Event) (f : Family) (name : List ℕ) → GivesNothing e → Agrees c h t → ((g : Family) → bindings (after_accepted h e) g ≡ filter (λ (x : Binding). not (same_family f g && same_name x.name name)) (bindings h g)) → DirectoryAgrees (after_accepted h e) Mq (without_binding f name t).queues × DirectoryAgrees (after_accepted h e) Sem (without_binding f name t).semaphores
 names_unbound c h t e Mq name p a b = (
   record { bound = ap (filter (λ (x : Binding). not (same_name x.name name))) a.queues.bound ∙ sym (b Mq); facts = a.queues.facts ∙ sym (directory_left h e p Mq) },
   directory_same h e Sem t.semaphores p (b Sem ∙ filter_all (bindings h Sem)) a.semaphores,
@@ -218,12 +218,12 @@ names_unbound c h t e Sem name p a b = (
   record { bound = ap (filter (λ (x : Binding). not (same_name x.name name))) a.semaphores.bound ∙ sym (b Sem); facts = a.semaphores.facts ∙ sym (directory_left h e p Sem) },
 )
 
-left_of : (f : Family) (name : List ℕ) (t : Kept) → without_binding f name t ≡ record t { queues = (without_binding f name t).queues; semaphores = (without_binding f name t).semaphores }
+left_of : (f : Family) (name : List ℕ) (t : TablesView) → without_binding f name t ≡ record t { queues = (without_binding f name t).queues; semaphores = (without_binding f name t).semaphores }
 left_of Mq name t = refl
 left_of Sem name t = refl
 
 -- an accepted unlink
-pub agrees_unlinked : (c : Config) (h : History) (t : Kept) (e : Event) (what : Naming) → Unlinks e what → IsCore c h t → Agrees c (after_accepted h e) (after_unlink t what.family what.name)
+pub agrees_unlinked : (c : Config) (h : History) (t : TablesView) (e : Event) (what : Naming) → Unlinks e what → IsCore c h t → Agrees c (after_accepted h e) (after_unlink t what.family what.name)
 agrees_unlinked c h t e what p core =
     let a = core.agrees in
     let g = grows c h e in

@@ -19,7 +19,7 @@ use Rattle.ipc_policy.specs.declared.config.Config.{Config}
 use Rattle.ipc_policy.specs.declared.config.Held.{Held}
 use Rattle.ipc_policy.specs.declared.config.Registration.{Registration}
 use Rattle.ipc_policy.specs.Registrations.{registered}
-use Rattle.ipc_policy.proofs.RegisteredSteps.{registered_stays, registered_kept}
+use Rattle.ipc_policy.proofs.Queues.RegisteredSteps.{registered_stays, registered_kept}
 use Rattle.ipc_policy.specs.History.{History, after_accepted, kept, listed, gathered_below, any_below}
 use Rattle.ipc_policy.specs.Names.{Opening, Naming, opening, unlinking, unlinks, queue_opening, semaphore_opening, nonblock_asked, is_bound, creations, bound}
 use Rattle.ipc_policy.specs.Objects.{kind_of}
@@ -29,12 +29,13 @@ use Rattle.ipc_policy.specs.Charges.{sets_limit}
 use Rattle.ipc_policy.specs.Queues.{Queue, empty_queue}
 use Rattle.ipc_policy.specs.Semaphores.{Semaphore, no_semaphore, with_first}
 use Rattle.ipc_policy.specs.Grow.{Grows, is_new, hellos_after, user_after, live_after, mask_after, nonblock_after, named_after, held_after, opens_after, bindings_after, creations_after, made_after}
-use Rattle.ipc_policy.proofs.Gathering.{gathered_more, any_below_same}
-use Rattle.ipc_policy.proofs.ParkedSteps.{moves}
+use Rattle.ipc_policy.proofs.Lists.Gathering.{gathered_more, any_below_same}
+use Rattle.ipc_policy.proofs.Blocked.ParkedSteps.{moves}
 use Rattle.ipc_descr.specs.Descriptions.{Descriptions, with_open}
 use Rattle.ipc_tables.specs.Objects.{new_body}
 use Rattle.ipc_state.specs.Agrees.{DescriptionsAgree, row_held, body_of}
-use Rattle.ipc_policy.proofs.Facts.{GivesNothing}
+use Rattle.ipc_state.specs.Meetings.{by_name, object_bound}
+use Rattle.ipc_policy.proofs.Directories.Facts.{GivesNothing}
 use Rattle.ipc_state.proofs.ObjectTables.{and_off}
 
 -- an event that says nothing of sessions, of what is parked, and of limits
@@ -184,3 +185,15 @@ unfolding alive
 alive_opened c h k e asked b o g p is =
     ap (λ w. is_some w || any_below (λ d. gives_object o (held k d)) (opens k)) (g.named_by o ∙ p.named' o (creations h) (is_bound h) (named h o))
     ∙ ap (λ i. is_some (cond (is_new asked (is_bound h) && eqb (creations h) o) (Some asked) (named h o)) || i) (any_opened c h k e asked b o g p is)
+
+-- the name that an open names
+pub named_by_open : (h : History) (e : Event) (asked : Opening) → opening e ≡ Some asked → by_name (object_bound h) e ≡ bound h asked.family asked.name
+named_by_open h (Do sid (MqOpen given)) asked k =
+    let same : queue_opening sid given ≡ asked = cc in
+    subst (λ (a : Opening). by_name (object_bound h) (Do sid (MqOpen given)) ≡ bound h a.family a.name) same refl
+named_by_open h (Do sid (SemOpen given)) asked k =
+    let same : semaphore_opening sid given ≡ asked = cc in
+    subst (λ (a : Opening). by_name (object_bound h) (Do sid (SemOpen given)) ≡ bound h a.family a.name) same refl
+named_by_open h (Do sid call) asked k = absurd cc
+named_by_open h (Hello found) asked k = absurd cc
+named_by_open h (Hangup sid) asked k = absurd cc

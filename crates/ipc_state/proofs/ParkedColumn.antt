@@ -14,8 +14,8 @@ use Rattle.ipc_policy.specs.Queues.{Send, Wait, senders, receivers, is_full, is_
 use Rattle.ipc_policy.specs.Semaphores.{waiters, is_zero}
 use Rattle.ipc_policy.specs.Parking.{Sending, Receiving, Waiting, Parked, parked}
 use Rattle.ipc_policy.specs.Verdict.{Legal}
-use Rattle.ipc_policy.proofs.ParkedSteps.{parked_by_send, parked_by_receive, parked_by_interrupt, parked_by_hangup}
-use Rattle.ipc_policy.proofs.WaitSteps.{parked_by_post, parked_by_wait}
+use Rattle.ipc_policy.proofs.Blocked.ParkedSteps.{parked_by_send, parked_by_receive, parked_by_interrupt, parked_by_hangup}
+use Rattle.ipc_policy.proofs.Blocked.WaitSteps.{parked_by_post, parked_by_wait}
 use Rattle.ipc_terms.proofs.Lists.{eqb_swapped}
 
 -- on which object a session is parked

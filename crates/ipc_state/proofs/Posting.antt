@@ -22,16 +22,16 @@ use Rattle.ipc_policy.specs.Life.{alive}
 use Rattle.ipc_policy.specs.Queues.{Wait}
 use Rattle.ipc_policy.specs.Semaphores.{Posts, Waits, Tries, Cancels, Semaphore, semaphore, semaphore_after, waiters, is_zero, is_greatest}
 use Rattle.ipc_policy.specs.Verdict.{verdict, Legal}
-use Rattle.ipc_policy.proofs.EachItem.{each_first, each_map}
-use Rattle.ipc_policy.proofs.CallsListed.{calls_listed}
-use Rattle.ipc_policy.proofs.ParkedSessions.{waiters_differ}
-use Rattle.ipc_policy.proofs.Unforbidden.{post_below_greatest}
-use Rattle.ipc_policy.proofs.ValueCounts.{is_zero-at, is_greatest-at}
-use Rattle.ipc_policy.proofs.WaitSteps.{semaphore_by_post, semaphore_by_wait, semaphore_by_try}
+use Rattle.ipc_policy.proofs.Lists.EachItem.{each_first, each_map}
+use Rattle.ipc_policy.proofs.Blocked.CallsListed.{calls_listed}
+use Rattle.ipc_policy.proofs.Blocked.ParkedSessions.{waiters_differ}
+use Rattle.ipc_policy.proofs.Histories.Unforbidden.{post_below_greatest}
+use Rattle.ipc_policy.proofs.Semaphores.ValueCounts.{is_zero-at, is_greatest-at}
+use Rattle.ipc_policy.proofs.Blocked.WaitSteps.{semaphore_by_post, semaphore_by_wait, semaphore_by_try}
 use Rattle.ipc_tables.specs.declared.rows.Session.{Session}
 use Rattle.ipc_tables.specs.Objects.{semaphore_at}
-use Rattle.ipc_tables.specs.Kept.{Kept}
-use Rattle.ipc_tables.specs.Steps.{parked_by_post, parked_by_wait, waiter_at, WaiterStands}
+use Rattle.ipc_tables.specs.TablesView.{TablesView}
+use Rattle.ipc_tables.specs.Steps.{parked_by_post, parked_by_wait, waiter_at}
 use Rattle.ipc_state.specs.Agrees.{Agrees, SessionsAgree, receiver_of, counter_of}
 use Rattle.ipc_state.proofs.Mapped.{longest_mapped}
 use Rattle.ipc_state.proofs.Lookups.{semaphore_alive}
@@ -41,31 +41,19 @@ use Rattle.ipc_state.proofs.SessionTables.{Columns, columns_of, columns_moved}
 use Rattle.ipc_state.proofs.Serving.{IsHereSemaphore, parked_stands}
 
 -- the semaphore of an object that is alive, as it is kept
-pub semaphore_there : (c : Config) (h : History) (t : Kept) (o first_value : ℕ) → Legal c h → Agrees c h t → alive h o ≡ true → as_semaphore (object c h o) ≡ Some first_value → semaphore_at t.objects o ≡ Some (counter_of (semaphore h o))
+pub semaphore_there : (c : Config) (h : History) (t : TablesView) (o first_value : ℕ) → Legal c h → Agrees c h t → alive h o ≡ true → as_semaphore (object c h o) ≡ Some first_value → semaphore_at t.objects o ≡ Some (counter_of (semaphore h o))
 semaphore_there c h t o first_value legal a lives e = semaphore_alive c h t o legal a lives ∙ ap (option_map (λ v. counter_of (semaphore h o))) e
 
 -- it stands in the table, where a call by a description of it is accepted
-pub semaphore_stands : (c : Config) (h : History) (t : Kept) (s d o : ℕ) → Legal c h → Agrees c h t → IsHereSemaphore c h t s d o → is_some (semaphore_at t.objects o) ≡ true
+pub semaphore_stands : (c : Config) (h : History) (t : TablesView) (s d o : ℕ) → Legal c h → Agrees c h t → IsHereSemaphore c h t s d o → is_some (semaphore_at t.objects o) ≡ true
 semaphore_stands c h t s d o legal a here = subst (λ (i : ℕ). is_some (semaphore_at t.objects i) ≡ true) here.same (ap is_some (semaphore_there c h t here.x.object here.given legal a here.lives here.made))
 
 -- who waits longest
-waiter_told : (c : Config) (h : History) (t : Kept) (o first_value : ℕ) → Legal c h → Agrees c h t → alive h o ≡ true → as_semaphore (object c h o) ≡ Some first_value → waiter_at t.objects o ≡ option_map receiver_of (first (waiters h o))
+waiter_told : (c : Config) (h : History) (t : TablesView) (o first_value : ℕ) → Legal c h → Agrees c h t → alive h o ≡ true → as_semaphore (object c h o) ≡ Some first_value → waiter_at t.objects o ≡ option_map receiver_of (first (waiters h o))
 waiter_told c h t o first_value legal a lives e = ap (option_and_then (λ (q : Counter). first q.waiters)) (semaphore_there c h t o first_value legal a lives e) ∙ longest_mapped receiver_of (waiters h o)
 
 waiter_stands : (c : Config) (h : History) (xs : List Session) (o : ℕ) (w : Wait) → Legal c h → SessionsAgree c h xs → first (waiters h o) ≡ Some w → w.session < length xs
 waiter_stands c h xs o w legal a e = each_first (λ (v : Wait). v.session < length xs) (waiters h o) (each_map _ (λ (v : Wait). v.session < length xs) (waiters h o) (λ v is. parked_stands c h xs v.session _ a is) ((calls_listed c h legal).each_wait o)) w e
-
-first_waiter : (w : Option Wait) (who : Sid) → option_map receiver_of w ≡ Some who → (v : Wait) × ((w ≡ Some v) × (v.session ≡ who.0))
-first_waiter None who e = absurd cc
-first_waiter (Some v) who e = let same : receiver_of v ≡ who = cc in (v, (refl, ap (λ (s : Sid). s.0) same))
-
-waiters_stand : (c : Config) (h : History) (t : Kept) (o first_value : ℕ) → Legal c h → Agrees c h t → alive h o ≡ true → as_semaphore (object c h o) ≡ Some first_value → WaiterStands t o
-waiters_stand c h t o first_value legal a lives e = λ who is.
-    let found = first_waiter (first (waiters h o)) who (sym (waiter_told c h t o first_value legal a lives e) ∙ is) in
-    subst (λ (s : ℕ). s < length t.sessions) found.1.1 (waiter_stands c h t.sessions o found.0 legal a.sessions found.1.0)
-
-pub waiter_is : (c : Config) (h : History) (t : Kept) (s d o : ℕ) → Legal c h → Agrees c h t → IsHereSemaphore c h t s d o → WaiterStands t o
-waiter_is c h t s d o legal a here = subst (WaiterStands t) here.same (waiters_stand c h t here.x.object here.given legal a here.lives here.made)
 
 -- what an accepted post raises has room for it
 no_overflow : (b d : Bool) → d ≡ false → (b && d) ≡ false
@@ -76,7 +64,7 @@ overflow_at : (q : Semaphore) → eqb q.value SEM_VALUE_MAX ≡ false → overfl
 unfolding overflows
 overflow_at q e = no_overflow (has_no_waiter (map receiver_of q.waiters)) (eqb q.value SEM_VALUE_MAX) e
 
-pub post_room : (c : Config) (h : History) (t : Kept) (sid : Sid) (desc : Desc) (o : ℕ) → Legal c h → Agrees c h t → verdict c h (Do sid (SemPost desc)) ≡ None → IsHereSemaphore c h t sid.0 desc.0 o → option_map overflows (semaphore_at t.objects o) ≡ Some false
+pub post_room : (c : Config) (h : History) (t : TablesView) (sid : Sid) (desc : Desc) (o : ℕ) → Legal c h → Agrees c h t → verdict c h (Do sid (SemPost desc)) ≡ None → IsHereSemaphore c h t sid.0 desc.0 o → option_map overflows (semaphore_at t.objects o) ≡ Some false
 post_room c h t sid desc o legal a accepted here =
     let low : is_greatest c h here.x.object ≡ false = ap (there_is (λ (x : Held). is_greatest c h x.object)) (sym here.held) ∙ post_below_greatest c h sid desc accepted in
     let below = sym (is_greatest-at c h here.x.object legal (ap is_some here.made)) ∙ low in
@@ -88,7 +76,7 @@ posted_column : (c : Config) (h : History) (xs : List Session) (o : ℕ) (sid : 
 posted_column c h xs o sid a (Some w) there = columns_moved xs (hellos h) (user h) (mask h) (live h) (parked_object c h) None w.session (there w refl) (columns_of c h xs a)
 posted_column c h xs o sid a None there = columns_of c h xs a
 
-pub sessions_posted : (c : Config) (h : History) (t : Kept) (o first_value : ℕ) (sid : Sid) → Legal c h → Agrees c h t → alive h o ≡ true → as_semaphore (object c h o) ≡ Some first_value → Columns (parked_by_post (waiter_at t.objects o) t.sessions) (hellos h) (user h) (mask h) (live h) (column_after (option_map (λ (w : Wait). w.session) (first (waiters h o))) false sid.0 o (parked_object c h))
+pub sessions_posted : (c : Config) (h : History) (t : TablesView) (o first_value : ℕ) (sid : Sid) → Legal c h → Agrees c h t → alive h o ≡ true → as_semaphore (object c h o) ≡ Some first_value → Columns (parked_by_post (waiter_at t.objects o) t.sessions) (hellos h) (user h) (mask h) (live h) (column_after (option_map (λ (w : Wait). w.session) (first (waiters h o))) false sid.0 o (parked_object c h))
 sessions_posted c h t o first_value sid legal a lives e =
     rw (waiter_told c h t o first_value legal a lives e) (posted_column c h t.sessions o sid a.sessions (first (waiters h o)) (λ w is. waiter_stands c h t.sessions o w legal a.sessions is))
 
@@ -100,7 +88,7 @@ outcome_is : (q : Semaphore) → wait_outcome (counter_of q) ≡ cond (eqb q.val
 unfolding wait_outcome
 outcome_is q = refl
 
-pub sessions_waited : (c : Config) (h : History) (t : Kept) (o first_value : ℕ) (sid : Sid) → Legal c h → Agrees c h t → alive h o ≡ true → as_semaphore (object c h o) ≡ Some first_value → sid.0 < length t.sessions → Columns (parked_by_wait o sid (option_map wait_outcome (semaphore_at t.objects o)) t.sessions) (hellos h) (user h) (mask h) (live h) (column_after None (is_zero c h o) sid.0 o (parked_object c h))
+pub sessions_waited : (c : Config) (h : History) (t : TablesView) (o first_value : ℕ) (sid : Sid) → Legal c h → Agrees c h t → alive h o ≡ true → as_semaphore (object c h o) ≡ Some first_value → sid.0 < length t.sessions → Columns (parked_by_wait o sid (option_map wait_outcome (semaphore_at t.objects o)) t.sessions) (hellos h) (user h) (mask h) (live h) (column_after None (is_zero c h o) sid.0 o (parked_object c h))
 sessions_waited c h t o first_value sid legal a lives e lt =
     let zero : eqb (semaphore h o).value 0 ≡ is_zero c h o = sym (is_zero-at c h o legal (ap is_some e)) in
     let told : option_map wait_outcome (semaphore_at t.objects o) ≡ Some (cond (is_zero c h o) WaitParks Passed) = ap (option_map wait_outcome) (semaphore_there c h t o first_value legal a lives e) ∙ ap Some (outcome_is (semaphore h o)) ∙ ap (λ b. Some (cond b WaitParks Passed)) zero in

@@ -14,19 +14,19 @@ use Rattle.ipc_policy.specs.Descriptions.{if_of, held, holds, is_nonblock}
 use Rattle.ipc_policy.specs.Queues.{has_none, attributes, queue, contents}
 use Rattle.ipc_policy.specs.Semaphores.{Semaphore, semaphore, value}
 use Rattle.ipc_policy.specs.Verdict.{Legal}
-use Rattle.ipc_policy.proofs.ValueCounts.{value_counted}
+use Rattle.ipc_policy.proofs.Semaphores.ValueCounts.{value_counted}
 use Rattle.ipc_policy.specs.Life.{alive}
 use Rattle.ipc_policy.specs.Rules.{there_is, object_held, is_full, is_empty}
 use Rattle.ipc_tables.specs.declared.rows.ObjectRow.{ObjectRow}
 use Rattle.ipc_descr.specs.declared.row.Row.{Row}
-use Rattle.ipc_policy.proofs.Creating.{holds_is_held}
+use Rattle.ipc_policy.proofs.Directories.Creating.{holds_is_held}
 use Rattle.ipc_terms.specs.declared.call.Attributes.{Attributes}
 use Rattle.ipc_descr.specs.Descriptions.{is_of, if_of as if_row_of, row_of}
 use Rattle.ipc_descr.proofs.Answering.{row_told}
 use Rattle.ipc_sem.specs.Counters.{Counter}
 use Rattle.ipc_terms.specs.Objects.{as_semaphore}
 use Rattle.ipc_tables.specs.Objects.{row_at, queue_at, semaphore_at}
-use Rattle.ipc_tables.specs.Kept.{Kept}
+use Rattle.ipc_tables.specs.TablesView.{TablesView}
 use Rattle.ipc_policy.specs.Registrations.{registered}
 use Rattle.ipc_state.specs.Agrees.{Agrees, row_held, held_in, ticket_of, tickets_of, queue_meant, counter_of, semaphore_meant}
 use Rattle.ipc_state.proofs.Lookups.{row_is, held_is, held_alive, object_alive, queue_alive, semaphore_alive}
@@ -50,7 +50,7 @@ holds_alive h s d x e = held_alive h d x (holds_is_held h s d x e)
 session_told : (h : History) (s d : ℕ) (row : Row) → eqb (held_in row).session.0 s ≡ is_of s row
 session_told h s d row = eqb_swapped row.session.0 s
 
-pub holds_is : (c : Config) (h : History) (t : Kept) (s d : ℕ) → Agrees c h t → option_map held_in (row_of t.descriptions.rows s d) ≡ holds h s d
+pub holds_is : (c : Config) (h : History) (t : TablesView) (s d : ℕ) → Agrees c h t → option_map held_in (row_of t.descriptions.rows s d) ≡ holds h s d
 unfolding holds
 holds_is c h t s d a = row_told held_in (λ x. eqb x.session.0 s) t.descriptions.rows s d (session_told h s d) ∙ ap (option_and_then (if_of s)) (held_is h t.descriptions d a.descriptions)
 
@@ -59,25 +59,25 @@ numbered : (w : Option Row) → option_map (λ (row : Row). row.object) w ≡ op
 numbered None = refl
 numbered (Some row) = refl
 
-pub number_is : (c : Config) (h : History) (t : Kept) (s d : ℕ) → Agrees c h t → option_map (λ (row : Row). row.object) (row_of t.descriptions.rows s d) ≡ option_map (λ (x : Held). x.object) (holds h s d)
+pub number_is : (c : Config) (h : History) (t : TablesView) (s d : ℕ) → Agrees c h t → option_map (λ (row : Row). row.object) (row_of t.descriptions.rows s d) ≡ option_map (λ (x : Held). x.object) (holds h s d)
 number_is c h t s d a = numbered (row_of t.descriptions.rows s d) ∙ ap (option_map (λ (x : Held). x.object)) (holds_is c h t s d a)
 
 -- the object
-pub object_is : (c : Config) (h : History) (t : Kept) (s d : ℕ) → Legal c h → Agrees c h t → option_and_then (λ o. option_map (λ (row : ObjectRow). row.object) (row_at t.objects o)) (option_map (λ (x : Held). x.object) (holds h s d)) ≡ object_held c h s d
+pub object_is : (c : Config) (h : History) (t : TablesView) (s d : ℕ) → Legal c h → Agrees c h t → option_and_then (λ o. option_map (λ (row : ObjectRow). row.object) (row_at t.objects o)) (option_map (λ (x : Held). x.object) (holds h s d)) ≡ object_held c h s d
 object_is c h t s d legal a = at (holds h s d) refl where
   at : (w : Option Held) → holds h s d ≡ w → option_and_then (λ o. option_map (λ (row : ObjectRow). row.object) (row_at t.objects o)) (option_map (λ (x : Held). x.object) w) ≡ option_and_then (λ x. object c h x.object) w
   at None e = refl
   at (Some x) e = object_alive c h t x.object legal a (holds_alive h s d x e)
 
 -- the queue
-pub queue_is : (c : Config) (h : History) (t : Kept) (s d : ℕ) → Legal c h → Agrees c h t → option_and_then (queue_at t.objects) (option_map (λ (x : Held). x.object) (holds h s d)) ≡ option_and_then (queue_meant c h) (option_map (λ (x : Held). x.object) (holds h s d))
+pub queue_is : (c : Config) (h : History) (t : TablesView) (s d : ℕ) → Legal c h → Agrees c h t → option_and_then (queue_at t.objects) (option_map (λ (x : Held). x.object) (holds h s d)) ≡ option_and_then (queue_meant c h) (option_map (λ (x : Held). x.object) (holds h s d))
 queue_is c h t s d legal a = at (holds h s d) refl where
   at : (w : Option Held) → holds h s d ≡ w → option_and_then (queue_at t.objects) (option_map (λ (x : Held). x.object) w) ≡ option_and_then (queue_meant c h) (option_map (λ (x : Held). x.object) w)
   at None e = refl
   at (Some x) e = queue_alive c h t x.object legal a (holds_alive h s d x e)
 
 -- the semaphore
-pub semaphore_is : (c : Config) (h : History) (t : Kept) (s d : ℕ) → Legal c h → Agrees c h t → option_and_then (semaphore_at t.objects) (option_map (λ (x : Held). x.object) (holds h s d)) ≡ option_and_then (semaphore_meant c h) (option_map (λ (x : Held). x.object) (holds h s d))
+pub semaphore_is : (c : Config) (h : History) (t : TablesView) (s d : ℕ) → Legal c h → Agrees c h t → option_and_then (semaphore_at t.objects) (option_map (λ (x : Held). x.object) (holds h s d)) ≡ option_and_then (semaphore_meant c h) (option_map (λ (x : Held). x.object) (holds h s d))
 semaphore_is c h t s d legal a = at (holds h s d) refl where
   at : (w : Option Held) → holds h s d ≡ w → option_and_then (semaphore_at t.objects) (option_map (λ (x : Held). x.object) w) ≡ option_and_then (semaphore_meant c h) (option_map (λ (x : Held). x.object) w)
   at None e = refl
@@ -131,7 +131,7 @@ row_nonblock b s d (Some x) = at (eqb x.session.0 s) refl where
   at true e = rw (eqb_swapped s x.session.0, e) (ap (λ n. b n d) (eqb-true _ _ e))
   at false e = rw (eqb_swapped s x.session.0, e) refl
 
-pub nonblock_is : (c : Config) (h : History) (t : Kept) (s d : ℕ) → Agrees c h t → there_is (λ (row : Row). row.nonblock) (row_of t.descriptions.rows s d) ≡ (is_some (holds h s d) && is_nonblock h s d)
+pub nonblock_is : (c : Config) (h : History) (t : TablesView) (s d : ℕ) → Agrees c h t → there_is (λ (row : Row). row.nonblock) (row_of t.descriptions.rows s d) ≡ (is_some (holds h s d) && is_nonblock h s d)
 unfolding holds
 nonblock_is c h t s d a = ap (λ w. there_is (λ (row : Row). row.nonblock) (option_and_then (if_row_of s) w)) (row_is h t.descriptions d a.descriptions) ∙ row_nonblock (is_nonblock h) s d (held h d)
 
@@ -139,7 +139,7 @@ held_on : (w : Option Held) (b : Bool) → IsSome w → (is_some w && b) ≡ b
 held_on None b e = absurd cc
 held_on (Some x) b e = refl
 
-pub nonblock_there : (c : Config) (h : History) (t : Kept) (s d : ℕ) → Agrees c h t → IsSome (holds h s d) → there_is (λ (row : Row). row.nonblock) (row_of t.descriptions.rows s d) ≡ is_nonblock h s d
+pub nonblock_there : (c : Config) (h : History) (t : TablesView) (s d : ℕ) → Agrees c h t → IsSome (holds h s d) → there_is (λ (row : Row). row.nonblock) (row_of t.descriptions.rows s d) ≡ is_nonblock h s d
 nonblock_there c h t s d a e = nonblock_is c h t s d a ∙ held_on (holds h s d) (is_nonblock h s d) e
 
 -- a description that is held has a row
@@ -147,5 +147,5 @@ row_there : (w : Option Row) (v : Option Held) → option_map held_in w ≡ v �
 row_there None v e k = absurd (let none = ap is_some e ∙ k in cc)
 row_there (Some row) v e k = refl
 
-pub held_row : (c : Config) (h : History) (t : Kept) (s d : ℕ) → Agrees c h t → is_some (holds h s d) ≡ true → IsSome (row_of t.descriptions.rows s d)
+pub held_row : (c : Config) (h : History) (t : TablesView) (s d : ℕ) → Agrees c h t → is_some (holds h s d) ≡ true → IsSome (row_of t.descriptions.rows s d)
 held_row c h t s d a e = row_there (row_of t.descriptions.rows s d) (holds h s d) (holds_is c h t s d a) e

@@ -13,11 +13,11 @@ use Rattle.ipc_queue.specs.Tickets.{is_ticket, is_sender, is_full_of, next_ticke
 use Rattle.ipc_terms.specs.declared.call.Attributes.{Attributes}
 use Rattle.ipc_policy.specs.History.{listed}
 use Rattle.ipc_policy.specs.Queues.{Send, Wait, Sends, Receives, Withdraws, Queue, next, others, behind, has_none, has_all, queue_after}
-use Rattle.ipc_policy.proofs.Counting.{count_at}
-use Rattle.ipc_policy.proofs.EntryOrder.{next_some}
-use Rattle.ipc_policy.proofs.Living.{append_none}
+use Rattle.ipc_policy.proofs.Lists.Counting.{count_at}
+use Rattle.ipc_policy.proofs.Lists.EntryOrder.{next_some}
+use Rattle.ipc_policy.proofs.Directories.Living.{append_none}
 use Rattle.ipc_policy.specs.Laws.{IsBounded}
-use Rattle.ipc_policy.proofs.ParkedSessions.{Different}
+use Rattle.ipc_policy.proofs.Blocked.ParkedSessions.{Different}
 use Rattle.ipc_policy.specs.declared.config.Registration.{Registration}
 use Rattle.ipc_policy.specs.Registrations.{is_idle}
 use Rattle.ipc_state.specs.Agrees.{ticket_of, sender_of, receiver_of, tickets_of}

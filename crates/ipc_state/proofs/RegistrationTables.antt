@@ -25,17 +25,17 @@ use Rattle.ipc_policy.specs.Queues.{act, queue, attributes}
 use Rattle.ipc_policy.specs.Registrations.{registers, ends_registration, registered}
 use Rattle.ipc_policy.specs.Grow.{is_new}
 use Rattle.ipc_policy.specs.Verdict.{verdict, Legal}
-use Rattle.ipc_policy.proofs.Known.{object_below}
-use Rattle.ipc_policy.proofs.Grown.{grows}
-use Rattle.ipc_policy.proofs.Unforbidden.{unforbidden, call_free}
+use Rattle.ipc_policy.proofs.Histories.Known.{object_below}
+use Rattle.ipc_policy.proofs.Histories.Grown.{grows}
+use Rattle.ipc_policy.proofs.Histories.Unforbidden.{unforbidden, call_free}
 use Rattle.ipc_policy.specs.Rules.{forbids, notify_taken}
 use Rattle.ipc_terms.specs.declared.rule.Rule.TheVariants.{NotifyTaken}
 use Rattle.ipc_queue.specs.Tickets.{Tickets}
-use Rattle.ipc_policy.proofs.Creating.{holds_is_held}
-use Rattle.ipc_policy.proofs.ParkedSessions.{if_of_is, session_is}
-use Rattle.ipc_policy.proofs.Registering.{registered_held}
-use Rattle.ipc_policy.proofs.RegisteredSteps.{registered_created}
-use Rattle.ipc_policy.proofs.Queueing.{registered_grows}
+use Rattle.ipc_policy.proofs.Directories.Creating.{holds_is_held}
+use Rattle.ipc_policy.proofs.Blocked.ParkedSessions.{if_of_is, session_is}
+use Rattle.ipc_policy.proofs.Queues.Registering.{registered_held}
+use Rattle.ipc_policy.proofs.Queues.RegisteredSteps.{registered_created}
+use Rattle.ipc_policy.proofs.Queues.Queueing.{registered_grows}
 use Rattle.ipc_descr.specs.Descriptions.{Descriptions, is_desc}
 use Rattle.ipc_state.specs.Agrees.{DescriptionsAgree, queue_meant, tickets_of, row_held}
 use Rattle.ipc_state.proofs.Lookups.{row_is}

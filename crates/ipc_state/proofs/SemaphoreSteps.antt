@@ -8,7 +8,7 @@ use Rattle.ipc_terms.specs.declared.ids.Sid.{Sid}
 use Rattle.ipc_sem.specs.Counters.{posted_to, posted, waited, tried, withdrawn}
 use Rattle.ipc_policy.specs.Queues.{Wait, behind, has_none}
 use Rattle.ipc_policy.specs.Semaphores.{Posts, Waits, Tries, Cancels, Semaphore, semaphore_after}
-use Rattle.ipc_policy.proofs.ParkedSessions.{Different}
+use Rattle.ipc_policy.proofs.Blocked.ParkedSessions.{Different}
 use Rattle.ipc_state.specs.Agrees.{receiver_of, counter_of}
 use Rattle.ipc_state.proofs.QueueSteps.{left_is}
 

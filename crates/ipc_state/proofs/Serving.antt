@@ -26,29 +26,29 @@ use Rattle.ipc_policy.specs.Descriptions.{holds}
 use Rattle.ipc_policy.specs.Life.{alive, gives_object}
 use Rattle.ipc_policy.specs.declared.config.Registration.{Registration}
 use Rattle.ipc_policy.specs.Registrations.{fires, registered}
-use Rattle.ipc_policy.proofs.RegisteredSteps.{registered_stays, registered_send}
+use Rattle.ipc_policy.proofs.Queues.RegisteredSteps.{registered_stays, registered_send}
 use Rattle.ipc_policy.specs.Queues.{Send, Wait, Sends, Receives, Withdraws, Rests, Queue, next, has_none, has_all, room, attributes, maxmsg, queue, queue_after, contents, senders, receivers, is_full, is_empty}
 use Rattle.ipc_policy.specs.Parking.{Parked, parked}
 use Rattle.ipc_policy.specs.Verdict.{Legal}
-use Rattle.ipc_policy.proofs.EachItem.{each_first, each_map}
-use Rattle.ipc_policy.proofs.EntryOrder.{next_some}
-use Rattle.ipc_policy.proofs.Keeping.{sent_once}
-use Rattle.ipc_policy.proofs.Lengths.{none_is_empty}
-use Rattle.ipc_policy.proofs.Sent.{IsSent, all_sent, next_sent}
-use Rattle.ipc_policy.proofs.CallsListed.{calls_listed}
+use Rattle.ipc_policy.proofs.Lists.EachItem.{each_first, each_map}
+use Rattle.ipc_policy.proofs.Lists.EntryOrder.{next_some}
+use Rattle.ipc_policy.proofs.Queues.Keeping.{sent_once}
+use Rattle.ipc_policy.proofs.Lists.Lengths.{none_is_empty}
+use Rattle.ipc_policy.proofs.Fates.Sent.{IsSent, all_sent, next_sent}
+use Rattle.ipc_policy.proofs.Blocked.CallsListed.{calls_listed}
 use Rattle.ipc_policy.specs.Laws.{IsBounded}
-use Rattle.ipc_policy.proofs.QueueBounds.{bounded, room_positive}
-use Rattle.ipc_policy.proofs.ParkedSessions.{senders_differ, receivers_differ}
-use Rattle.ipc_policy.proofs.ParkedSteps.{queue_by_send, queue_by_receive}
+use Rattle.ipc_policy.proofs.Queues.QueueBounds.{bounded, room_positive}
+use Rattle.ipc_policy.proofs.Blocked.ParkedSessions.{senders_differ, receivers_differ}
+use Rattle.ipc_policy.proofs.Blocked.ParkedSteps.{queue_by_send, queue_by_receive}
 use Rattle.ipc_tables.specs.declared.rows.Session.{Session}
 use Rattle.ipc_tables.specs.Objects.{queue_at}
-use Rattle.ipc_tables.specs.Kept.{Kept, live_at}
-use Rattle.ipc_tables.specs.Steps.{parked_by_send, parked_by_receive, ReceiverStands, SenderStands}
+use Rattle.ipc_tables.specs.TablesView.{TablesView}
+use Rattle.ipc_tables.specs.Steps.{parked_by_send, parked_by_receive}
 use Rattle.ipc_state.specs.Agrees.{Agrees, IsCore, SessionsAgree, sender_of, receiver_of, tickets_of}
 use Rattle.ipc_state.proofs.Mapped.{longest_mapped}
 use Rattle.ipc_state.proofs.Lookups.{queue_alive}
 use Rattle.ipc_state.proofs.QueueLookups.{holds_alive}
-use Rattle.ipc_policy.proofs.Unforbidden.{IsFree}
+use Rattle.ipc_policy.proofs.Histories.Unforbidden.{IsFree}
 use Rattle.ipc_state.proofs.Accepted.{within_live, not_bad_queue, not_bad_semaphore, limits_some}
 use Rattle.ipc_state.proofs.QueueSteps.{IsOnce, left_registered, full_same, next_same, sent_is, received_is, withdrawn_is}
 use Rattle.ipc_state.proofs.ParkedColumn.{parked_object, column_after}
@@ -61,7 +61,7 @@ pub record IsOpen (c : Config) (h : History) (o : ℕ) (y : Attributes) : Type 0
   pub most : maxmsg c h o ≡ y.maxmsg
   pub bounds : IsBounded y.maxmsg (queue c h o)
 
-pub is_open : (c : Config) (h : History) (t : Kept) (o : ℕ) (y : Attributes) → IsCore c h t → attributes c h o ≡ Some y → IsOpen c h o y
+pub is_open : (c : Config) (h : History) (t : TablesView) (o : ℕ) (y : Attributes) → IsCore c h t → attributes c h o ≡ Some y → IsOpen c h o y
 is_open c h t o y k e =
     let limit = (limits_some c k.in_range).0 in
     let least : 1 ≤ c.limits.msg_max = omega arith in
@@ -106,17 +106,8 @@ pub sender_stands : (c : Config) (h : History) (xs : List Session) (o : ℕ) (m 
 sender_stands c h xs o m legal a e = each_first (λ (v : Send). v.session < length xs) (senders c h o) (each_map _ (λ (v : Send). v.session < length xs) (senders c h o) (λ v is. parked_stands c h xs v.session _ a is) ((calls_listed c h legal).each_send o)) m e
 
 -- the queue of an object that is alive, as it is kept
-pub queue_there : (c : Config) (h : History) (t : Kept) (o : ℕ) (y : Attributes) → Legal c h → Agrees c h t → alive h o ≡ true → attributes c h o ≡ Some y → queue_at t.objects o ≡ Some (tickets_of (registered c h o) (queue c h o) y)
+pub queue_there : (c : Config) (h : History) (t : TablesView) (o : ℕ) (y : Attributes) → Legal c h → Agrees c h t → alive h o ≡ true → attributes c h o ≡ Some y → queue_at t.objects o ≡ Some (tickets_of (registered c h o) (queue c h o) y)
 queue_there c h t o y legal a lives e = queue_alive c h t o legal a lives ∙ ap (option_map (tickets_of (registered c h o) (queue c h o))) e
-
--- who is first in a list that is kept
-first_mapped : (rs : List Wait) (who : Sid) → first (map receiver_of rs) ≡ Some who → (w : Wait) × ((first rs ≡ Some w) × (w.session ≡ who.0))
-first_mapped [] who e = absurd cc
-first_mapped (w ∷ ws) who e = let same : receiver_of w ≡ who = cc in (w, (refl, ap (λ (s : Sid). s.0) same))
-
-first_sender : (ss : List Send) (who : ParkedSend) → first (map sender_of ss) ≡ Some who → (m : Send) × ((first ss ≡ Some m) × (m.session ≡ who.session.0))
-first_sender [] who e = absurd cc
-first_sender (m ∷ ms) who e = let same : sender_of m ≡ who = cc in (m, (refl, ap (λ (s : ParkedSend). s.session.0) same))
 
 -- what a send does to the table of sessions
 send_told : (c : Config) (h : History) (o : ℕ) (y : Attributes) → attributes c h o ≡ Some y → send_outcome (tickets_of (registered c h o) (queue c h o) y) ≡ outcome_by_receiver (is_full c h o) (fired (tickets_of (registered c h o) (queue c h o) y)) (option_map receiver_of (first (receivers c h o)))
@@ -132,7 +123,7 @@ sent_column c h xs o sid a lt None there true g = columns_moved xs (hellos h) (u
 sent_column c h xs o sid a lt None there false None = columns_of c h xs a
 sent_column c h xs o sid a lt None there false (Some desc) = columns_of c h xs a
 
-pub sessions_sent : (c : Config) (h : History) (t : Kept) (o : ℕ) (y : Attributes) (sid : Sid) → Legal c h → Agrees c h t → alive h o ≡ true → attributes c h o ≡ Some y → sid.0 < length t.sessions → Columns (parked_by_send o sid (option_map send_outcome (queue_at t.objects o)) t.sessions) (hellos h) (user h) (mask h) (live h) (column_after (option_map (λ (w : Wait). w.session) (first (receivers c h o))) (is_full c h o) sid.0 o (parked_object c h))
+pub sessions_sent : (c : Config) (h : History) (t : TablesView) (o : ℕ) (y : Attributes) (sid : Sid) → Legal c h → Agrees c h t → alive h o ≡ true → attributes c h o ≡ Some y → sid.0 < length t.sessions → Columns (parked_by_send o sid (option_map send_outcome (queue_at t.objects o)) t.sessions) (hellos h) (user h) (mask h) (live h) (column_after (option_map (λ (w : Wait). w.session) (first (receivers c h o))) (is_full c h o) sid.0 o (parked_object c h))
 sessions_sent c h t o y sid legal a lives e lt =
     let told : option_map send_outcome (queue_at t.objects o) ≡ Some (outcome_by_receiver (is_full c h o) (fired (tickets_of (registered c h o) (queue c h o) y)) (option_map receiver_of (first (receivers c h o)))) = ap (option_map send_outcome) (queue_there c h t o y legal a lives e) ∙ ap Some (send_told c h o y e) in
     rw told (sent_column c h t.sessions o sid a.sessions lt (first (receivers c h o)) (λ w is. receiver_stands c h t.sessions o w legal a.sessions is) (is_full c h o) (fired (tickets_of (registered c h o) (queue c h o) y)))
@@ -188,7 +179,7 @@ none_sends c h o y q e empty = at (senders c h o) refl where
   at [] k = refl
   at (m ∷ ms) k = absurd (let full : length (contents c h o) ≡ y.maxmsg = q.bounds.senders_wait (ap has_none k) in let least = q.some in let none = nothing in omega arith)
 
-pub sessions_received : (c : Config) (h : History) (t : Kept) (o : ℕ) (y : Attributes) (sid : Sid) → Legal c h → Agrees c h t → alive h o ≡ true → attributes c h o ≡ Some y → IsOpen c h o y → sid.0 < length t.sessions → Columns (parked_by_receive o sid (option_map receive_outcome (queue_at t.objects o)) t.sessions) (hellos h) (user h) (mask h) (live h) (column_after (option_map (λ (m : Send). m.session) (first (senders c h o))) (is_empty c h o) sid.0 o (parked_object c h))
+pub sessions_received : (c : Config) (h : History) (t : TablesView) (o : ℕ) (y : Attributes) (sid : Sid) → Legal c h → Agrees c h t → alive h o ≡ true → attributes c h o ≡ Some y → IsOpen c h o y → sid.0 < length t.sessions → Columns (parked_by_receive o sid (option_map receive_outcome (queue_at t.objects o)) t.sessions) (hellos h) (user h) (mask h) (live h) (column_after (option_map (λ (m : Send). m.session) (first (senders c h o))) (is_empty c h o) sid.0 o (parked_object c h))
 sessions_received c h t o y sid legal a lives e q lt =
     let told : option_map receive_outcome (queue_at t.objects o) ≡ Some (outcome_by_next (option_map (λ (m : Send). m.place) (next (contents c h o))) (option_map sender_of (first (senders c h o)))) = ap (option_map receive_outcome) (queue_there c h t o y legal a lives e) ∙ ap Some (receive_told (registered c h o) (queue c h o) y) in
     rw told (received_column c h t.sessions o sid a.sessions lt (first (senders c h o)) (λ m is. sender_stands c h t.sessions o m legal a.sessions is) (is_empty c h o) (none_sends c h o y q e) (next (contents c h o)) (λ b. next_none (contents c h o) (sym (empty_at c h o y e) ∙ b)) (λ b. next_is (contents c h o) (sym (empty_at c h o y e) ∙ b)))
@@ -221,21 +212,20 @@ pub queue_withdrawn : (c : Config) (h : History) (sid : Sid) (o n : ℕ) (y : At
 queue_withdrawn c h sid o n y legal = withdrawn_is (registered c h o) y sid (queue c h o) (senders_differ c h legal o) (receivers_differ c h legal o)
 
 -- what is there where a call by a description of object o, which is of the family, is accepted
-pub record IsHere (A : Type 0) (kind : Option Object → Option A) (c : Config) (h : History) (t : Kept) (s d o : ℕ) : Type 0 where
+pub record IsHere (A : Type 0) (kind : Option Object → Option A) (c : Config) (h : History) (t : TablesView) (s d o : ℕ) : Type 0 where
   pub x : Held
   pub given : A
   pub held : holds h s d ≡ Some x
   pub same : x.object ≡ o
   pub made : kind (object c h x.object) ≡ Some given
   pub lives : alive h x.object ≡ true
-  pub live' : live_at t.sessions s ≡ true
   pub within : s < length t.sessions
 
 -- of a queue, and of a semaphore
-abbrev pub IsHereQueue : Config → History → Kept → ℕ → ℕ → ℕ → Type 0
+abbrev pub IsHereQueue : Config → History → TablesView → ℕ → ℕ → ℕ → Type 0
 IsHereQueue c h t s d o = IsHere Attributes as_queue c h t s d o
 
-abbrev pub IsHereSemaphore : Config → History → Kept → ℕ → ℕ → ℕ → Type 0
+abbrev pub IsHereSemaphore : Config → History → TablesView → ℕ → ℕ → ℕ → Type 0
 IsHereSemaphore c h t s d o = IsHere ℕ as_semaphore c h t s d o
 
 some_of : {A : Type 0} (w : Option A) → is_some w ≡ true → (y : A) × (w ≡ Some y)
@@ -246,41 +236,21 @@ object_in : (w : Option Held) (o : ℕ) → option_map (λ (x : Held). x.object)
 object_in None o e = absurd cc
 object_in (Some x) o e = let same : x.object ≡ o = cc in (x, (refl, same))
 
-here_at : {A : Type 0} (kind : Option Object → Option A) (c : Config) (h : History) (t : Kept) (s d o : ℕ) → Agrees c h t → live h s ≡ true → ((x : Held) → holds h s d ≡ Some x → is_some (kind (object c h x.object)) ≡ true) → option_map (λ (x : Held). x.object) (holds h s d) ≡ Some o → IsHere A kind c h t s d o
+here_at : {A : Type 0} (kind : Option Object → Option A) (c : Config) (h : History) (t : TablesView) (s d o : ℕ) → Agrees c h t → live h s ≡ true → ((x : Held) → holds h s d ≡ Some x → is_some (kind (object c h x.object)) ≡ true) → option_map (λ (x : Held). x.object) (holds h s d) ≡ Some o → IsHere A kind c h t s d o
 here_at kind c h t s d o a lives made is =
     let there = object_in (holds h s d) o is in
     let found = some_of (kind (object c h there.0.object)) (made there.0 there.1.0) in
-    let lives' = a.sessions.lives s ∙ lives in
-    record { x = there.0; given = found.0; held = there.1.0; same = there.1.1; made = found.1; lives = holds_alive h s d there.0 there.1.0; live' = lives'; within = within_live t.sessions s lives' }
+    record { x = there.0; given = found.0; held = there.1.0; same = there.1.1; made = found.1; lives = holds_alive h s d there.0 there.1.0; within = within_live t.sessions s (a.sessions.lives s ∙ lives) }
 
-pub call_here : (c : Config) (h : History) (t : Kept) (s d o : ℕ) → Agrees c h t → IsFree c h s Mq d → option_map (λ (x : Held). x.object) (holds h s d) ≡ Some o → IsHereQueue c h t s d o
+pub call_here : (c : Config) (h : History) (t : TablesView) (s d o : ℕ) → Agrees c h t → IsFree c h s Mq d → option_map (λ (x : Held). x.object) (holds h s d) ≡ Some o → IsHereQueue c h t s d o
 call_here c h t s d o a free is = here_at as_queue c h t s d o a free.lives (λ x e. not_bad_queue c h s d x free.held e) is
 
-pub semaphore_here : (c : Config) (h : History) (t : Kept) (s d o : ℕ) → Agrees c h t → IsFree c h s Sem d → option_map (λ (x : Held). x.object) (holds h s d) ≡ Some o → IsHereSemaphore c h t s d o
+pub semaphore_here : (c : Config) (h : History) (t : TablesView) (s d o : ℕ) → Agrees c h t → IsFree c h s Sem d → option_map (λ (x : Held). x.object) (holds h s d) ≡ Some o → IsHereSemaphore c h t s d o
 semaphore_here c h t s d o a free is = here_at as_semaphore c h t s d o a free.lives (λ x e. not_bad_semaphore c h s d x free.held e) is
 
 -- and its queue stands in the table
-pub queue_stands : (c : Config) (h : History) (t : Kept) (s d o : ℕ) → Legal c h → Agrees c h t → IsHereQueue c h t s d o → is_some (queue_at t.objects o) ≡ true
+pub queue_stands : (c : Config) (h : History) (t : TablesView) (s d o : ℕ) → Legal c h → Agrees c h t → IsHereQueue c h t s d o → is_some (queue_at t.objects o) ≡ true
 queue_stands c h t s d o legal a here = subst (λ (i : ℕ). is_some (queue_at t.objects i) ≡ true) here.same (ap is_some (queue_there c h t here.x.object here.given legal a here.lives here.made))
-
--- so who is served stands in the table of sessions
-receivers_stand : (c : Config) (h : History) (t : Kept) (o : ℕ) (y : Attributes) → Legal c h → Agrees c h t → alive h o ≡ true → attributes c h o ≡ Some y → ReceiverStands t o
-receivers_stand c h t o y legal a lives e = λ q who is first'.
-    let same : tickets_of (registered c h o) (queue c h o) y ≡ q = (let both = sym (queue_there c h t o y legal a lives e) ∙ is in cc) in
-    let found = first_mapped (receivers c h o) who (ap (λ (r : Tickets). first r.receivers) same ∙ first') in
-    subst (λ (s : ℕ). s < length t.sessions) found.1.1 (receiver_stands c h t.sessions o found.0 legal a.sessions found.1.0)
-
-senders_stand : (c : Config) (h : History) (t : Kept) (o : ℕ) (y : Attributes) → Legal c h → Agrees c h t → alive h o ≡ true → attributes c h o ≡ Some y → SenderStands t o
-senders_stand c h t o y legal a lives e = λ q who is first'.
-    let same : tickets_of (registered c h o) (queue c h o) y ≡ q = (let both = sym (queue_there c h t o y legal a lives e) ∙ is in cc) in
-    let found = first_sender (senders c h o) who (ap (λ (r : Tickets). first r.senders) same ∙ first') in
-    subst (λ (s : ℕ). s < length t.sessions) found.1.1 (sender_stands c h t.sessions o found.0 legal a.sessions found.1.0)
-
-pub receiver_is : (c : Config) (h : History) (t : Kept) (s d o : ℕ) → Legal c h → Agrees c h t → IsHereQueue c h t s d o → ReceiverStands t o
-receiver_is c h t s d o legal a here = subst (ReceiverStands t) here.same (receivers_stand c h t here.x.object here.given legal a here.lives here.made)
-
-pub sender_is : (c : Config) (h : History) (t : Kept) (s d o : ℕ) → Legal c h → Agrees c h t → IsHereQueue c h t s d o → SenderStands t o
-sender_is c h t s d o legal a here = subst (SenderStands t) here.same (senders_stand c h t here.x.object here.given legal a here.lives here.made)
 
 -- what is held has a number
 pub number_there : (w : Option Held) → is_some w ≡ true → option_map (λ (x : Held). x.object) w ≡ None → ⊥

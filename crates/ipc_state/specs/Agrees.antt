@@ -1,5 +1,5 @@
 -- What the tables have to do with the history: each is what the policy's values give, in the order of their numbers.
-use Rattle.std.specs.Prelude.{◌≡◌, Bool, ℕ, List, length, map, slice_get, Option, Some, None, if◌then◌else◌}
+use Rattle.std.specs.Prelude.{◌≡◌, Bool, true, ℕ, List, length, map, slice_get, Option, Some, None, if◌then◌else◌}
 use Rattle.std.specs.Option.{option_map}
 use Rattle.ipc_terms.specs.declared.facts.Facts.{Facts}
 use Rattle.ipc_terms.specs.declared.ids.Sid.{Sid}
@@ -25,7 +25,7 @@ use Rattle.ipc_tables.specs.declared.rows.Body.{Body}
 use Rattle.ipc_tables.specs.declared.rows.Body.TheVariants.{Queue as QueueBody, Semaphore as SemaphoreBody}
 use Rattle.ipc_tables.specs.declared.rows.ObjectRow.{ObjectRow}
 use Rattle.ipc_tables.specs.Objects.{bytes_taken}
-use Rattle.ipc_tables.specs.Kept.{Kept, live_at, parked_on_at}
+use Rattle.ipc_tables.specs.TablesView.{TablesView, live_at, parked_on_at}
 use Rattle.ipc_policy.specs.declared.config.Config.{Config}
 use Rattle.ipc_policy.specs.declared.config.Held.{Held}
 use Rattle.ipc_policy.specs.declared.config.Registration.{Registration}
@@ -43,10 +43,10 @@ use Rattle.ipc_policy.specs.Charges.{charged, limit}
 use Rattle.ipc_policy.specs.Verdict.{Legal}
 use Rattle.ipc_state.specs.Ranges.{first_bad}
 
--- sessions stand at their numbers, each with its user and its mask, whether it is live, and what its call is parked on
+-- sessions stand at their numbers, each with its user, its mask while it is live, whether it is, and what its call is parked on
 pub record SessionsAgree (c : Config) (h : History) (sessions : List Session) : Type 0 where
   pub users : (s : ℕ) → option_map (λ row. row.user) (slice_get sessions s) ≡ user h s
-  pub masks : (s : ℕ) (row : Session) → slice_get sessions s ≡ Some row → row.mask.0 ≡ mask h s
+  pub masks : (s : ℕ) (row : Session) → slice_get sessions s ≡ Some row → row.is_live ≡ true → row.mask.0 ≡ mask h s
   pub lives : (s : ℕ) → live_at sessions s ≡ live h s
   pub parks : (s : ℕ) → parked_on_at sessions s ≡ option_map (λ p. p.object) (parked c h s)
   pub count : length sessions ≡ hellos h
@@ -134,7 +134,7 @@ charge_meant c h u = option_map (λ most. record { uid = u; limit = most; used =
 abbrev pub ChargesAgree : Config → History → List Charge → Type 0
 ChargesAgree c h charges = (u : Uid) → charge_of charges u.0 ≡ charge_meant c h u
 
-pub record Agrees (c : Config) (h : History) (t : Kept) : Type 0 where
+pub record Agrees (c : Config) (h : History) (t : TablesView) : Type 0 where
   pub sessions : SessionsAgree c h t.sessions
   pub queues : DirectoryAgrees h Mq t.queues
   pub semaphores : DirectoryAgrees h Sem t.semaphores
@@ -143,7 +143,7 @@ pub record Agrees (c : Config) (h : History) (t : Kept) : Type 0 where
   pub charges : ChargesAgree c h t.charges
 
 -- the limits are in their ranges, every verdict in the history is the policy's, and the tables are the history's
-pub record IsCore (c : Config) (h : History) (t : Kept) : Type 0 where
+pub record IsCore (c : Config) (h : History) (t : TablesView) : Type 0 where
   pub in_range : first_bad c.limits ≡ None
   pub legal : Legal c h
   pub agrees : Agrees c h t

@@ -1,4 +1,4 @@
-pub mod Past
+pub mod StateView
 pub mod Ranges
 pub mod Agrees
 pub mod Memory

@@ -36,15 +36,23 @@ by_description value e = option_and_then (λ x. value (caller e).0 x.desc.0) (de
 abbrev pub by_name : {A : Type 0} → (Naming → Option A) → Event → Option A
 by_name value e = option_and_then value (naming e)
 
+-- the object that session s has by description d, by its number
+abbrev pub object_by : History → ℕ → ℕ → Option ℕ
+object_by h s d = option_map (λ x. x.object) (holds h s d)
+
+-- the object to which a name is bound, by its number
+abbrev pub object_bound : History → Naming → Option ℕ
+object_bound h x = bound h x.family x.name
+
 -- the queue that session s has by description d, as it is kept
 abbrev pub queue_held : Config → History → ℕ → ℕ → Option Tickets
-queue_held c h s d = option_and_then (queue_meant c h) (option_map (λ x. x.object) (holds h s d))
+queue_held c h s d = option_and_then (queue_meant c h) (object_by h s d)
 
 -- the semaphore that session s has by description d, as it is kept
 abbrev pub semaphore_held : Config → History → ℕ → ℕ → Option Counter
-semaphore_held c h s d = option_and_then (semaphore_meant c h) (option_map (λ x. x.object) (holds h s d))
+semaphore_held c h s d = option_and_then (semaphore_meant c h) (object_by h s d)
 
 -- the owner, group and mode of a directory, or of the object to which the name is bound that the event names
 abbrev pub facts_asked : Meeting → Target → Option Facts
 facts_asked m (Dir family) = Some (directory m.history family)
-facts_asked m (Name family name) = by_name (λ x. option_and_then (facts m.config m.history) (bound m.history x.family x.name)) m.event
+facts_asked m (Name family name) = by_name (λ x. option_and_then (facts m.config m.history) (object_bound m.history x)) m.event

@@ -10,7 +10,7 @@ use Rattle.ipc_descr.specs.Descriptions.{Descriptions, row_of}
 use Rattle.ipc_tables.specs.declared.rows.Session.{Session}
 use Rattle.ipc_tables.specs.declared.rows.ObjectRow.{ObjectRow}
 use Rattle.ipc_tables.specs.Objects.{row_at}
-use Rattle.ipc_tables.specs.Kept.{Kept, directory_kept}
+use Rattle.ipc_tables.specs.TablesView.{TablesView, directory_kept}
 use Rattle.ipc_policy.specs.declared.config.Config.{Config}
 use Rattle.ipc_policy.specs.History.{History}
 use Rattle.ipc_state.specs.Agrees.{IsCore}
@@ -25,15 +25,14 @@ abbrev pub row_meant : Descriptions → Event → Option Row
 row_meant t e = by_description (row_of t.rows) e
 
 -- the object to which the name is bound that the event names
-abbrev pub number_meant : Kept → Event → Option ℕ
+abbrev pub number_meant : TablesView → Event → Option ℕ
 number_meant t e = by_name (λ x. object_named (directory_kept x.family t).bindings x.name) e
 
--- each was looked up in the tables: the caller's session and user, the row of the description that the event names and
--- the object that it gives, and the object to which the name is bound that the event names
-pub record IsLookup (c : Config) (h : History) (t : Kept) (e : Event) (session : Option Session) (user : Option Cred) (row : Option Row) (given : Option ObjectRow) (bound : Option ℕ) (named : Option ObjectRow) : Type 0 where
+-- each was looked up in the tables: the caller's session, the row of the description that the event names and the object
+-- that it gives, and the object to which the name is bound that the event names
+pub record IsLookup (c : Config) (h : History) (t : TablesView) (e : Event) (session : Option Session) (row : Option Row) (given : Option ObjectRow) (bound : Option ℕ) (named : Option ObjectRow) : Type 0 where
   pub core : IsCore c h t
   pub of_session : session ≡ slice_get t.sessions (caller e).0
-  pub of_user : user ≡ user_in c session
   pub of_row : row ≡ row_meant t.descriptions e
   pub of_given : given ≡ option_and_then (λ r. row_at t.objects r.object) row
   pub of_bound : bound ≡ number_meant t e

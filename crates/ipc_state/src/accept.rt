@@ -8,10 +8,11 @@ ghost use Rattle.ipc_policy.specs.Names.{opening, nonblock_asked};
 ghost use Rattle.ipc_policy.specs.Objects.{made_by, first_facts};
 ghost use Rattle.ipc_policy.specs.Verdict.{verdict};
 ghost use Rattle.ipc_state.specs.Agrees.{Agrees, IsCore};
+ghost use Rattle.ipc_state.specs.Meetings.{by_description, by_name, object_by, object_bound};
 ghost use Rattle.ipc_state.specs.Memory.{takes_memory};
 
 use crate::changing::accept_change;
-use crate::looking::object_number;
+use crate::lookup::Meant;
 use bitflags::Flags;
 use ipc_access::Cred;
 use ipc_policy::{Config, Opening, kind_of, opening_of};
@@ -32,15 +33,18 @@ pub fn change(
     past: &Trail,
     event: &Event,
     rule: Option<Rule>,
+    meant: Meant,
 ) -> Result<(), NoMemory>
     requires core { IsCore config.now past.now.history tables.old }
     requires verdict { rule ≡ verdict config.now past.now.history event.now }
+    requires held { meant.held ≡ by_description (object_by past.now.history) event.now }
+    requires bound { meant.bound ≡ by_name (object_bound past.now.history) event.now }
     requires room { length past.now.history + 1 < 2 ^ 63 }
     ensures ok { OnOk result (IsCore config.now (record { event = event.now; rule = rule } ∷ past.now.history) tables.new) }
     ensures err { OnErr result (tables.new ≡ tables.old) }
 {
     if rule.is_none() {
-        accept(alloc, tables, config, past, event)?;
+        accept(alloc, tables, config, past, event, meant)?;
     }
     Ok(())
 }
@@ -52,9 +56,12 @@ fn accept(
     config: &Config,
     past: &Trail,
     event: &Event,
+    meant: Meant,
 ) -> Result<(), NoMemory>
     requires core { IsCore config.now past.now.history tables.old }
     requires accepted { verdict config.now past.now.history event.now ≡ None }
+    requires held { meant.held ≡ by_description (object_by past.now.history) event.now }
+    requires bound { meant.bound ≡ by_name (object_bound past.now.history) event.now }
     requires room { length past.now.history + 1 < 2 ^ 63 }
     ensures ok { OnOk result (Agrees config.now (after_accepted past.now.history event.now) tables.new) }
     ensures err { OnErr result (tables.new ≡ tables.old) }
@@ -62,18 +69,22 @@ fn accept(
     match event {
         Event::Hello { found } => accept_hello(tables, config, past, *found),
         Event::Do { sid, call } => match call {
-            Call::MqOpen(_) | Call::SemOpen(_) => accept_open(alloc, tables, config, past, event),
+            Call::MqOpen(_) | Call::SemOpen(_) => {
+                accept_open(alloc, tables, config, past, event, meant.bound)
+            }
             Call::MqSend {
                 desc,
                 priority,
                 bytes,
-            } => accept_send(tables, config, past, *sid, *desc, *priority, bytes),
+            } => accept_send(
+                tables, config, past, *sid, *desc, *priority, bytes, meant.held,
+            ),
             Call::MqReceive { desc, length } => {
-                accept_receive(tables, config, past, *sid, *desc, *length)
+                accept_receive(tables, config, past, *sid, *desc, *length, meant.held)
             }
-            Call::SemWait(desc) => accept_wait(tables, config, past, *sid, *desc),
+            Call::SemWait(desc) => accept_wait(tables, config, past, *sid, *desc, meant.held),
             _ => {
-                accept_in_place(tables, config, past, *sid, call);
+                accept_in_place(tables, config, past, *sid, call, meant);
                 Ok(())
             }
         },
@@ -85,10 +96,19 @@ fn accept(
 }
 
 /// Does the same for the calls that never take memory.
-fn accept_in_place(tables: &mut Tables, config: &Config, past: &Trail, sid: Sid, call: &Call)
+fn accept_in_place(
+    tables: &mut Tables,
+    config: &Config,
+    past: &Trail,
+    sid: Sid,
+    call: &Call,
+    meant: Meant,
+)
     requires in_place { takes_memory call.now ≡ false }
     requires core { IsCore config.now past.now.history tables.old }
     requires accepted { verdict config.now past.now.history (Do sid call.now) ≡ None }
+    requires held { meant.held ≡ by_description (object_by past.now.history) (Do sid call.now) }
+    requires bound { meant.bound ≡ by_name (object_bound past.now.history) (Do sid call.now) }
     ensures { Agrees config.now (after_accepted past.now.history (Do sid call.now)) tables.new }
 {
     match call {
@@ -96,16 +116,22 @@ fn accept_in_place(tables: &mut Tables, config: &Config, past: &Trail, sid: Sid,
         Call::MqSetattr { desc, nonblock } => {
             accept_setattr(tables, config, past, sid, *desc, *nonblock);
         }
-        Call::MqNotify { desc, on } => accept_notify(tables, config, past, sid, *desc, *on),
-        Call::SemPost(desc) => accept_post(tables, config, past, sid, *desc),
-        Call::SemTryWait(desc) => accept_try_wait(tables, config, past, sid, *desc),
+        Call::MqNotify { desc, on } => {
+            accept_notify(tables, config, past, sid, *desc, *on, meant.held);
+        }
+        Call::SemPost(desc) => accept_post(tables, config, past, sid, *desc, meant.held),
+        Call::SemTryWait(desc) => accept_try_wait(tables, config, past, sid, *desc, meant.held),
         Call::MqClose(desc) => tables.close(sid, *desc),
         Call::SemClose(desc) => tables.close(sid, *desc),
         Call::MqUnlink(name) => tables.unlink(Family::Mq, name),
         Call::SemUnlink(name) => tables.unlink(Family::Sem, name),
         Call::Interrupt => accept_interrupt(tables, config, past, sid),
-        Call::Chmod { target, .. } => accept_change(tables, config, past, sid, call, target),
-        Call::Chown { target, .. } => accept_change(tables, config, past, sid, call, target),
+        Call::Chmod { target, .. } => {
+            accept_change(tables, config, past, sid, call, target, meant.bound);
+        }
+        Call::Chown { target, .. } => {
+            accept_change(tables, config, past, sid, call, target, meant.bound);
+        }
         Call::MqGetattr(_) => {}
         Call::SetLimit { uid, bytes } => accept_limit(tables, config, past, sid, *uid, *bytes),
         Call::SemGetvalue(_) => {}
@@ -145,7 +171,7 @@ fn accept_umask(tables: &mut Tables, config: &Config, past: &Trail, sid: Sid, ma
     requires accepted { verdict config.now past.now.history (Do sid (Umask mask)) ≡ None }
     ensures { Agrees config.now (after_accepted past.now.history (Do sid (Umask mask))) tables.new }
 {
-    tables.set_mask(sid, Mode(mask.0 % 512));
+    tables.set_mask(sid, Mode(mask.0 % 0o1000));
 }
 
 fn accept_send(
@@ -156,14 +182,16 @@ fn accept_send(
     desc: Desc,
     priority: u32,
     bytes: &Bytes,
+    held: Option<u64>,
 ) -> Result<(), NoMemory>
     requires core { IsCore config.now past.now.history tables.old }
     requires accepted { verdict config.now past.now.history (Do sid (MqSend desc priority bytes.now)) ≡ None }
+    requires held { held ≡ object_by past.now.history sid.0 desc.0 }
     requires room { length past.now.history + 1 < 2 ^ 63 }
     ensures ok { OnOk result (Agrees config.now (after_accepted past.now.history (Do sid (MqSend desc priority bytes.now))) tables.new) }
     ensures err { OnErr result (tables.new ≡ tables.old) }
 {
-    let Some(object) = object_number(tables, sid, desc) else {
+    let Some(object) = held else {
         unreachable!();
     };
     tables.send(object, past.len() as u64, priority, sid)?;
@@ -177,13 +205,15 @@ fn accept_receive(
     sid: Sid,
     desc: Desc,
     length: u32,
+    held: Option<u64>,
 ) -> Result<(), NoMemory>
     requires core { IsCore config.now past.now.history tables.old }
     requires accepted { verdict config.now past.now.history (Do sid (MqReceive desc length)) ≡ None }
+    requires held { held ≡ object_by past.now.history sid.0 desc.0 }
     ensures ok { OnOk result (Agrees config.now (after_accepted past.now.history (Do sid (MqReceive desc length))) tables.new) }
     ensures err { OnErr result (tables.new ≡ tables.old) }
 {
-    let Some(object) = object_number(tables, sid, desc) else {
+    let Some(object) = held else {
         unreachable!();
     };
     tables.receive(object, sid)?;
@@ -205,12 +235,21 @@ fn accept_setattr(
     tables.set_nonblock(sid, desc, nonblock);
 }
 
-fn accept_notify(tables: &mut Tables, config: &Config, past: &Trail, sid: Sid, desc: Desc, on: bool)
+fn accept_notify(
+    tables: &mut Tables,
+    config: &Config,
+    past: &Trail,
+    sid: Sid,
+    desc: Desc,
+    on: bool,
+    held: Option<u64>,
+)
     requires core { IsCore config.now past.now.history tables.old }
     requires accepted { verdict config.now past.now.history (Do sid (MqNotify desc on)) ≡ None }
+    requires held { held ≡ object_by past.now.history sid.0 desc.0 }
     ensures { Agrees config.now (after_accepted past.now.history (Do sid (MqNotify desc on))) tables.new }
 {
-    let Some(object) = object_number(tables, sid, desc) else {
+    let Some(object) = held else {
         unreachable!();
     };
     tables.set_registered(object, desc, on);
@@ -224,12 +263,20 @@ fn accept_limit(tables: &mut Tables, config: &Config, past: &Trail, sid: Sid, ui
     tables.set_limit(uid, bytes);
 }
 
-fn accept_post(tables: &mut Tables, config: &Config, past: &Trail, sid: Sid, desc: Desc)
+fn accept_post(
+    tables: &mut Tables,
+    config: &Config,
+    past: &Trail,
+    sid: Sid,
+    desc: Desc,
+    held: Option<u64>,
+)
     requires core { IsCore config.now past.now.history tables.old }
     requires accepted { verdict config.now past.now.history (Do sid (SemPost desc)) ≡ None }
+    requires held { held ≡ object_by past.now.history sid.0 desc.0 }
     ensures { Agrees config.now (after_accepted past.now.history (Do sid (SemPost desc))) tables.new }
 {
-    let Some(object) = object_number(tables, sid, desc) else {
+    let Some(object) = held else {
         unreachable!();
     };
     tables.post(object);
@@ -241,25 +288,35 @@ fn accept_wait(
     past: &Trail,
     sid: Sid,
     desc: Desc,
+    held: Option<u64>,
 ) -> Result<(), NoMemory>
     requires core { IsCore config.now past.now.history tables.old }
     requires accepted { verdict config.now past.now.history (Do sid (SemWait desc)) ≡ None }
+    requires held { held ≡ object_by past.now.history sid.0 desc.0 }
     ensures ok { OnOk result (Agrees config.now (after_accepted past.now.history (Do sid (SemWait desc))) tables.new) }
     ensures err { OnErr result (tables.new ≡ tables.old) }
 {
-    let Some(object) = object_number(tables, sid, desc) else {
+    let Some(object) = held else {
         unreachable!();
     };
     tables.wait(object, sid)?;
     Ok(())
 }
 
-fn accept_try_wait(tables: &mut Tables, config: &Config, past: &Trail, sid: Sid, desc: Desc)
+fn accept_try_wait(
+    tables: &mut Tables,
+    config: &Config,
+    past: &Trail,
+    sid: Sid,
+    desc: Desc,
+    held: Option<u64>,
+)
     requires core { IsCore config.now past.now.history tables.old }
     requires accepted { verdict config.now past.now.history (Do sid (SemTryWait desc)) ≡ None }
+    requires held { held ≡ object_by past.now.history sid.0 desc.0 }
     ensures { Agrees config.now (after_accepted past.now.history (Do sid (SemTryWait desc))) tables.new }
 {
-    let Some(object) = object_number(tables, sid, desc) else {
+    let Some(object) = held else {
         unreachable!();
     };
     tables.try_wait(object);
@@ -287,10 +344,12 @@ fn accept_open(
     config: &Config,
     past: &Trail,
     event: &Event,
+    bound: Option<u64>,
 ) -> Result<(), NoMemory>
     requires opens { IsSome (opening event.now) }
     requires core { IsCore config.now past.now.history tables.old }
     requires accepted { verdict config.now past.now.history event.now ≡ None }
+    requires bound { bound ≡ by_name (object_bound past.now.history) event.now }
     requires room { length past.now.history + 1 < 2 ^ 63 }
     ensures ok { OnOk result (Agrees config.now (after_accepted past.now.history event.now) tables.new) }
     ensures err { OnErr result (tables.new ≡ tables.old) }
@@ -299,7 +358,7 @@ fn accept_open(
         unreachable!();
     };
     let grant = grant_of(&asked);
-    if let Some(object) = tables.names(asked.family).get(asked.name) {
+    if let Some(object) = bound {
         tables.open_found(grant, object)?;
         return Ok(());
     }
@@ -348,6 +407,6 @@ fn new_facts(asked: &Opening, mask: Mode, who: &Cred) -> Facts
     Facts {
         owner: who.uid,
         group: who.gid,
-        mode: Mode(asked.mode.0 % 512 & (511 - mask.0)),
+        mode: Mode(asked.mode.0 % 0o1000 & (0o777 - mask.0)),
     }
 }

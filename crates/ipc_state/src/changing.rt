@@ -5,6 +5,7 @@ ghost use Rattle.ipc_terms.specs.declared.record.Event.TheVariants.{Do};
 ghost use Rattle.ipc_policy.specs.History.{after_accepted};
 ghost use Rattle.ipc_policy.specs.Verdict.{verdict};
 ghost use Rattle.ipc_state.specs.Agrees.{Agrees, IsCore};
+ghost use Rattle.ipc_state.specs.Meetings.{by_name, object_bound};
 ghost use Rattle.ipc_state.specs.Changes.{changing, bits_of, changed_by};
 
 use crate::looking::facts_in;
@@ -21,10 +22,12 @@ pub fn accept_change(
     sid: Sid,
     call: &Call,
     target: &Target,
+    bound: Option<u64>,
 )
     requires changes { changing call.now ≡ Some target.now }
     requires core { IsCore config.now past.now.history tables.old }
     requires accepted { verdict config.now past.now.history (Do sid call.now) ≡ None }
+    requires bound { bound ≡ by_name (object_bound past.now.history) (Do sid call.now) }
     ensures { Agrees config.now (after_accepted past.now.history (Do sid call.now)) tables.new }
 {
     match target {
@@ -32,8 +35,8 @@ pub fn accept_change(
             let was = tables.names(*family).facts();
             tables.set_facts(Owned::Directory(*family), changed(call, was));
         }
-        Target::Name(family, name) => {
-            let Some(object) = tables.names(*family).get(name) else {
+        Target::Name(..) => {
+            let Some(object) = bound else {
                 unreachable!();
             };
             let Some(was) = facts_in(tables.object(object)) else {
@@ -68,7 +71,7 @@ fn bits_of(target: &Target, mode: Mode) -> Mode
     ensures { result ≡ bits_of target.now mode }
 {
     match target {
-        Target::Dir(_) => Mode(mode.0 % 1024),
-        Target::Name(..) => Mode(mode.0 % 512),
+        Target::Dir(_) => Mode(mode.0 % 0o2000),
+        Target::Name(..) => Mode(mode.0 % 0o1000),
     }
 }

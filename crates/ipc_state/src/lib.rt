@@ -10,5 +10,5 @@ mod lookup;
 mod states;
 
 pub use limits::{Field, first_bad};
-pub use lookup::Lookup;
+pub use lookup::{Lookup, Meant};
 pub use states::State;

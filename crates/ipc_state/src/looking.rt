@@ -2,10 +2,9 @@
 
 ghost use Rattle.std.specs.Prelude.{◌≡◌, ◌==◌, length, is_some, option_and_then};
 ghost use Rattle.std.specs.Option.{option_map, option_copied};
-ghost use Rattle.ipc_descr.specs.Descriptions.{row_of};
 ghost use Rattle.ipc_queue.specs.Tickets.{is_full_of};
 ghost use Rattle.ipc_tables.specs.Objects.{row_at, queue_in, semaphore_in};
-ghost use Rattle.ipc_tables.specs.Kept.{is_live_row};
+ghost use Rattle.ipc_tables.specs.TablesView.{is_live_row};
 ghost use Rattle.ipc_policy.specs.History.{there_is};
 ghost use Rattle.ipc_state.specs.Agrees.{held_in};
 ghost use Rattle.ipc_state.specs.Rows.{user_in, row_meant, number_meant};
@@ -16,14 +15,7 @@ use ipc_policy::{Config, Held, description_of, naming_of};
 use ipc_queue::Queue;
 use ipc_sem::Sem;
 use ipc_tables::{Body, ObjectRow, Session, Tables};
-use ipc_terms::{Desc, Event, Facts, Object, Sid};
-
-/// The number of the object that the session has by the description.
-pub fn object_number(tables: &Tables, sid: Sid, desc: Desc) -> Option<u64>
-    ensures { result ≡ option_map (λ row. row.object) (row_of tables.now.descriptions.rows sid.0 desc.0) }
-{
-    tables.descriptions().get(sid, desc).map(|row| row.object)
-}
+use ipc_terms::{Event, Facts, Object};
 
 /// The user of the session.
 pub fn user_in(config: &Config, session: Option<Session>) -> Option<&Cred>
@@ -49,6 +41,13 @@ pub fn number_meant(tables: &Tables, event: &Event) -> Option<u64>
 {
     let what = naming_of(event)?;
     tables.names(what.family).get(what.name)
+}
+
+/// The number of the object that the row gives.
+pub fn number_in(row: Option<&Row>) -> Option<u64>
+    ensures { result ≡ option_map (λ row. row.object) (option_copied row.entry) }
+{
+    Some(row?.object)
 }
 
 /// The object that the row gives.

@@ -1,10 +1,10 @@
 //! What an event meets: each table is asked once.
 
-ghost use Rattle.std.specs.Prelude.{◌≡◌, ◌&&◌, is_some, option_and_then};
+ghost use Rattle.std.specs.Prelude.{◌≡◌, ◌&&◌, is_some, option_and_then, IsTrue};
 ghost use Rattle.std.specs.Option.{option_copied};
 ghost use Rattle.ipc_terms.specs.Events.{caller};
-ghost use Rattle.ipc_policy.specs.Sessions.{live, cred};
-ghost use Rattle.ipc_policy.specs.Names.{naming, is_bound, bound};
+ghost use Rattle.ipc_policy.specs.Sessions.{live, cred, mask};
+ghost use Rattle.ipc_policy.specs.Names.{naming, is_bound};
 ghost use Rattle.ipc_policy.specs.Objects.{facts, directory};
 ghost use Rattle.ipc_policy.specs.Descriptions.{holds, is_nonblock};
 ghost use Rattle.ipc_policy.specs.Parking.{parked};
@@ -12,12 +12,12 @@ ghost use Rattle.ipc_policy.specs.Registrations.{registered};
 ghost use Rattle.ipc_policy.specs.Rules.{there_is, object_held, is_full, is_empty, is_zero, is_greatest};
 ghost use Rattle.ipc_policy.specs.Verdict.{Legal};
 ghost use Rattle.ipc_state.specs.Agrees.{IsCore};
-ghost use Rattle.ipc_state.specs.Meetings.{description, by_description, by_name, queue_held, semaphore_held, facts_asked};
+ghost use Rattle.ipc_state.specs.Meetings.{description, by_description, by_name, object_by, object_bound, queue_held, semaphore_held, facts_asked};
 
 use crate::looking::{
     facts_in, given_by, has_registration, has_value, held_in, is_empty_queue, is_full_queue,
-    is_live_in, is_nonblock_in, is_parked_in, number_meant, object_at, object_in, queue_in,
-    row_meant, semaphore_in, user_in,
+    is_live_in, is_nonblock_in, is_parked_in, number_in, number_meant, object_at, object_in,
+    queue_in, row_meant, semaphore_in, user_in,
 };
 use crate::states::State;
 use ipc_access::Cred;
@@ -26,9 +26,18 @@ use ipc_policy::{Config, Held, Registration};
 use ipc_queue::Queue;
 use ipc_sem::Sem;
 use ipc_tables::{ObjectRow, Session, Tables};
-use ipc_terms::{Event, Facts, Family, Object, SEM_VALUE_MAX, Target};
+use ipc_terms::{Event, Facts, Family, Mode, Object, SEM_VALUE_MAX, Sid, Target};
 use ipc_trail::Trail;
 use std::marker::Model;
+
+/// The objects that an event means, by their numbers.
+#[derive(Clone, Copy)]
+pub struct Meant {
+    /// What the caller has by the description that the event names.
+    pub held: Option<u64>,
+    /// That to which the name is bound that the event names.
+    pub bound: Option<u64>,
+}
 
 /// An event, and what it meets in a state: who calls, what the description that it names gives, and to what the name that it
 /// names is bound. No question takes memory.
@@ -39,7 +48,6 @@ pub struct Lookup<'a> {
     tables: &'a Tables,
     event: &'a Event,
     session: Option<Session>,
-    user: Option<&'a Cred>,
     row: Option<&'a Row>,
     given: Option<&'a ObjectRow>,
     bound: Option<u64>,
@@ -55,7 +63,7 @@ impl<'a> Model for Lookup<'a> {
 
     ghost view = { λ a. record { config = a.config.now; history = a.trail.now.history; event = a.event.now } };
 
-    ghost invariant = { λ a. IsLookup a.config.now a.trail.now.history a.tables.now a.event.now a.session (option_copied a.user) (option_copied a.row) (option_copied a.given) a.bound (option_copied a.named) };
+    ghost invariant = { λ a. IsLookup a.config.now a.trail.now.history a.tables.now a.event.now a.session (option_copied a.row) (option_copied a.given) a.bound (option_copied a.named) };
 }
 
 impl<'a> Lookup<'a> {
@@ -73,7 +81,6 @@ impl<'a> Lookup<'a> {
             tables,
             event,
             session,
-            user: user_in(config, session),
             row,
             given: given_by(tables, row),
             bound,
@@ -125,7 +132,36 @@ impl<'a> Lookup<'a> {
     pub fn cred(&self) -> Option<&'a Cred>
         ensures { option_copied result ≡ cred self.now.config self.now.history (caller self.now.event).0 }
     {
-        self.user
+        user_in(self.config, self.session)
+    }
+
+    /// The mask of the caller, which is live.
+    pub fn mask(&self) -> Mode
+        requires { IsTrue (live self.now.history (caller self.now.event).0) }
+        ensures { result ≡ record { 0 = mask self.now.history (caller self.now.event).0 } }
+    {
+        let Some(session) = self.session else {
+            unreachable!();
+        };
+        session.mask
+    }
+
+    /// Whether the session is live.
+    pub fn is_session_live(&self, sid: Sid) -> bool
+        ensures { result ≡ live self.now.history sid.0 }
+    {
+        is_live_in(self.tables.session(sid))
+    }
+
+    /// The objects that the event means, by their numbers.
+    pub fn meant(&self) -> Meant
+        ensures held { result.held ≡ by_description (object_by self.now.history) self.now.event }
+        ensures bound { result.bound ≡ by_name (object_bound self.now.history) self.now.event }
+    {
+        Meant {
+            held: number_in(self.row),
+            bound: self.bound,
+        }
     }
 
     /// What the caller holds by the description that the event names.
@@ -151,7 +187,7 @@ impl<'a> Lookup<'a> {
 
     /// The owner, group and mode of the object to which the name is bound that the event names.
     pub fn facts_bound(&self) -> Option<Facts>
-        ensures { result ≡ by_name (λ x. option_and_then (facts self.now.config self.now.history) (bound self.now.history x.family x.name)) self.now.event }
+        ensures { result ≡ by_name (λ x. option_and_then (facts self.now.config self.now.history) (object_bound self.now.history x)) self.now.event }
     {
         facts_in(self.named)
     }

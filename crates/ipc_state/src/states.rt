@@ -4,11 +4,13 @@ ghost use Rattle.std.specs.Prelude.{◌≡◌, None, [], IfOk, OnOk, OnErr};
 ghost use Rattle.ipc_policy.specs.Sessions.{live};
 ghost use Rattle.ipc_policy.specs.Verdict.{verdict, Legal};
 ghost use Rattle.ipc_state.specs.Ranges.{first_bad};
-ghost use Rattle.ipc_state.specs.Past.{with_event};
+ghost use Rattle.ipc_state.specs.StateView.{with_event};
 ghost use Rattle.ipc_state.specs.Agrees.{IsCore};
+ghost use Rattle.ipc_state.specs.Meetings.{by_description, by_name, object_by, object_bound};
 
 use crate::accept::change;
 use crate::looking::is_live_in;
+use crate::lookup::Meant;
 use ipc_policy::Config;
 use ipc_tables::Tables;
 use ipc_terms::{Event, NoMemory, Record, Rule, Sid};
@@ -26,9 +28,9 @@ pub struct State {
 }
 
 impl Model for State {
-    ghost use Rattle.ipc_state.specs.Past.{Past};
+    ghost use Rattle.ipc_state.specs.StateView.{StateView};
 
-    ghost Value = { Past };
+    ghost Value = { StateView };
 
     ghost use Rattle.ipc_state.specs.Agrees.{IsCore};
 
@@ -87,10 +89,18 @@ impl State {
         is_live_in(self.tables.session(sid))
     }
 
-    /// Records the event with its verdict, and does what is accepted. An `Err` changes nothing, and
-    /// drops the event.
-    pub fn add(&mut self, alloc: Global, event: Event, rule: Option<Rule>) -> Result<(), NoMemory>
-        requires { rule ≡ verdict self.old.config self.old.history event }
+    /// Records the event with its verdict, and does what is accepted to the objects that it means. An
+    /// `Err` changes nothing, and drops the event.
+    pub fn add(
+        &mut self,
+        alloc: Global,
+        event: Event,
+        rule: Option<Rule>,
+        meant: Meant,
+    ) -> Result<(), NoMemory>
+        requires verdict { rule ≡ verdict self.old.config self.old.history event }
+        requires held { meant.held ≡ by_description (object_by self.old.history) event }
+        requires bound { meant.bound ≡ by_name (object_bound self.old.history) event }
         ensures ok { OnOk result (self.new ≡ with_event event self.old) }
         ensures err { OnErr result (self.new ≡ self.old) }
     {
@@ -102,6 +112,7 @@ impl State {
             &self.trail,
             &event,
             rule,
+            meant,
         )?;
         self.trail.push_reserved(Record { event, rule });
         Ok(())

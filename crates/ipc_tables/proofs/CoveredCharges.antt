@@ -13,7 +13,7 @@ use Rattle.ipc_descr.specs.declared.row.Row.{Row}
 use Rattle.ipc_descr.specs.Descriptions.{is_desc}
 use Rattle.ipc_tables.specs.declared.rows.ObjectRow.{ObjectRow}
 use Rattle.ipc_tables.specs.Objects.{is_number, registered_in, with_queue, held_by, with_held, with_withdrawal}
-use Rattle.ipc_tables.specs.Kept.{Kept, parked_on_at}
+use Rattle.ipc_tables.specs.TablesView.{TablesView, parked_on_at}
 use Rattle.ipc_tables.specs.Steps.{after_withdrawal}
 use Rattle.ipc_tables.specs.Charging.{taken_by, taken, Covered, settled}
 
@@ -81,7 +81,7 @@ taken_changed p f u same (row ∷ rows) = at (p row) (taken_changed p f u same r
   at false rest = sum_by-cons (taken_by u) row (changed_first p f rows) ∙ ap (λ n. taken_by u row + n) rest ∙ sym (sum_by-cons (taken_by u) row rows)
 
 -- so a withdrawal changes nothing of it
-pub withdrawal_covered : (t : Kept) (sid : Sid) → Covered t.charges t.objects → Covered (after_withdrawal t sid).charges (after_withdrawal t sid).objects
+pub withdrawal_covered : (t : TablesView) (sid : Sid) → Covered t.charges t.objects → Covered (after_withdrawal t sid).charges (after_withdrawal t sid).objects
 withdrawal_covered t sid covered = at (parked_on_at t.sessions sid.0) refl where
   at : (w : Option ℕ) → parked_on_at t.sessions sid.0 ≡ w → Covered (after_withdrawal t sid).charges (after_withdrawal t sid).objects
   at None e = rw e covered

@@ -1,4 +1,5 @@
 pub mod CallTables
+pub mod SessionRowsLemmas
 pub mod CoveredCharges
 pub mod HeldRegistrations
 pub mod Numbering

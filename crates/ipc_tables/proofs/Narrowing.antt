@@ -14,7 +14,7 @@ use Rattle.ipc_tables.specs.declared.rows.Body.{Body}
 use Rattle.ipc_tables.specs.declared.rows.Body.TheVariants.{Queue as QueueBody, Semaphore as SemaphoreBody}
 use Rattle.ipc_tables.specs.declared.rows.ObjectRow.{ObjectRow}
 use Rattle.ipc_tables.specs.Objects.{is_queue, queue_in, with_body, registered_in, with_queue, held_by, with_held}
-use Rattle.ipc_tables.specs.Kept.{Kept, is_alive, is_kept}
+use Rattle.ipc_tables.specs.TablesView.{TablesView, is_alive, is_kept}
 use Rattle.ipc_tables.specs.Charging.{settled}
 use Rattle.ipc_tables.specs.Steps.{living, with_rows}
 use Rattle.ipc_tables.proofs.Settling.{settled_gone, settled_kept}
@@ -153,7 +153,7 @@ left queues semaphores less more [] narrower = record { objects = refl; charges 
 left queues semaphores less more (row ∷ rows) narrower = left_by_tests queues semaphores less more row rows (is_kept queues semaphores more row) (is_kept queues semaphores less row) narrower refl refl (left queues semaphores less more rows narrower)
 
 -- first more and then fewer descriptions are held
-pub narrowed : (t : Kept) (less more : List Row) → Narrower less more → with_rows (with_rows t more) less ≡ with_rows t less
+pub narrowed : (t : TablesView) (less more : List Row) → Narrower less more → with_rows (with_rows t more) less ≡ with_rows t less
 narrowed t less more narrower =
     let is = left t.queues t.semaphores less more t.objects narrower in
     rw (is.objects, is.charges t.charges) refl

@@ -1,50 +1,15 @@
 -- Where all objects but one have no registration that is held no longer, to release that one is to release all.
-use Rattle.std.proofs.Common.{◌≡◌, ◌≢◌, Bool, true, false, cond, ℕ, ◌+◌, ◌≤◌, ◌<◌, ◌==◌, List, [], ◌∷◌, Some, None, refl, sym, ap, ◌∙◌, arith, map, count_by}
+use Rattle.std.proofs.Common.{◌≡◌, ◌≢◌, Bool, true, false, cond, ℕ, ◌+◌, ◌≤◌, ◌<◌, ◌==◌, List, [], ◌∷◌, Some, None, refl, sym, ap, ◌∙◌, arith, map}
 use Rattle.std.specs.Map.{lookup, set_value, values_of}
 use Rattle.std.specs.BTreeMap.{is_at}
 use Rattle.std.specs.Ordering.{nat_cmp}
 use Rattle.std.proofs.lemmas.Bool.Decides.{nat_tests}
-use Rattle.std.proofs.lemmas.List.Sums.{sum_by-cons}
 use Rattle.ipc_descr.specs.declared.row.Row.{Row}
 use Rattle.ipc_descr.proofs.PlacesLemmas.{is_at_number}
-use Rattle.ipc_tables.specs.declared.objects.Objects.{Objects}
 use Rattle.ipc_tables.specs.declared.rows.ObjectRow.{ObjectRow}
-use Rattle.ipc_tables.specs.Objects.{is_queue, with_held}
-use Rattle.ipc_tables.specs.Standing.{rows_in, Numbered, IsCounted, OthersHeld}
-use Rattle.ipc_tables.proofs.Narrowing.{released}
+use Rattle.ipc_tables.specs.Objects.{with_held}
+use Rattle.ipc_tables.specs.Standing.{Numbered, OthersHeld}
 use Rattle.ipc_tables.proofs.StandingLemmas.{Sets}
-
--- ---- all are released
-
-abbrev pub held_entry : List Row → ℕ × ObjectRow → ℕ × ObjectRow
-held_entry rows entry = (entry.0, with_held rows entry.1)
-
-pub all_rows : (rows : List Row) (entries after : List (ℕ × ObjectRow)) → after ≡ map (held_entry rows) entries → values_of after ≡ map (with_held rows) (values_of entries)
-all_rows rows entries after is = ap values_of is ∙ each entries where
-  each : (es : List (ℕ × ObjectRow)) → values_of (map (held_entry rows) es) ≡ map (with_held rows) (values_of es)
-  each [] = refl
-  each (entry ∷ es) = ap (λ rs. with_held rows entry.1 ∷ rs) (each es)
-
-all_numbered : (rows : List Row) (low high : ℕ) (entries : List (ℕ × ObjectRow)) → Numbered low high entries → Numbered low high (map (held_entry rows) entries)
-all_numbered rows low high [] h = h
-all_numbered rows low high (entry ∷ entries) h = (h.0, (released rows entry.1).number ∙ h.1, all_numbered rows (entry.0 + 1) high entries h.2)
-
-all_count : (rows : List Row) (objects : List ObjectRow) → count_by is_queue (map (with_held rows) objects) ≡ count_by is_queue objects
-all_count rows [] = refl
-all_count rows (row ∷ objects) =
-    let weight : ObjectRow → ℕ = λ r. cond (is_queue r) 1 0 in
-    sum_by-cons weight (with_held rows row) (map (with_held rows) objects)
-    ∙ ap (λ b. cond b 1 0 + count_by is_queue (map (with_held rows) objects)) (released rows row).kind
-    ∙ ap (λ n. weight row + n) (all_count rows objects)
-    ∙ sym (sum_by-cons weight row objects)
-
-pub all_counted : (rows : List Row) (objects after : Objects) → after.rows.entries ≡ map (held_entry rows) objects.rows.entries → after.created ≡ objects.created → after.queue_count ≡ objects.queue_count → IsCounted objects → IsCounted after
-all_counted rows objects after is created count counted = record {
-  numbered = rw (is, created) (all_numbered rows 0 objects.created objects.rows.entries counted.numbered);
-  counted = count ∙ counted.counted ∙ sym (all_count rows (rows_in objects)) ∙ ap (count_by is_queue) (sym (all_rows rows objects.rows.entries after.rows.entries is));
-}
-
--- ---- one is
 
 pub none_held : (rows : List Row) (objects : List ObjectRow) → OthersHeld None rows objects → objects ≡ map (with_held rows) objects
 none_held rows [] all = refl

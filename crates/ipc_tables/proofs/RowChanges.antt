@@ -9,13 +9,13 @@ use Rattle.ipc_tables.specs.declared.objects.Objects.{Objects}
 use Rattle.ipc_tables.specs.declared.rows.Body.{Body}
 use Rattle.ipc_tables.specs.declared.rows.ObjectRow.{ObjectRow}
 use Rattle.ipc_tables.specs.Objects.{is_number, row_at}
-use Rattle.ipc_tables.specs.Kept.{Kept}
+use Rattle.ipc_tables.specs.TablesView.{TablesView}
 use Rattle.ipc_tables.specs.Standing.{rows_in, IsCounted}
 use Rattle.ipc_tables.proofs.Numbering.{found, set_changed, set_same, none_changed}
 use Rattle.ipc_tables.proofs.StandingLemmas.{Sets}
 
 -- the tables with other objects
-abbrev pub with_objects : Kept → List ObjectRow → Kept
+abbrev pub with_objects : TablesView → List ObjectRow → TablesView
 with_objects t xs = record t { objects = xs }
 
 pub row_there : (o : ℕ) (objects : Objects) (w : Option ObjectRow) → IsCounted objects → lookup (is_at (nat_cmp o)) objects.rows.entries ≡ w → row_at (rows_in objects) o ≡ w

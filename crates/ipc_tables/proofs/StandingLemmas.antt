@@ -1,5 +1,5 @@
 -- What holds of the tables between calls, after each kind of change.
-use Rattle.std.proofs.Common.{◌≡◌, Bool, true, false, cond, not, ℕ, ◌+◌, ◌==◌, ◌||◌, List, [], ◌∷◌, ◌++◌, Option, Some, None, refl, sym, ap, ◌∙◌, find, filter, map, is_some, length, count_by, if◌then◌else◌}
+use Rattle.std.proofs.Common.{◌≡◌, Bool, true, false, cond, ℕ, ◌+◌, ◌==◌, ◌||◌, List, [], ◌∷◌, ◌++◌, Option, Some, None, refl, sym, ap, ◌∙◌, find, filter, map, is_some, length, count_by, if◌then◌else◌}
 use Rattle.std.specs.List.{AllByRecursion, list_any}
 use Rattle.std.specs.Option.{option_map, option_and_then}
 use Rattle.std.specs.Map.{lookup, set_value, values_of}
@@ -25,7 +25,7 @@ use Rattle.ipc_tables.specs.declared.rows.Body.{Body}
 use Rattle.ipc_tables.specs.declared.rows.Body.TheVariants.{Queue as QueueBody, Semaphore as SemaphoreBody}
 use Rattle.ipc_tables.specs.declared.rows.ObjectRow.{ObjectRow}
 use Rattle.ipc_tables.specs.Objects.{is_queue, queue_in, registered_in, with_body, with_counter, with_queue, with_semaphore, with_facts, with_withdrawal, without_call, held_by, with_held}
-use Rattle.ipc_tables.specs.Kept.{is_alive, is_kept}
+use Rattle.ipc_tables.specs.TablesView.{is_alive, is_kept}
 use Rattle.ipc_tables.specs.Standing.{rows_in, IsCounted, BoundOnce, IsOwn, IsStanding}
 use Rattle.ipc_tables.proofs.Numbering.{found_number, set_numbered, set_all, set_count, inserted_last, numbered_last, values_last}
 use Rattle.ipc_tables.proofs.Touching.{all_mapped, all_filtered, names_equal}
@@ -51,13 +51,13 @@ counted_still o row next objects after number kind set created count is = record
 }
 
 -- so all stands as it did
-pub changed_stands : (queues semaphores : Directory) (rows : List Row) (o : ℕ) (row next : ObjectRow) (objects after : Objects) → Tame next row → Sets o row next objects.rows.entries after.rows.entries → after.created ≡ objects.created → after.queue_count ≡ objects.queue_count → after.astray ≡ objects.astray → IsStanding queues semaphores rows objects → IsStanding queues semaphores rows after
-changed_stands queues semaphores rows o row next objects after tame set created count astray is = record {
+pub changed_stands : (queues semaphores : Directory) (rows : List Row) (o : ℕ) (row next : ObjectRow) (objects after : Objects) → Tame next row → Sets o row next objects.rows.entries after.rows.entries → after.created ≡ objects.created → after.queue_count ≡ objects.queue_count → IsStanding queues semaphores rows objects → IsStanding queues semaphores rows after
+changed_stands queues semaphores rows o row next objects after tame set created count is = record {
   counted = counted_still o row next objects after tame.number tame.kind set created count is.counted;
   queue_names = is.queue_names;
   semaphore_names = is.semaphore_names;
   kept = rw (set.sets) (set_all (λ r. is_kept queues semaphores rows r ≡ true) (is_at (nat_cmp o)) row next objects.rows.entries set.there (λ k. ap (is_alive queues semaphores rows) tame.number ∙ k) is.kept);
-  own = λ tidy. rw (set.sets) (set_all (IsOwn rows) (is_at (nat_cmp o)) row next objects.rows.entries set.there (λ own desc e. own desc (tame.registered desc e) ∙ ap Some (sym tame.number)) (is.own (sym astray ∙ tidy)));
+  own = rw (set.sets) (set_all (IsOwn rows) (is_at (nat_cmp o)) row next objects.rows.entries set.there (λ own desc e. own desc (tame.registered desc e) ∙ ap Some (sym tame.number)) is.own);
 }
 
 -- a queue that changes: its registration stays, or is gone
@@ -184,35 +184,16 @@ own_body : (Own : Desc → Type 0) (desc : Desc) (body : Body) → ((other : Des
 own_body Own desc (QueueBody q) own new d e = own_first Own desc d q.registered own new (sym (registered_is desc q q.registered refl) ∙ e)
 own_body Own desc (SemaphoreBody q) own new d e = cc
 
-or_false : (a b : Bool) → (a || b) ≡ false → (a ≡ false) × (b ≡ false)
-or_false true b e = cc
-or_false false b e = (refl, e)
-
-not_false : (b : Bool) → not b ≡ false → b ≡ true
-not_false true e = refl
-not_false false e = cc
-
--- a registration may be astray from now on
-pub astray_stands : (queues semaphores : Directory) (rows : List Row) (gives : Bool) (objects after : Objects) → after.rows.entries ≡ objects.rows.entries → after.created ≡ objects.created → after.queue_count ≡ objects.queue_count → after.astray ≡ (objects.astray || not gives) → IsStanding queues semaphores rows objects → IsStanding queues semaphores rows after
-astray_stands queues semaphores rows gives objects after same created count astray is = record {
-  counted = record { numbered = rw (same, created) is.counted.numbered; counted = rw same (count ∙ is.counted.counted) };
-  queue_names = is.queue_names;
-  semaphore_names = is.semaphore_names;
-  kept = rw same is.kept;
-  own = λ tidy. rw same (is.own (or_false objects.astray (not gives) (sym astray ∙ tidy)).0);
-}
-
-pub registered_stands : (queues semaphores : Directory) (rows : List Row) (gives : Bool) (o : ℕ) (desc : Desc) (row : ObjectRow) (objects after : Objects) → (gives ≡ true → option_map (λ r. r.object) (find (is_desc desc.0) rows) ≡ Some o) → Sets o row (with_queue (with_registration desc) row) objects.rows.entries after.rows.entries → after.created ≡ objects.created → after.queue_count ≡ objects.queue_count → after.astray ≡ (objects.astray || not gives) → IsStanding queues semaphores rows objects → IsStanding queues semaphores rows after
-registered_stands queues semaphores rows gives o desc row objects after given set created count astray is = record {
+pub registered_stands : (queues semaphores : Directory) (rows : List Row) (o : ℕ) (desc : Desc) (row : ObjectRow) (objects after : Objects) → option_map (λ r. r.object) (find (is_desc desc.0) rows) ≡ Some o → Sets o row (with_queue (with_registration desc) row) objects.rows.entries after.rows.entries → after.created ≡ objects.created → after.queue_count ≡ objects.queue_count → IsStanding queues semaphores rows objects → IsStanding queues semaphores rows after
+registered_stands queues semaphores rows o desc row objects after gives set created count is = record {
   counted = counted_still o row (with_queue (with_registration desc) row) objects after refl (kind_body (with_registration desc) row.body) set created count is.counted;
   queue_names = is.queue_names;
   semaphore_names = is.semaphore_names;
   kept = rw (set.sets) (set_all (λ r. is_kept queues semaphores rows r ≡ true) (is_at (nat_cmp o)) row (with_queue (with_registration desc) row) objects.rows.entries set.there (λ k. k) is.kept);
-  own = λ tidy.
-      let parts = or_false objects.astray (not gives) (sym astray ∙ tidy) in
+  own =
       let number : row.number ≡ o = found_number o 0 objects.created row objects.rows.entries is.counted.numbered set.there in
-      let new = given (not_false gives parts.1) ∙ ap Some (sym number) in
-      rw (set.sets) (set_all (IsOwn rows) (is_at (nat_cmp o)) row (with_queue (with_registration desc) row) objects.rows.entries set.there (λ own d e. own_body (λ x. option_map (λ r. r.object) (find (is_desc x.0) rows) ≡ Some row.number) desc row.body own new d e) (is.own parts.0));
+      let new = gives ∙ ap Some (sym number) in
+      rw (set.sets) (set_all (IsOwn rows) (is_at (nat_cmp o)) row (with_queue (with_registration desc) row) objects.rows.entries set.there (λ own d e. own_body (λ x. option_map (λ r. r.object) (find (is_desc x.0) rows) ≡ Some row.number) desc row.body own new d e) is.own);
 }
 
 -- ---- a description or a name more
@@ -298,7 +279,7 @@ wider_stands queues semaphores rows more objects wider is = record {
   queue_names = is.queue_names;
   semaphore_names = is.semaphore_names;
   kept = all_mapped (λ row. is_kept queues semaphores rows row ≡ true) (λ row. is_kept queues semaphores more row ≡ true) (rows_in objects) (λ row e. alive_by (names_object queues.bindings row.number) (names_object semaphores.bindings row.number) (is_open rows row.number) (is_open more row.number) (wider.opens row.number) e) is.kept;
-  own = λ tidy. all_mapped (IsOwn rows) (IsOwn more) (rows_in objects) (λ row own desc e. wider.gives desc.0 row.number (own desc e)) (is.own tidy);
+  own = all_mapped (IsOwn rows) (IsOwn more) (rows_in objects) (λ row own desc e. wider.gives desc.0 row.number (own desc e)) is.own;
 }
 
 -- one name more
@@ -354,13 +335,13 @@ named_stands queues semaphores queues' semaphores' rows objects one two is = rec
 -- ---- an object more
 
 -- the same rows, in another map
-pub same_stands : (queues semaphores : Directory) (rows : List Row) (objects after : Objects) → after.rows.entries ≡ objects.rows.entries → after.created ≡ objects.created → after.queue_count ≡ objects.queue_count → after.astray ≡ objects.astray → IsStanding queues semaphores rows objects → IsStanding queues semaphores rows after
-same_stands queues semaphores rows objects after same created count astray is = record {
+pub same_stands : (queues semaphores : Directory) (rows : List Row) (objects after : Objects) → after.rows.entries ≡ objects.rows.entries → after.created ≡ objects.created → after.queue_count ≡ objects.queue_count → IsStanding queues semaphores rows objects → IsStanding queues semaphores rows after
+same_stands queues semaphores rows objects after same created count is = record {
   counted = record { numbered = rw (same, created) is.counted.numbered; counted = rw same (count ∙ is.counted.counted) };
   queue_names = is.queue_names;
   semaphore_names = is.semaphore_names;
   kept = rw same is.kept;
-  own = λ tidy. rw same (is.own (sym astray ∙ tidy));
+  own = rw same is.own;
 }
 
 all_last : {X : Type 0} (P : X → Type 0) (xs : List X) (x : X) → AllByRecursion P xs → P x → AllByRecursion P (xs ++ x ∷ [])
@@ -375,7 +356,6 @@ pub record Adds (new : ObjectRow) (row : Row) (objects after : Objects) : Type 0
   pub entries : after.rows.entries ≡ insert_entry nat_cmp objects.rows.entries objects.created new
   pub created : after.created ≡ objects.created + 1
   pub count : after.queue_count ≡ objects.queue_count + cond (is_queue new) 1 0
-  pub astray : after.astray ≡ objects.astray
 
 pub added_rows : (new : ObjectRow) (row : Row) (objects after : Objects) → Adds new row objects after → IsCounted objects → rows_in after ≡ rows_in objects ++ new ∷ []
 added_rows new row objects after adds is = ap values_of (adds.entries ∙ inserted_last 0 objects.created new objects.rows.entries is.numbered) ∙ values_last objects.created new objects.rows.entries
@@ -398,17 +378,17 @@ added_stands queues semaphores rows new row objects after adds is =
       queue_names = is.queue_names;
       semaphore_names = is.semaphore_names;
       kept = rw more (all_last (λ r. is_kept queues semaphores (rows ++ row ∷ []) r ≡ true) (rows_in objects) new wider.kept (or_right (names_object queues.bindings new.number || names_object semaphores.bindings new.number) (is_open (rows ++ row ∷ []) new.number) opened));
-      own = λ tidy. rw more (all_last (IsOwn (rows ++ row ∷ [])) (rows_in objects) new (wider.own (sym adds.astray ∙ tidy)) (λ desc e. let no : ◌≡◌ {A = Option Desc} None (Some desc) = sym adds.unregistered ∙ e in cc));
+      own = rw more (all_last (IsOwn (rows ++ row ∷ [])) (rows_in objects) new wider.own (λ desc e. let no : ◌≡◌ {A = Option Desc} None (Some desc) = sym adds.unregistered ∙ e in cc));
     }
 
 -- the tables are as they were, in other fields
-pub back_stands : (queues semaphores queues' semaphores' : Directory) (rows rows' : List Row) (objects objects' : Objects) → queues' ≡ queues → semaphores' ≡ semaphores → rows' ≡ rows → rows_in objects' ≡ rows_in objects → IsStanding queues semaphores rows objects → IsCounted objects' → (objects'.astray ≡ false → AllByRecursion (IsOwn rows') (rows_in objects')) → IsStanding queues' semaphores' rows' objects'
-back_stands queues semaphores queues' semaphores' rows rows' objects objects' one two three four is counted own = record {
+pub back_stands : (queues semaphores queues' semaphores' : Directory) (rows rows' : List Row) (objects objects' : Objects) → queues' ≡ queues → semaphores' ≡ semaphores → rows' ≡ rows → rows_in objects' ≡ rows_in objects → IsStanding queues semaphores rows objects → IsCounted objects' → IsStanding queues' semaphores' rows' objects'
+back_stands queues semaphores queues' semaphores' rows rows' objects objects' one two three four is counted = record {
   counted = counted;
   queue_names = rw one is.queue_names;
   semaphore_names = rw two is.semaphore_names;
   kept = rw (one, two, three, four) is.kept;
-  own = own;
+  own = rw (three, four) is.own;
 }
 
 -- ---- what a call ends is gone
@@ -446,11 +426,11 @@ own_released less more row before own desc e =
     let is = held_registered less row desc (registered_in row.body) refl e in
     found_object (find (is_desc desc.0) less) (find (is_desc desc.0) more) row.number is.1 (before desc.0) (own desc is.0) ∙ ap Some (sym (released less row).number)
 
-pub settled_stands : (queues semaphores : Directory) (less more : List Row) (objects after : Objects) → BoundOnce queues.bindings → BoundOnce semaphores.bindings → FoundBefore less more → IsCounted after → rows_in after ≡ map (with_held less) (filter (is_kept queues semaphores less) (rows_in objects)) → after.astray ≡ objects.astray → (objects.astray ≡ false → AllByRecursion (IsOwn more) (rows_in objects)) → IsStanding queues semaphores less after
-settled_stands queues semaphores less more objects after queue_names semaphore_names before counted same astray own = record {
+pub settled_stands : (queues semaphores : Directory) (less more : List Row) (objects after : Objects) → BoundOnce queues.bindings → BoundOnce semaphores.bindings → FoundBefore less more → IsCounted after → rows_in after ≡ map (with_held less) (filter (is_kept queues semaphores less) (rows_in objects)) → AllByRecursion (IsOwn more) (rows_in objects) → IsStanding queues semaphores less after
+settled_stands queues semaphores less more objects after queue_names semaphore_names before counted same own = record {
   counted = counted;
   queue_names = queue_names;
   semaphore_names = semaphore_names;
   kept = rw same (all_of_map (λ row. is_kept queues semaphores less row ≡ true) (with_held less) (filter (is_kept queues semaphores less) (rows_in objects)) (all_mapped (λ row. is_kept queues semaphores less row ≡ true) (λ row. is_kept queues semaphores less (with_held less row) ≡ true) (filter (is_kept queues semaphores less) (rows_in objects)) (λ row e. ap (is_alive queues semaphores less) (released less row).number ∙ e) (filter_passes (is_kept queues semaphores less) (rows_in objects))));
-  own = λ tidy. rw same (all_of_map (IsOwn less) (with_held less) (filter (is_kept queues semaphores less) (rows_in objects)) (all_mapped (IsOwn more) (λ row. IsOwn less (with_held less row)) (filter (is_kept queues semaphores less) (rows_in objects)) (λ row own. own_released less more row before own) (all_filtered (IsOwn more) (is_kept queues semaphores less) (rows_in objects) (own (sym astray ∙ tidy)))));
+  own = rw same (all_of_map (IsOwn less) (with_held less) (filter (is_kept queues semaphores less) (rows_in objects)) (all_mapped (IsOwn more) (λ row. IsOwn less (with_held less row)) (filter (is_kept queues semaphores less) (rows_in objects)) (λ row own. own_released less more row before own) (all_filtered (IsOwn more) (is_kept queues semaphores less) (rows_in objects) own)));
 }

@@ -15,7 +15,7 @@ use Rattle.ipc_descr.specs.Descriptions.{number, is_desc, is_of, is_to, if_of, r
 use Rattle.ipc_descr.proofs.AmongOthers.{and_false}
 use Rattle.ipc_tables.specs.declared.rows.ObjectRow.{ObjectRow}
 use Rattle.ipc_tables.specs.Objects.{registered_in, held_by, with_held}
-use Rattle.ipc_tables.specs.Kept.{Kept, directory_kept, is_kept}
+use Rattle.ipc_tables.specs.TablesView.{TablesView, directory_kept, is_kept}
 use Rattle.ipc_tables.specs.Steps.{without_binding}
 use Rattle.ipc_tables.specs.Standing.{BoundOnce, IsOwn, OthersKept, OthersHeld}
 
@@ -231,10 +231,10 @@ pub record Unbound (touched : Option ℕ) (queues semaphores queues' semaphores'
   pub queues_still : (n : ℕ) → touched ≢ Some n → names_object queues'.bindings n ≡ names_object queues.bindings n
   pub semaphores_still : (n : ℕ) → touched ≢ Some n → names_object semaphores'.bindings n ≡ names_object semaphores.bindings n
 
-pub unbound : (family : Family) (name : List ℕ) (t : Kept) (touched : Option ℕ) (queues' semaphores' : Directory) → record t { queues = queues'; semaphores = semaphores' } ≡ without_binding family name t → touched ≡ object_named (directory_kept family t).bindings name → BoundOnce t.queues.bindings → BoundOnce t.semaphores.bindings → Unbound touched t.queues t.semaphores queues' semaphores'
+pub unbound : (family : Family) (name : List ℕ) (t : TablesView) (touched : Option ℕ) (queues' semaphores' : Directory) → record t { queues = queues'; semaphores = semaphores' } ≡ without_binding family name t → touched ≡ object_named (directory_kept family t).bindings name → BoundOnce t.queues.bindings → BoundOnce t.semaphores.bindings → Unbound touched t.queues t.semaphores queues' semaphores'
 unbound Mq name t touched queues' semaphores' is e one two =
-    let here : queues'.bindings ≡ without_name t.queues.bindings name = ap (λ (x : Kept). x.queues.bindings) is in
-    let there : semaphores'.bindings ≡ t.semaphores.bindings = ap (λ (x : Kept). x.semaphores.bindings) is in
+    let here : queues'.bindings ≡ without_name t.queues.bindings name = ap (λ (x : TablesView). x.queues.bindings) is in
+    let there : semaphores'.bindings ≡ t.semaphores.bindings = ap (λ (x : TablesView). x.semaphores.bindings) is in
     record {
       queue_names = rw here (once_without name t.queues.bindings one);
       semaphore_names = rw there two;
@@ -242,8 +242,8 @@ unbound Mq name t touched queues' semaphores' is e one two =
       semaphores_still = λ n apart. rw there refl;
     }
 unbound Sem name t touched queues' semaphores' is e one two =
-    let there : queues'.bindings ≡ t.queues.bindings = ap (λ (x : Kept). x.queues.bindings) is in
-    let here : semaphores'.bindings ≡ without_name t.semaphores.bindings name = ap (λ (x : Kept). x.semaphores.bindings) is in
+    let there : queues'.bindings ≡ t.queues.bindings = ap (λ (x : TablesView). x.queues.bindings) is in
+    let here : semaphores'.bindings ≡ without_name t.semaphores.bindings name = ap (λ (x : TablesView). x.semaphores.bindings) is in
     record {
       queue_names = rw there one;
       semaphore_names = rw here (once_without name t.semaphores.bindings two);

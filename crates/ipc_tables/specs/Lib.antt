@@ -1,5 +1,5 @@
 pub mod Objects
-pub mod Kept
+pub mod TablesView
 pub mod Charging
 pub mod Steps
 pub mod Standing

@@ -1,5 +1,5 @@
 -- What holds of the tables between calls, so that what a call ends is found by what it touches.
-use Rattle.std.specs.Prelude.{◌≡◌, ◌≢◌, ⊤, Bool, true, false, ℕ, ◌+◌, ◌≤◌, List, [], ◌∷◌, Option, Some, None, count_by, find}
+use Rattle.std.specs.Prelude.{◌≡◌, ◌≢◌, ⊤, Bool, true, ℕ, ◌+◌, ◌≤◌, List, [], ◌∷◌, Option, Some, None, count_by, find}
 use Rattle.std.specs.List.{AllByRecursion}
 use Rattle.std.specs.Map.{values_of}
 use Rattle.std.specs.Option.{option_map}
@@ -11,7 +11,7 @@ use Rattle.ipc_descr.specs.Descriptions.{is_desc}
 use Rattle.ipc_tables.specs.declared.objects.Objects.{Objects}
 use Rattle.ipc_tables.specs.declared.rows.ObjectRow.{ObjectRow}
 use Rattle.ipc_tables.specs.Objects.{is_queue, registered_in, with_held}
-use Rattle.ipc_tables.specs.Kept.{is_kept}
+use Rattle.ipc_tables.specs.TablesView.{is_kept}
 
 -- the rows of the objects, in the order of their numbers
 abbrev pub rows_in : Objects → List ObjectRow
@@ -50,4 +50,4 @@ pub record IsStanding (queues semaphores : Directory) (rows : List Row) (objects
   pub queue_names : BoundOnce queues.bindings
   pub semaphore_names : BoundOnce semaphores.bindings
   pub kept : AllByRecursion (λ row. is_kept queues semaphores rows row ≡ true) (rows_in objects)
-  pub own : objects.astray ≡ false → AllByRecursion (IsOwn rows) (rows_in objects)
+  pub own : AllByRecursion (IsOwn rows) (rows_in objects)

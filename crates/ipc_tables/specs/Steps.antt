@@ -32,11 +32,11 @@ use Rattle.ipc_tables.specs.declared.tables.Grant.{Grant}
 use Rattle.ipc_tables.specs.declared.tables.Owned.{Owned}
 use Rattle.ipc_tables.specs.declared.tables.Owned.TheVariants.{Object as OwnedObject, Directory as OwnedDirectory}
 use Rattle.ipc_tables.specs.Objects.{is_number, queue_at, semaphore_at, new_row, with_queue, with_semaphore, with_withdrawal, with_facts, with_held}
-use Rattle.ipc_tables.specs.Kept.{Kept, is_kept, parked_on_at}
+use Rattle.ipc_tables.specs.TablesView.{TablesView, is_kept, parked_on_at}
 use Rattle.ipc_tables.specs.Charging.{charged_with, settled}
 
 -- no sessions, names, objects and descriptions, and users of whom nothing is taken
-abbrev pub first_tables : List User → Kept
+abbrev pub first_tables : List User → TablesView
 first_tables users =
     record {
       sessions = [];
@@ -54,35 +54,39 @@ with_mask mask row = record row { mask = mask }
 abbrev pub with_parked : Option ℕ → Session → Session
 with_parked object row = record row { parked_on = object }
 
+-- of a session that hung up its user is left: it has the mask octal 022 again, and is parked on nothing
 abbrev pub hung_up : Session → Session
-hung_up row = record row { is_live = false }
+hung_up row = record { user = row.user; mask = record { 0 = 18 }; is_live = false; parked_on = None }
 
--- a session starts, with the mask octal 022
-abbrev pub after_hello : Kept → Uid → Kept
-after_hello t user = record t { sessions = t.sessions ++ record { user = user; mask = record { 0 = 18 }; is_live = true; parked_on = None } ∷ [] }
+-- a session that starts has the mask octal 022
+abbrev pub first_row : Uid → Session
+first_row user = record { user = user; mask = record { 0 = 18 }; is_live = true; parked_on = None }
 
-abbrev pub after_umask : Kept → ℕ → Mode → Kept
+abbrev pub after_hello : TablesView → Uid → TablesView
+after_hello t user = record t { sessions = t.sessions ++ first_row user ∷ [] }
+
+abbrev pub after_umask : TablesView → ℕ → Mode → TablesView
 after_umask t s mask = record t { sessions = changed (with_mask mask) t.sessions s }
 
 -- an open of what there is
-abbrev pub after_found : Kept → Grant → ℕ → Kept
+abbrev pub after_found : TablesView → Grant → ℕ → TablesView
 after_found t grant o = record t { descriptions = with_open t.descriptions grant.session o grant.access grant.nonblock }
 
 -- the directory of a family changes
-abbrev pub with_directory : Family → (Directory → Directory) → Kept → Kept
+abbrev pub with_directory : Family → (Directory → Directory) → TablesView → TablesView
 with_directory Mq change t = record t { queues = change t.queues }
 with_directory Sem change t = record t { semaphores = change t.semaphores }
 
 -- a name of the family is bound to the object
-abbrev pub with_binding : Family → List ℕ → ℕ → Kept → Kept
+abbrev pub with_binding : Family → List ℕ → ℕ → TablesView → TablesView
 with_binding family name o t = with_directory family (λ d. record d { bindings = d.bindings ++ record { name = name; object = o } ∷ [] }) t
 
 -- a name of the family is bound to no object
-abbrev pub without_binding : Family → List ℕ → Kept → Kept
+abbrev pub without_binding : Family → List ℕ → TablesView → TablesView
 without_binding family name t = with_directory family (λ d. record d { bindings = without_name d.bindings name }) t
 
 -- an object of the next number is made and opened
-abbrev pub with_object : Kept → Grant → Object → Facts → Kept
+abbrev pub with_object : TablesView → Grant → Object → Facts → TablesView
 with_object t grant object facts =
     record t {
       objects = t.objects ++ new_row t.created object facts ∷ [];
@@ -92,7 +96,7 @@ with_object t grant object facts =
     }
 
 -- an open that creates an object
-abbrev pub after_created : Kept → Grant → List ℕ → Object → Facts → Kept
+abbrev pub after_created : TablesView → Grant → List ℕ → Object → Facts → TablesView
 after_created t grant name object facts = with_object (with_binding (family_of object.kind) name t.created t) grant object facts
 
 -- the objects that are alive, each with its registration if that is held
@@ -100,7 +104,7 @@ abbrev pub living : Directory → Directory → List Row → List ObjectRow → 
 living queues semaphores rows objects = map (with_held rows) (filter (is_kept queues semaphores rows) objects)
 
 -- other descriptions are held, and the objects that nothing keeps are gone, with what they took of their creators' bytes
-abbrev pub with_rows : Kept → List Row → Kept
+abbrev pub with_rows : TablesView → List Row → TablesView
 with_rows t rows =
     record t {
       descriptions = record t.descriptions { rows = rows };
@@ -108,18 +112,18 @@ with_rows t rows =
       charges = settled (is_kept t.queues t.semaphores rows) t.objects t.charges;
     }
 
-abbrev pub after_close : Kept → ℕ → ℕ → Kept
+abbrev pub after_close : TablesView → ℕ → ℕ → TablesView
 after_close t s d = with_rows t (without_desc t.descriptions.rows s d)
 
 -- the objects that nothing keeps are gone
-abbrev pub with_living : Kept → Kept
+abbrev pub with_living : TablesView → TablesView
 with_living t =
     record t {
       objects = living t.queues t.semaphores t.descriptions.rows t.objects;
       charges = settled (is_kept t.queues t.semaphores t.descriptions.rows) t.objects t.charges;
     }
 
-abbrev pub after_unlink : Kept → Family → List ℕ → Kept
+abbrev pub after_unlink : TablesView → Family → List ℕ → TablesView
 after_unlink t family name = with_living (without_binding family name t)
 
 -- a session that a send serves is parked no more, and one whose send parks is parked on the object
@@ -129,7 +133,7 @@ parked_by_send o sid (Some SendParks) sessions = changed (with_parked (Some o)) 
 parked_by_send o sid _ sessions = sessions
 
 -- a send of the session to object o
-abbrev pub after_send : Kept → ℕ → Ticket → Sid → Kept
+abbrev pub after_send : TablesView → ℕ → Ticket → Sid → TablesView
 after_send t o ticket sid =
     record t {
       sessions = parked_by_send o sid (option_map send_outcome (queue_at t.objects o)) t.sessions;
@@ -143,20 +147,12 @@ parked_by_receive o sid (Some ReceiveParks) sessions = changed (with_parked (Som
 parked_by_receive o sid _ sessions = sessions
 
 -- a receive of the session from object o
-abbrev pub after_receive : Kept → ℕ → Sid → Kept
+abbrev pub after_receive : TablesView → ℕ → Sid → TablesView
 after_receive t o sid =
     record t {
       sessions = parked_by_receive o sid (option_map receive_outcome (queue_at t.objects o)) t.sessions;
       objects = changed_first (is_number o) (with_queue (received sid)) t.objects;
     }
-
--- the session whose receive has been parked longest on object o stands in the table
-abbrev pub ReceiverStands : Kept → ℕ → Type 0
-ReceiverStands t o = (q : Tickets) (who : Sid) → queue_at t.objects o ≡ Some q → first q.receivers ≡ Some who → who.0 < length t.sessions
-
--- and so does the one whose send has been
-abbrev pub SenderStands : Kept → ℕ → Type 0
-SenderStands t o = (q : Tickets) (m : ParkedSend) → queue_at t.objects o ≡ Some q → first q.senders ≡ Some m → m.session.0 < length t.sessions
 
 -- a session that a post serves is parked no more
 abbrev pub parked_by_post : Option Sid → List Session → List Session
@@ -168,7 +164,7 @@ abbrev pub waiter_at : List ObjectRow → ℕ → Option Sid
 waiter_at objects o = option_and_then (λ q. first q.waiters) (semaphore_at objects o)
 
 -- a post to object o
-abbrev pub after_post : Kept → ℕ → Kept
+abbrev pub after_post : TablesView → ℕ → TablesView
 after_post t o =
     record t {
       sessions = parked_by_post (waiter_at t.objects o) t.sessions;
@@ -181,7 +177,7 @@ parked_by_wait o sid (Some WaitParks) sessions = changed (with_parked (Some o)) 
 parked_by_wait o sid _ sessions = sessions
 
 -- a wait of the session for object o
-abbrev pub after_wait : Kept → ℕ → Sid → Kept
+abbrev pub after_wait : TablesView → ℕ → Sid → TablesView
 after_wait t o sid =
     record t {
       sessions = parked_by_wait o sid (option_map wait_outcome (semaphore_at t.objects o)) t.sessions;
@@ -189,17 +185,13 @@ after_wait t o sid =
     }
 
 -- a wait for object o that does not park
-abbrev pub after_try : Kept → ℕ → Kept
+abbrev pub after_try : TablesView → ℕ → TablesView
 after_try t o = record t { objects = changed_first (is_number o) (with_semaphore tried) t.objects }
 
--- the session whose wait has been parked longest on object o stands in the table
-abbrev pub WaiterStands : Kept → ℕ → Type 0
-WaiterStands t o = (who : Sid) → waiter_at t.objects o ≡ Some who → who.0 < length t.sessions
-
 -- the call in which a session is parked is withdrawn from its object
-abbrev pub after_withdrawal : Kept → Sid → Kept
+abbrev pub after_withdrawal : TablesView → Sid → TablesView
 after_withdrawal t sid = by_object (parked_on_at t.sessions sid.0) where
-  by_object : Option ℕ → Kept
+  by_object : Option ℕ → TablesView
   by_object None = t
   by_object (Some o) =
       record t {
@@ -208,25 +200,25 @@ after_withdrawal t sid = by_object (parked_on_at t.sessions sid.0) where
       }
 
 -- a session is live no more, and what it held is closed
-abbrev pub ended : Kept → ℕ → Kept
+abbrev pub ended : TablesView → ℕ → TablesView
 ended t s = record (with_rows t (without_session t.descriptions.rows s)) { sessions = changed hung_up t.sessions s }
 
-abbrev pub after_hangup : Kept → Sid → Kept
+abbrev pub after_hangup : TablesView → Sid → TablesView
 after_hangup t sid = ended (after_withdrawal t sid) sid.0
 
-abbrev pub after_setattr : Kept → ℕ → Bool → Kept
+abbrev pub after_setattr : TablesView → ℕ → Bool → TablesView
 after_setattr t d nonblock = record t { descriptions = record t.descriptions { rows = changed_first (is_desc d) (with_nonblock nonblock) t.descriptions.rows } }
 
 -- an object has this owner, group and mode, or the directory of a family has them
-abbrev pub after_facts : Kept → Owned → Facts → Kept
+abbrev pub after_facts : TablesView → Owned → Facts → TablesView
 after_facts t (OwnedObject o) facts = record t { objects = changed_first (is_number o) (with_facts facts) t.objects }
 after_facts t (OwnedDirectory family) facts = with_directory family (λ d. record d { facts = facts }) t
 
 -- user u's queues may take so many bytes
-abbrev pub after_limit : Kept → ℕ → ℕ → Kept
+abbrev pub after_limit : TablesView → ℕ → ℕ → TablesView
 after_limit t u bytes = record t { charges = with_limit t.charges u bytes }
 
 -- a description is registered for the notice of object o, or not any longer
-abbrev pub after_notify : Kept → ℕ → Desc → Bool → Kept
+abbrev pub after_notify : TablesView → ℕ → Desc → Bool → TablesView
 after_notify t o desc true = record t { objects = changed_first (is_number o) (with_queue (with_registration desc)) t.objects }
 after_notify t o desc false = record t { objects = changed_first (is_number o) (with_queue (without_registration desc)) t.objects }

@@ -4,6 +4,7 @@
 
 mod objects;
 mod rows;
+mod sessions;
 mod tables;
 
 pub use rows::{Body, ObjectRow, Session};

@@ -1,8 +1,8 @@
 //! The objects that are alive, and which of them a call ends.
 
-ghost use Rattle.std.specs.Prelude.{◌≡◌, false, map, filter};
+ghost use Rattle.std.specs.Prelude.{◌≡◌, map, filter};
 ghost use Rattle.ipc_tables.specs.Objects.{HasRoom, bytes_taken, with_held};
-ghost use Rattle.ipc_tables.specs.Kept.{is_alive, is_kept};
+ghost use Rattle.ipc_tables.specs.TablesView.{is_alive, is_kept};
 ghost use Rattle.ipc_tables.specs.Charging.{Covered, settled};
 ghost use Rattle.ipc_tables.specs.Standing.{rows_in, IsCounted, OthersKept, OthersHeld};
 
@@ -20,9 +20,6 @@ pub struct Objects {
     pub created: u64,
     /// How many of those that are alive are queues.
     pub queue_count: usize,
-    /// Whether a registration may be of a description that doesn't give its queue. Only such a one
-    /// may be held no longer while no description of its queue was closed.
-    pub astray: bool,
     /// How many bytes each user's queues take, and how many they may.
     pub charges: Charges,
 }
@@ -43,7 +40,6 @@ impl Objects {
         ensures rows { rows_in self.new ≡ filter (is_kept queues.now semaphores.now descriptions.now.rows) (rows_in self.old) }
         ensures charges { self.new.charges ≡ settled (is_kept queues.now semaphores.now descriptions.now.rows) (rows_in self.old) self.old.charges }
         ensures created { self.new.created ≡ self.old.created }
-        ensures astray { self.new.astray ≡ self.old.astray }
     {
         let Some(object) = touched else {
             return;
@@ -58,35 +54,22 @@ impl Objects {
         self.charges.give_back(row.object.creator, row.bytes);
     }
 
-    /// Takes the registration of the object that was touched back if its description is held no longer;
-    /// and so those of all objects, should one be astray.
+    /// Takes the registration of the object that was touched back if its description is held no longer.
     pub fn release(&mut self, descriptions: &Descrs, touched: Option<u64>)
         requires counted { IsCounted self.old }
-        requires others { self.old.astray ≡ false → OthersHeld touched descriptions.now.rows (rows_in self.old) }
+        requires others { OthersHeld touched descriptions.now.rows (rows_in self.old) }
         ensures counted { IsCounted self.new }
         ensures rows { rows_in self.new ≡ map (with_held descriptions.now.rows) (rows_in self.old) }
         ensures charges { self.new.charges ≡ self.old.charges }
         ensures created { self.new.created ≡ self.old.created }
-        ensures astray { self.new.astray ≡ self.old.astray }
     {
-        if self.astray {
-            release_all(&mut self.rows, descriptions);
-        } else if let Some(object) = touched {
-            if let Some(row) = self.rows.get_mut(&object) {
-                release_row(row, descriptions);
-            }
+        let Some(object) = touched else {
+            return;
+        };
+        if let Some(row) = self.rows.get_mut(&object) {
+            release_row(row, descriptions);
         }
     }
-}
-
-/// Takes the registrations back whose descriptions are held no longer.
-fn release_all(rows: &mut BTreeMap<u64, ObjectRow>, descriptions: &Descrs)
-    ensures { rows.new.entries ≡ map (λ entry. (entry.0, with_held descriptions.now.rows entry.1)) rows.old.entries }
-{
-    rows.retain(|_, row| {
-        release_row(row, descriptions);
-        true
-    });
 }
 
 /// Takes the registration back if its description is held no longer.

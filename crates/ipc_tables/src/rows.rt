@@ -13,7 +13,7 @@ use ipc_terms::{Desc, Facts, Kind, Mode, NoMemory, Object, Sid, Uid};
 use std::alloc::Global;
 
 /// A session's user, its present mask, whether it is live, and the object on which its call is
-/// parked. A session that hung up keeps its place, so that sessions stand at their numbers.
+/// parked. Of one that hung up the user alone is kept: its mask is octal 022, and it is parked on none.
 #[derive(Clone, Copy)]
 pub struct Session {
     pub user: Uid,

@@ -2,7 +2,6 @@
 
 ghost use Rattle.std.specs.Prelude.{count_by, ◌≡◌, ◌+◌, ◌^◌, ◌<◌, [], true, false, find, length, slice_get, is_some, IsSome, Some, None, IfOk, OnOk, OnErr};
 ghost use Rattle.std.specs.Option.{option_copied, option_map};
-ghost use Rattle.ipc_terms.specs.Lists.{changed};
 ghost use Rattle.ipc_terms.specs.Objects.{family_of};
 ghost use Rattle.ipc_terms.specs.declared.ids.Family.TheVariants.{Mq, Sem as SemFamily};
 ghost use Rattle.ipc_names.specs.Directory.{first_directory, object_named};
@@ -10,11 +9,12 @@ ghost use Rattle.ipc_descr.specs.Descriptions.{is_desc, row_of};
 ghost use Rattle.ipc_tables.specs.Charging.{Covered, Affords};
 ghost use Rattle.ipc_tables.specs.Objects.{HasRoom, is_queue, row_at, queue_at, semaphore_at};
 ghost use Rattle.ipc_sem.specs.Counters.{overflows};
-ghost use Rattle.ipc_tables.specs.Kept.{Kept, directory_kept};
-ghost use Rattle.ipc_tables.specs.Steps.{with_parked, with_object, with_binding, without_binding, ReceiverStands, SenderStands, WaiterStands, after_post, after_wait, after_try, after_hello, after_umask, after_found, after_created, after_close, after_unlink, after_hangup, after_send, after_receive, after_withdrawal, after_setattr, after_facts, after_limit, after_notify, first_tables};
+ghost use Rattle.ipc_tables.specs.TablesView.{TablesView, directory_kept};
+ghost use Rattle.ipc_tables.specs.Steps.{with_object, with_binding, without_binding, after_post, after_wait, after_try, after_hello, after_umask, after_found, after_created, after_close, after_unlink, after_hangup, after_send, after_receive, after_withdrawal, after_setattr, after_facts, after_limit, after_notify, first_tables};
 
 use crate::objects::{Objects, bytes_taken};
 use crate::rows::{Body, ObjectRow, Session};
+use crate::sessions::Sessions;
 use ipc_access::Users;
 use ipc_descr::{Charges, Descrs};
 use ipc_names::NameDir;
@@ -44,7 +44,7 @@ pub enum Owned {
 /// its queues take.
 #[derive(Drop)]
 pub struct Tables {
-    sessions: Vec<Session>,
+    sessions: Sessions,
     queues: NameDir,
     semaphores: NameDir,
     objects: Objects,
@@ -52,18 +52,15 @@ pub struct Tables {
 }
 
 impl Model for Tables {
-    ghost use Rattle.ipc_tables.specs.Kept.{Kept};
+    ghost use Rattle.ipc_tables.specs.TablesView.{TablesView};
     ghost use Rattle.ipc_tables.specs.Standing.{rows_in, IsStanding};
 
-    ghost Value = { Kept };
+    ghost Value = { TablesView };
 
-    ghost view = { λ a. record { sessions = a.sessions.items; queues = a.queues; semaphores = a.semaphores; objects = rows_in a.objects; created = a.objects.created; descriptions = a.descriptions; charges = a.objects.charges } };
+    ghost view = { λ a. record { sessions = a.sessions; queues = a.queues; semaphores = a.semaphores; objects = rows_in a.objects; created = a.objects.created; descriptions = a.descriptions; charges = a.objects.charges } };
 
     ghost invariant = { λ a. IsStanding a.queues a.semaphores a.descriptions.rows a.objects };
 }
-
-/// The mask of a session that has set none: octal 022.
-const FIRST_MASK: Mode = Mode(0o22);
 
 impl Tables {
     /// No sessions, names, objects and descriptions, and users of whom nothing is taken.
@@ -72,14 +69,13 @@ impl Tables {
     {
         let charges = Charges::new(alloc, users)?;
         Ok(Tables {
-            sessions: Vec::new(alloc),
+            sessions: Sessions::new(alloc),
             queues: NameDir::new(alloc, Family::Mq),
             semaphores: NameDir::new(alloc, Family::Sem),
             objects: Objects {
                 rows: BTreeMap::new(alloc),
                 created: 0,
                 queue_count: 0,
-                astray: false,
                 charges,
             },
             descriptions: Descrs::new(alloc),
@@ -90,7 +86,7 @@ impl Tables {
     pub fn session(&self, sid: Sid) -> Option<Session>
         ensures { result ≡ slice_get self.now.sessions sid.0 }
     {
-        self.sessions.get(sid.0 as usize).copied()
+        self.sessions.get(sid)
     }
 
     /// How many sessions ever started.
@@ -157,22 +153,15 @@ impl Tables {
         ensures ok { OnOk result (self.new ≡ after_hello self.old user) }
         ensures err { OnErr result (self.new ≡ self.old) }
     {
-        self.sessions.push(Session {
-            user,
-            mask: FIRST_MASK,
-            is_live: true,
-            parked_on: None,
-        })?;
+        self.sessions.start(user)?;
         Ok(())
     }
 
     /// Gives the session this mask.
     pub fn set_mask(&mut self, sid: Sid, mask: Mode)
-        requires { sid.0 < length self.old.sessions }
         ensures { self.new ≡ after_umask self.old sid.0 mask }
     {
-        let session = &mut self.sessions[sid.0 as usize];
-        session.mask = mask;
+        self.sessions.set_mask(sid, mask);
     }
 
     /// Opens an object that is there. An `Err` changes nothing.
@@ -278,9 +267,7 @@ impl Tables {
         priority: u32,
         sid: Sid,
     ) -> Result<(), NoMemory>
-        requires queue { is_some (queue_at self.old.objects object) ≡ true }
-        requires receiver { ReceiverStands self.old object }
-        requires session { sid.0 < length self.old.sessions }
+        requires { is_some (queue_at self.old.objects object) ≡ true }
         ensures ok { OnOk result (self.new ≡ after_send self.old object (record { place = ticket; priority = priority }) sid) }
         ensures err { OnErr result (self.new ≡ self.old) }
     {
@@ -290,8 +277,8 @@ impl Tables {
         match row.body.send(ticket, priority, sid)? {
             SendOutcome::Queued => {}
             SendOutcome::QueuedAndNotice(_) => {}
-            SendOutcome::HandedTo(receiver) => set_parked(&mut self.sessions, receiver, None),
-            SendOutcome::Parked => set_parked(&mut self.sessions, sid, Some(object)),
+            SendOutcome::HandedTo(receiver) => self.sessions.set_parked(receiver, None),
+            SendOutcome::Parked => self.sessions.set_parked(sid, Some(object)),
         }
         Ok(())
     }
@@ -299,9 +286,7 @@ impl Tables {
     /// The session takes the next message from the queue, and lets the longest parked send enter;
     /// or its receive parks. An `Err` changes nothing.
     pub fn receive(&mut self, object: u64, sid: Sid) -> Result<(), NoMemory>
-        requires queue { is_some (queue_at self.old.objects object) ≡ true }
-        requires sender { SenderStands self.old object }
-        requires session { sid.0 < length self.old.sessions }
+        requires { is_some (queue_at self.old.objects object) ≡ true }
         ensures ok { OnOk result (self.new ≡ after_receive self.old object sid) }
         ensures err { OnErr result (self.new ≡ self.old) }
     {
@@ -311,31 +296,29 @@ impl Tables {
         match row.body.receive(sid)? {
             ReceiveOutcome::Took(_) => {}
             ReceiveOutcome::TookAndAdmitted(_, sender) => {
-                set_parked(&mut self.sessions, sender, None);
+                self.sessions.set_parked(sender, None);
             }
-            ReceiveOutcome::Parked => set_parked(&mut self.sessions, sid, Some(object)),
+            ReceiveOutcome::Parked => self.sessions.set_parked(sid, Some(object)),
         }
         Ok(())
     }
 
     /// The session whose wait has been parked longest is served, or the value rises by 1.
     pub fn post(&mut self, object: u64)
-        requires room { option_map overflows (semaphore_at self.old.objects object) ≡ Some false }
-        requires waiter { WaiterStands self.old object }
+        requires { option_map overflows (semaphore_at self.old.objects object) ≡ Some false }
         ensures { self.new ≡ after_post self.old object }
     {
         let Some(row) = self.objects.rows.get_mut(&object) else {
             unreachable!();
         };
         if let Some(waiter) = row.body.post() {
-            set_parked(&mut self.sessions, waiter, None);
+            self.sessions.set_parked(waiter, None);
         }
     }
 
     /// The value is lowered by 1, or the session's wait parks. An `Err` changes nothing.
     pub fn wait(&mut self, object: u64, sid: Sid) -> Result<(), NoMemory>
-        requires semaphore { is_some (semaphore_at self.old.objects object) ≡ true }
-        requires session { sid.0 < length self.old.sessions }
+        requires { is_some (semaphore_at self.old.objects object) ≡ true }
         ensures ok { OnOk result (self.new ≡ after_wait self.old object sid) }
         ensures err { OnErr result (self.new ≡ self.old) }
     {
@@ -344,7 +327,7 @@ impl Tables {
         };
         match row.body.wait(sid)? {
             WaitOutcome::Passed => {}
-            WaitOutcome::Parked => set_parked(&mut self.sessions, sid, Some(object)),
+            WaitOutcome::Parked => self.sessions.set_parked(sid, Some(object)),
         }
         Ok(())
     }
@@ -360,28 +343,30 @@ impl Tables {
 
     /// Withdraws the call in which the session is parked, if it is.
     pub fn withdraw(&mut self, sid: Sid)
-        requires { sid.0 < length self.old.sessions }
         ensures { self.new ≡ after_withdrawal self.old sid }
     {
-        let Some(object) = self.sessions[sid.0 as usize].parked_on else {
+        let Some(session) = self.sessions.get(sid) else {
+            return;
+        };
+        let Some(object) = session.parked_on else {
             return;
         };
         if let Some(row) = self.objects.rows.get_mut(&object) {
             row.body.withdraw(sid);
         }
-        set_parked(&mut self.sessions, sid, None);
+        self.sessions.set_parked(sid, None);
     }
 
-    /// Registers the description for the notice of the queue, where none is registered; or takes the
-    /// registration of the description back.
+    /// Registers the description, which gives this object, for the notice of the queue, where none is
+    /// registered; or takes the registration of the description back.
     pub fn set_registered(&mut self, object: u64, desc: Desc, on: bool)
+        requires { on ≡ true → option_map (λ row. row.object) (find (is_desc desc.0) self.old.descriptions.rows) ≡ Some object }
         ensures { self.new ≡ after_notify self.old object desc on }
     {
         let Some(row) = self.objects.rows.get_mut(&object) else {
             return;
         };
         if on {
-            self.objects.astray |= !gives(&self.descriptions, desc, object);
             row.body.register(desc);
         } else {
             row.body.unregister(desc);
@@ -442,45 +427,19 @@ impl Tables {
         let object = unbind(&mut self.queues, &mut self.semaphores, family, name);
         self.objects
             .remove_dead(&self.queues, &self.semaphores, &self.descriptions, object);
-        self.objects.release(&self.descriptions, None);
     }
 
     /// Ends the session: withdraws its parked call, and closes what it holds. An object that nothing
     /// keeps is gone, and its creator is no longer charged with it.
     pub fn end_session(&mut self, sid: Sid)
-        requires session { sid.0 < length self.old.sessions }
-        requires covered { Covered self.old.charges self.old.objects }
+        requires { Covered self.old.charges self.old.objects }
         ensures { self.new ≡ after_hangup self.old sid }
     {
         self.withdraw(sid);
-        let session = &mut self.sessions[sid.0 as usize];
-        session.is_live = false;
-        self.objects.release(&self.descriptions, None);
+        self.sessions.end(sid);
         while let Some(desc) = self.descriptions.first(sid) {
             self.close(sid, desc);
         }
-    }
-}
-
-/// The session's call is parked on this object, or on none.
-fn set_parked(sessions: &mut [Session], sid: Sid, object: Option<u64>)
-    requires { sid.0 < length sessions.old }
-    ensures { sessions.new ≡ changed (with_parked object) sessions.old sid.0 }
-{
-    let session = &mut sessions[sid.0 as usize];
-    session.parked_on = object;
-}
-
-/// Whether this description is held, and gives this object.
-fn gives(descriptions: &Descrs, desc: Desc, object: u64) -> bool
-    ensures { result ≡ true → option_map (λ row. row.object) (find (is_desc desc.0) descriptions.now.rows) ≡ Some object }
-{
-    let Some(sid) = descriptions.holder(desc) else {
-        return false;
-    };
-    match descriptions.get(sid, desc) {
-        Some(row) => row.object == object,
-        None => false,
     }
 }
 
@@ -491,8 +450,8 @@ fn unbind(
     family: Family,
     name: &Name,
 ) -> Option<u64>
-    ensures object { (t : Kept) → result ≡ object_named (directory_kept family (record t { queues = queues.old; semaphores = semaphores.old })).bindings name.now }
-    ensures rest { (t : Kept) → record t { queues = queues.new; semaphores = semaphores.new } ≡ without_binding family name.now (record t { queues = queues.old; semaphores = semaphores.old }) }
+    ensures object { (t : TablesView) → result ≡ object_named (directory_kept family (record t { queues = queues.old; semaphores = semaphores.old })).bindings name.now }
+    ensures rest { (t : TablesView) → record t { queues = queues.new; semaphores = semaphores.new } ≡ without_binding family name.now (record t { queues = queues.old; semaphores = semaphores.old }) }
 {
     match family {
         Family::Mq => queues.unbind(name),

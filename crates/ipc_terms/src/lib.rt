@@ -15,7 +15,6 @@ mod name;
 mod object;
 mod op;
 mod page;
-mod push;
 mod record;
 mod rule;
 
@@ -32,6 +31,5 @@ pub use name::{Name, Names};
 pub use object::{Asked, Kind, Object, SEM_VALUE_MAX};
 pub use op::{AnswerOp, CallOp, EVERY_ANSWER, EVERY_CALL, HANG_UP_NUMBER, HELLO_NUMBER};
 pub use page::page_of;
-pub use push::push_within;
 pub use record::{Event, Record};
 pub use rule::{EVERY_RULE, Rule};

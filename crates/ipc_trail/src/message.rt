@@ -4,10 +4,10 @@ ghost use Rattle.std.specs.Prelude.{◌≡◌, Some, IsSome};
 ghost use Rattle.std.specs.Option.{option_map};
 ghost use Rattle.ipc_terms.specs.History.{message_of};
 
-use ipc_terms::{Call, Event};
+use ipc_terms::{Bytes, Call, Event};
 
 /// The bytes of the message that the event sends.
-pub(crate) fn bytes_of(event: &Event) -> &[u8]
+pub(crate) fn bytes_of(event: &Event) -> &Bytes
     requires { IsSome (message_of event.now) }
     ensures { option_map (λ m. m.bytes) (message_of event.now) ≡ Some result.now }
 {
@@ -15,7 +15,7 @@ pub(crate) fn bytes_of(event: &Event) -> &[u8]
         Event::Do {
             call: Call::MqSend { bytes, .. },
             ..
-        } => bytes.as_slice(),
+        } => bytes,
         _ => unreachable!(),
     }
 }

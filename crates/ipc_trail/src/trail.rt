@@ -9,7 +9,7 @@ ghost use Rattle.ipc_trail.specs.Receipts.{receipt_of};
 
 use crate::audit::{Receipt, lines_from, receipt_of};
 use crate::message::{bytes_of, priority_of};
-use ipc_terms::{Event, Lines, NoMemory, Record, page_of, push_within};
+use ipc_terms::{Bytes, Event, Lines, NoMemory, Record, page_of};
 use std::alloc::Global;
 use std::marker::Model;
 
@@ -74,8 +74,8 @@ impl Trail {
     }
 
     /// The bytes of the message whose send stands at the place, whether it was accepted or refused.
-    /// They stand in its record alone, and what is handed out is a reference to them.
-    pub fn bytes_at(&self, ticket: u64) -> &[u8]
+    /// They stand in its record alone, and copies share them.
+    pub fn bytes_at(&self, ticket: u64) -> &Bytes
         requires { IsSome (message_at ticket self.now.history) }
         ensures { option_map (λ m. m.bytes) (message_at ticket self.now.history) ≡ Some result.now }
     {
@@ -106,7 +106,7 @@ impl Trail {
         requires { 0 < self.old.room }
         ensures { self.new.history ≡ added ∷ self.old.history }
     {
-        push_within(&mut self.records, added);
+        self.records.push_reserved(added);
     }
 
     /// The event of the send that stands at the place.

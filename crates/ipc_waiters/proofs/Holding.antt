@@ -1,30 +1,34 @@
 -- What buckets say of the numbers that they hold, and what a call leaves of them.
-use Rattle.std.proofs.Common.{rules, ◌≡◌, ℕ, ◌<◌, ◌==◌, Bool, false, true, cond, List, [], ◌∷◌, ◌++◌, length, drop, Option, Some, None, refl, sym, ap, ◌∙◌, arith}
+use Rattle.std.proofs.Common.{rules, ◌≡◌, ◌≢◌, ℕ, ◌+◌, ◌<◌, ◌≤◌, ◌==◌, Bool, false, true, cond, List, [], ◌∷◌, ◌++◌, length, deque_len, drop, Option, Some, None, is_some, refl, sym, ap, ◌∙◌, arith}
 use Rattle.std.proofs.lemmas.Bool.{both_ways}
 use Rattle.std.proofs.lemmas.Bool.Decides.{nat_tests}
-use Rattle.std.specs.Option.{option_map, unwrap_or, IsSome}
+use Rattle.std.specs.Option.{option_and_then, unwrap_or, IsSome}
 use Rattle.std.specs.Ordering.{nat_cmp, is_lt}
-use Rattle.std.specs.BTreeMap.{get, is_at, IsUpperBound}
+use Rattle.std.specs.BTreeMap.{get, is_at, btree_map_len, IsUpperBound}
 use Rattle.std.specs.Map.{lookup}
 use Rattle.std.specs.declared.alloc.Global.{Global}
 use Rattle.std.specs.declared.collections.VecDeque.{VecDeque}
 use Rattle.ipc_terms.specs.Lists.{first}
 use Rattle.ipc_waiters.specs.declared.buckets.Buckets.{Buckets}
-use Rattle.ipc_waiters.specs.Buckets.{bucket_at, bucket_of, with_last, without_front, Holds}
+use Rattle.ipc_waiters.specs.Buckets.{bucket_at, bucket_of, with_last, without_front, AreFilled, EmptyStandsAlone, Holds}
 
 filled : (xs ys : List ℕ) → bucket_of xs ≡ Some ys → (x : ℕ) × (rest : List ℕ) × (xs ≡ x ∷ rest) × (ys ≡ x ∷ rest)
 filled [] ys e = absurd cc
 filled (x ∷ xs) ys e = (x, xs, cc, cc)
 
-no_bucket : {A : Type 0} (show : A → List ℕ) (found : Option A) (xs : List ℕ) → option_map show found ≡ bucket_of xs → (IsSome found → false ≡ true) → xs ≡ []
-no_bucket show found [] e none = cc
-no_bucket show None (x ∷ xs) e none = absurd cc
-no_bucket show (Some bucket) (x ∷ xs) e none = absurd (both_ways false refl (none (search rules)))
+no_bucket : (found : Option (VecDeque ℕ Global)) (xs : List ℕ) → option_and_then (λ bucket. bucket_of bucket.items) found ≡ bucket_of xs → (IsSome found → false ≡ true) → xs ≡ []
+no_bucket found [] e none = cc
+no_bucket None (x ∷ xs) e none = absurd cc
+no_bucket (Some bucket) (x ∷ xs) e none = absurd (both_ways false refl (none (search rules)))
 
--- a bucket has the numbers of its key, and at least one
-pub has_first : (b : Buckets) (numbers : ℕ → List ℕ) (key : ℕ) (bucket : VecDeque ℕ Global) → Holds b numbers → get nat_cmp b.buckets key ≡ Some bucket → (x : ℕ) × (rest : List ℕ) × (numbers key ≡ x ∷ rest) × (bucket.items ≡ x ∷ rest)
+-- a bucket that is not empty has the numbers of its key
+pub has_first : (b : Buckets) (numbers : ℕ → List ℕ) (key : ℕ) (bucket : VecDeque ℕ Global) → Holds b numbers → get nat_cmp b.buckets key ≡ Some bucket → 0 < length bucket.items → (x : ℕ) × (rest : List ℕ) × (numbers key ≡ x ∷ rest) × (bucket.items ≡ x ∷ rest)
 unfolding Holds
-has_first b numbers key bucket holds at = filled (numbers key) bucket.items (sym (holds key) ∙ ap (λ o. option_map (λ d. d.items) o) at)
+has_first b numbers key bucket holds at more = same bucket.items (numbers key) more (sym (holds.1 key) ∙ ap (λ o. option_and_then (λ d. bucket_of d.items) o) at) where
+  same : (items xs : List ℕ) → 0 < length items → bucket_of xs ≡ bucket_of items → (x : ℕ) × (rest : List ℕ) × (xs ≡ x ∷ rest) × (items ≡ x ∷ rest)
+  same [] xs more e = absurd (search rules)
+  same (x ∷ rest) [] more e = absurd cc
+  same (x ∷ rest) (y ∷ ys) more e = (x, rest, cc, refl)
 
 above : (key other : ℕ) → key < other → is_lt (nat_cmp key other) ≡ true
 above key other less = grind (arith, nat_tests)
@@ -33,12 +37,12 @@ above key other less = grind (arith, nat_tests)
 pub none_above : (b : Buckets) (numbers : ℕ → List ℕ) (key other : ℕ) → Holds b numbers → IsUpperBound nat_cmp b.buckets key → key < other → numbers other ≡ []
 unfolding Holds
 none_above b numbers key other holds upper less =
-    no_bucket (λ d. d.items) (get nat_cmp b.buckets other) (numbers other) (holds other) (λ some. sym (upper other some) ∙ above key other less)
+    no_bucket (get nat_cmp b.buckets other) (numbers other) (holds.1 other) (λ some. sym (upper other some) ∙ above key other less)
 
 -- where there is no bucket no key has numbers
 pub none_at_all : (b : Buckets) (numbers : ℕ → List ℕ) → Holds b numbers → (0 < length b.buckets.entries → false ≡ true) → (key : ℕ) → numbers key ≡ []
 unfolding Holds
-none_at_all b numbers holds none key = no_bucket (λ d. d.items) (get nat_cmp b.buckets key) (numbers key) (holds key) (λ some. none (of_entries b.buckets.entries some)) where
+none_at_all b numbers holds none key = no_bucket (get nat_cmp b.buckets key) (numbers key) (holds.1 key) (λ some. none (of_entries b.buckets.entries some)) where
   of_entries : (es : List (ℕ × VecDeque ℕ Global)) → IsSome (lookup (is_at (nat_cmp key)) es) → 0 < length es
   of_entries [] some = absurd (search rules)
   of_entries (e ∷ es) some = omega arith
@@ -46,43 +50,166 @@ none_at_all b numbers holds none key = no_bucket (λ d. d.items) (get nat_cmp b.
 -- the first number of a key is the first in its bucket
 pub first_held : (b : Buckets) (numbers : ℕ → List ℕ) (key : ℕ) → Holds b numbers → first (unwrap_or (bucket_at b key) []) ≡ first (numbers key)
 unfolding Holds
-first_held b numbers key holds = ap (λ o. first (unwrap_or o [])) (holds key) ∙ by (numbers key) where
+first_held b numbers key holds = ap (λ o. first (unwrap_or o [])) (holds.1 key) ∙ by (numbers key) where
   by : (ns : List ℕ) → first (unwrap_or (bucket_of ns) []) ≡ first ns
   by [] = refl
   by (n ∷ ns) = refl
 
+-- of a map with one entry at most there is one value at most
+only_one : (key other : ℕ) (es : List (ℕ × VecDeque ℕ Global)) (x y : VecDeque ℕ Global) → length es ≤ 1 → lookup (is_at (nat_cmp key)) es ≡ Some x → lookup (is_at (nat_cmp other)) es ≡ Some y → y ≡ x
+only_one key other [] x y few at there = absurd cc
+only_one key other (e ∷ []) x y few at there = by (is_at (nat_cmp key) e.0) (is_at (nat_cmp other) e.0) at there where
+  by : (s t : Bool) → cond s (Some e.1) None ≡ Some x → cond t (Some e.1) None ≡ Some y → y ≡ x
+  by true true at there = cc
+  by true false at there = absurd cc
+  by false t at there = absurd cc
+only_one key other (e ∷ f ∷ es) x y few at there = absurd (omega arith)
+
+-- where a bucket is empty no key has numbers
+pub none_beside : (b : Buckets) (numbers : ℕ → List ℕ) (key other : ℕ) (bucket : VecDeque ℕ Global) → Holds b numbers → get nat_cmp b.buckets key ≡ Some bucket → bucket.items ≡ [] → numbers other ≡ []
+unfolding Holds EmptyStandsAlone
+none_beside b numbers key other bucket holds at empty = by (get nat_cmp b.buckets other) (numbers other) refl (holds.1 other) where
+  by : (found : Option (VecDeque ℕ Global)) (xs : List ℕ) → get nat_cmp b.buckets other ≡ found → option_and_then (λ d. bucket_of d.items) (get nat_cmp b.buckets other) ≡ bucket_of xs → xs ≡ []
+  by found [] is e = refl
+  by None (x ∷ xs) is e = let none = sym (ap (λ o. option_and_then (λ d. bucket_of d.items) o) is) ∙ e in absurd cc
+  by (Some y) (x ∷ xs) is e =
+      let same : y ≡ bucket = only_one key other b.buckets.entries bucket y (holds.0 key bucket at empty) at is in
+      let no_items : y.items ≡ [] = ap (λ (d : VecDeque ℕ Global). d.items) same ∙ empty in
+      let none = sym (ap (λ o. option_and_then (λ d. bucket_of d.items) o) is ∙ ap (λ l. bucket_of l) no_items) ∙ e in
+      absurd cc
+
+-- a list whose length is not above 0 is empty
+pub no_items : (xs : List ℕ) → (0 < length xs → false ≡ true) → xs ≡ []
+no_items [] none = refl
+no_items (x ∷ xs) none = absurd (both_ways false refl (none (omega arith)))
+
+-- a deque is empty exactly where its length is 0
+pub empty_items : (d : VecDeque ℕ Global) → (deque_len d == 0) ≡ true → d.items ≡ []
+empty_items d is = let fits = d.ok.0 in by d.items (grind (arith, nat_tests)) where
+  by : (xs : List ℕ) → length xs ≤ 0 → xs ≡ []
+  by [] few = refl
+  by (x ∷ xs) few = absurd (omega arith)
+
+pub filled_items : (d : VecDeque ℕ Global) → (deque_len d == 0) ≡ false → d.items ≢ []
+filled_items d not empty = let fits = d.ok.0 in let none : length d.items ≡ 0 = ap (λ l. length l) empty in absurd (grind (arith, nat_tests))
+
+pub none_left : {A : Type 0} (es : List A) → (0 < length es → false ≡ true) → length es ≤ 0
+none_left [] none = omega arith
+none_left (e ∷ es) none = absurd (both_ways false refl (none (omega arith)))
+
+-- the only one was taken out
+pub popped : {A : Type 0} (taken : Option A) (n m : ℕ) → n + cond (is_some taken) 1 0 ≡ m → IsSome taken → m ≤ 1 → n ≤ 0
+popped None n m e some few = absurd (search rules)
+popped (Some x) n m e some few = omega arith
+
+-- where something is found, there is something
+pub some_found : {A : Type 0} (found : Option A) (x : A) → found ≡ Some x → IsSome found
+some_found found x is = rw is (search rules)
+
+-- where there are no entries all buckets are filled
+pub filled_of_none : (b : Buckets) → btree_map_len b.buckets ≤ 0 → AreFilled b
+unfolding AreFilled
+filled_of_none b none key bucket at = by b.buckets.entries none at where
+  by : (es : List (ℕ × VecDeque ℕ Global)) → length es ≤ 0 → lookup (is_at (nat_cmp key)) es ≡ Some bucket → bucket.items ≢ []
+  by [] few found = absurd cc
+  by (e ∷ es) few found = absurd (omega arith)
+
+-- where one bucket is filled all are
+pub filled_of_one : (b : Buckets) (key : ℕ) (bucket : VecDeque ℕ Global) → EmptyStandsAlone b → get nat_cmp b.buckets key ≡ Some bucket → bucket.items ≢ [] → AreFilled b
+unfolding AreFilled EmptyStandsAlone
+filled_of_one b key bucket alone at filled other found there empty =
+    let same : bucket ≡ found = only_one other key b.buckets.entries found bucket (alone other found there empty) there at in
+    filled (ap (λ (d : VecDeque ℕ Global). d.items) same ∙ empty)
+
+pub alone_of_filled : (b : Buckets) → AreFilled b → EmptyStandsAlone b
+unfolding AreFilled EmptyStandsAlone
+alone_of_filled b filled key bucket at empty = absurd (filled key bucket at empty)
+
+-- the entries are the same
+pub alone_as_before : (b c : Buckets) → c.buckets.entries ≡ b.buckets.entries → EmptyStandsAlone b → EmptyStandsAlone c
+unfolding EmptyStandsAlone
+alone_as_before b c same alone key bucket at empty = rw same (alone key bucket (ap (λ es. lookup (is_at (nat_cmp key)) es) (sym same) ∙ at) empty)
+
+pub few_where_empty : (b : Buckets) (key : ℕ) (bucket : VecDeque ℕ Global) → EmptyStandsAlone b → get nat_cmp b.buckets key ≡ Some bucket → bucket.items ≡ [] → btree_map_len b.buckets ≤ 1
+unfolding EmptyStandsAlone
+few_where_empty b key bucket alone at empty = alone key bucket at empty
+
+-- a list with one more is not empty
+pub pushed_is_filled : (xs ys : List ℕ) (x : ℕ) → ys ≡ xs ++ x ∷ [] → ys ≢ []
+pushed_is_filled [] ys x is empty = let no : x ∷ [] ≡ [] = sym is ∙ empty in absurd cc
+pushed_is_filled (z ∷ xs) ys x is empty = let no : z ∷ (xs ++ x ∷ []) ≡ [] = sym is ∙ empty in absurd cc
+
+-- one bucket is written
+pub alone_written : (b c : Buckets) (key : ℕ) (bucket : VecDeque ℕ Global) → btree_map_len c.buckets ≡ btree_map_len b.buckets
+    → ((q : ℕ) → get nat_cmp c.buckets q ≡ cond (is_at (nat_cmp key) q) (Some bucket) (get nat_cmp b.buckets q))
+    → EmptyStandsAlone b → (bucket.items ≡ [] → btree_map_len b.buckets ≤ 1) → EmptyStandsAlone c
+unfolding EmptyStandsAlone
+alone_written b c key bucket len writes alone own q found at empty = by (is_at (nat_cmp key) q) (sym (writes q) ∙ at) where
+  by : (t : Bool) → cond t (Some bucket) (get nat_cmp b.buckets q) ≡ Some found → btree_map_len c.buckets ≤ 1
+  by true e = let same : bucket ≡ found = cc in rw len (own (ap (λ (d : VecDeque ℕ Global). d.items) same ∙ empty))
+  by false e = rw len (alone q found e empty)
+
+-- and all are filled where it is, and the others are
+pub filled_written : (b c : Buckets) (key : ℕ) (bucket : VecDeque ℕ Global)
+    → ((q : ℕ) → get nat_cmp c.buckets q ≡ cond (is_at (nat_cmp key) q) (Some bucket) (get nat_cmp b.buckets q))
+    → AreFilled b → bucket.items ≢ [] → AreFilled c
+unfolding AreFilled
+filled_written b c key bucket writes filled own q found at empty = by (is_at (nat_cmp key) q) (sym (writes q) ∙ at) where
+  by : (t : Bool) → cond t (Some bucket) (get nat_cmp b.buckets q) ≡ Some found → ⊥
+  by true e = let same : bucket ≡ found = cc in own (ap (λ (d : VecDeque ℕ Global). d.items) same ∙ empty)
+  by false e = filled q found e empty
+
+-- one of several buckets is taken out after it was written
+pub filled_without : (b c d : Buckets) (key : ℕ) (bucket : VecDeque ℕ Global) → btree_map_len c.buckets ≡ btree_map_len b.buckets → 1 < btree_map_len c.buckets
+    → ((q : ℕ) → get nat_cmp c.buckets q ≡ cond (is_at (nat_cmp key) q) (Some bucket) (get nat_cmp b.buckets q))
+    → ((q : ℕ) → get nat_cmp d.buckets q ≡ cond (is_at (nat_cmp key) q) None (get nat_cmp c.buckets q))
+    → EmptyStandsAlone b → AreFilled d
+unfolding AreFilled EmptyStandsAlone
+filled_without b c d key bucket len more writes removes alone q found at empty = by (is_at (nat_cmp key) q) (sym (removes q) ∙ at) (sym (writes q)) where
+  by : (t : Bool) → cond t None (get nat_cmp c.buckets q) ≡ Some found → cond t (Some bucket) (get nat_cmp b.buckets q) ≡ get nat_cmp c.buckets q → ⊥
+  by true e w = absurd cc
+  by false e w = let few = alone q found (w ∙ e) empty in absurd (omega arith)
+
 -- no buckets hold no numbers
-pub none_held : (b : Buckets) (numbers : ℕ → List ℕ) → ((key : ℕ) → bucket_at b key ≡ None) → ((key : ℕ) → numbers key ≡ []) → Holds b numbers
+pub none_held : (b : Buckets) (numbers : ℕ → List ℕ) → ((key : ℕ) → bucket_at b key ≡ None) → EmptyStandsAlone b → ((key : ℕ) → numbers key ≡ []) → Holds b numbers
 unfolding Holds
-none_held b numbers none empty key = none key ∙ ap (λ ns. bucket_of ns) (sym (empty key))
+none_held b numbers none alone empty = (alone, λ key. none key ∙ ap (λ ns. bucket_of ns) (sym (empty key)))
 
 -- no bucket is touched
-pub still_held : (b c : Buckets) (numbers : ℕ → List ℕ) → Holds b numbers → ((key : ℕ) → bucket_at c key ≡ bucket_at b key) → Holds c numbers
+pub still_held : (b c : Buckets) (numbers : ℕ → List ℕ) → Holds b numbers → ((key : ℕ) → bucket_at c key ≡ bucket_at b key) → (EmptyStandsAlone b → EmptyStandsAlone c) → Holds c numbers
 unfolding Holds
-still_held b c numbers holds same key = same key ∙ holds key
+still_held b c numbers holds same alone = (alone holds.0, λ key. same key ∙ holds.1 key)
 
 -- a number enters
 pub entered : (b c : Buckets) (before after : ℕ → List ℕ) (key number : ℕ) → Holds b before
     → ((q : ℕ) → bucket_at c q ≡ cond (q == key) (with_last number (bucket_at b q)) (bucket_at b q))
+    → (EmptyStandsAlone b → EmptyStandsAlone c)
     → ((q : ℕ) → after q ≡ cond (q == key) (before q ++ number ∷ []) (before q))
     → Holds c after
 unfolding Holds
-entered b c before after key number holds enters is q =
-    enters q ∙ ap (λ o. cond (q == key) (with_last number o) o) (holds q) ∙ by (q == key) (before q) ∙ ap (λ ns. bucket_of ns) (sym (is q)) where
-      by : (t : Bool) (ns : List ℕ) → cond t (with_last number (bucket_of ns)) (bucket_of ns) ≡ bucket_of (cond t (ns ++ number ∷ []) ns)
-      by true [] = refl
-      by true (n ∷ ns) = refl
-      by false ns = refl
+entered b c before after key number holds enters alone is = (
+  alone holds.0,
+  λ q.
+      enters q ∙ ap (λ o. cond (q == key) (with_last number o) o) (holds.1 q) ∙ by (q == key) (before q) ∙ ap (λ ns. bucket_of ns) (sym (is q)),
+) where
+  by : (t : Bool) (ns : List ℕ) → cond t (with_last number (bucket_of ns)) (bucket_of ns) ≡ bucket_of (cond t (ns ++ number ∷ []) ns)
+  by true [] = refl
+  by true (n ∷ ns) = refl
+  by false ns = refl
 
 -- the first number of a key leaves
 pub left : (b c : Buckets) (before after : ℕ → List ℕ) (key : ℕ) → Holds b before
     → ((q : ℕ) → bucket_at c q ≡ cond (q == key) (without_front (bucket_at b q)) (bucket_at b q))
+    → (EmptyStandsAlone b → EmptyStandsAlone c)
     → ((q : ℕ) → after q ≡ cond (q == key) (drop 1 (before q)) (before q))
     → Holds c after
 unfolding Holds
-left b c before after key holds leaves is q =
-    leaves q ∙ ap (λ o. cond (q == key) (without_front o) o) (holds q) ∙ by (q == key) (before q) ∙ ap (λ ns. bucket_of ns) (sym (is q)) where
-      by : (t : Bool) (ns : List ℕ) → cond t (without_front (bucket_of ns)) (bucket_of ns) ≡ bucket_of (cond t (drop 1 ns) ns)
-      by true [] = refl
-      by true (n ∷ ns) = refl
-      by false ns = refl
+left b c before after key holds leaves alone is = (
+  alone holds.0,
+  λ q.
+      leaves q ∙ ap (λ o. cond (q == key) (without_front o) o) (holds.1 q) ∙ by (q == key) (before q) ∙ ap (λ ns. bucket_of ns) (sym (is q)),
+) where
+  by : (t : Bool) (ns : List ℕ) → cond t (without_front (bucket_of ns)) (bucket_of ns) ≡ bucket_of (cond t (drop 1 ns) ns)
+  by true [] = refl
+  by true (n ∷ ns) = refl
+  by false ns = refl

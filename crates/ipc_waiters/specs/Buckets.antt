@@ -1,31 +1,41 @@
 -- Numbers in buckets by key.
-use Rattle.std.specs.Prelude.{◌≡◌, ℕ, ◌<◌, List, [], ◌∷◌, ◌++◌, drop, Option, Some, None}
-use Rattle.std.specs.Option.{option_map, unwrap_or}
+use Rattle.std.specs.Prelude.{◌≡◌, ◌≢◌, ℕ, ◌<◌, ◌≤◌, List, [], ◌∷◌, ◌++◌, drop, Option, Some, None, option_and_then}
+use Rattle.std.specs.Option.{unwrap_or}
 use Rattle.std.specs.Ordering.{nat_cmp}
-use Rattle.std.specs.BTreeMap.{get}
+use Rattle.std.specs.BTreeMap.{get, btree_map_len}
+use Rattle.std.specs.declared.alloc.Global.{Global}
+use Rattle.std.specs.declared.collections.VecDeque.{VecDeque}
 use Rattle.ipc_waiters.specs.declared.buckets.Buckets.{Buckets}
-
--- what stands in the bucket of this key
-abbrev pub bucket_at : Buckets → ℕ → Option (List ℕ)
-bucket_at buckets key = option_map (λ bucket. bucket.items) (get nat_cmp buckets.buckets key)
-
--- the bucket with one more number at its end
-abbrev pub with_last : ℕ → Option (List ℕ) → Option (List ℕ)
-with_last number bucket = Some (unwrap_or bucket [] ++ number ∷ [])
 
 -- the bucket of these numbers: none where there is no number
 abbrev pub bucket_of : List ℕ → Option (List ℕ)
 bucket_of [] = None
 bucket_of (number ∷ numbers) = Some (number ∷ numbers)
 
+-- what stands in the bucket of this key: nothing where it is empty
+abbrev pub bucket_at : Buckets → ℕ → Option (List ℕ)
+bucket_at buckets key = option_and_then (λ bucket. bucket_of bucket.items) (get nat_cmp buckets.buckets key)
+
+-- the bucket with one more number at its end
+abbrev pub with_last : ℕ → Option (List ℕ) → Option (List ℕ)
+with_last number bucket = Some (unwrap_or bucket [] ++ number ∷ [])
+
 -- the bucket without its first number
 abbrev pub without_front : Option (List ℕ) → Option (List ℕ)
 without_front None = None
 without_front (Some numbers) = bucket_of (drop 1 numbers)
 
--- each key has a bucket exactly where it has numbers, with these in their order
+-- no bucket is empty
+unfoldable pub AreFilled : Buckets → Type 0
+AreFilled buckets = (key : ℕ) (bucket : VecDeque ℕ Global) → get nat_cmp buckets.buckets key ≡ Some bucket → bucket.items ≢ []
+
+-- a bucket that is empty is the only one
+unfoldable pub EmptyStandsAlone : Buckets → Type 0
+EmptyStandsAlone buckets = (key : ℕ) (bucket : VecDeque ℕ Global) → get nat_cmp buckets.buckets key ≡ Some bucket → bucket.items ≡ [] → btree_map_len buckets.buckets ≤ 1
+
+-- each key's bucket has its numbers in their order, and an empty one is the only one
 unfoldable pub Holds : Buckets → (ℕ → List ℕ) → Type 0
-Holds buckets numbers = (key : ℕ) → bucket_at buckets key ≡ bucket_of (numbers key)
+Holds buckets numbers = EmptyStandsAlone buckets × ((key : ℕ) → bucket_at buckets key ≡ bucket_of (numbers key))
 
 -- the greatest key that has numbers, with the first of them; none where no key has any
 abbrev pub IsFirstOfGreatest : (ℕ → List ℕ) → Option (ℕ × ℕ) → Type 0

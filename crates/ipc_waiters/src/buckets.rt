@@ -3,14 +3,15 @@
 ghost use Rattle.std.specs.Prelude.{◌≡◌, ◌==◌, ℕ, List, [], None, if◌then◌else◌, OnOk, OnErr};
 ghost use Rattle.std.specs.Option.{unwrap_or};
 ghost use Rattle.ipc_terms.specs.Lists.{first};
-ghost use Rattle.ipc_waiters.specs.Buckets.{bucket_at, with_last, without_front, Holds, IsFirstOfGreatest};
+ghost use Rattle.ipc_waiters.specs.Buckets.{bucket_at, with_last, without_front, AreFilled, EmptyStandsAlone, Holds, IsFirstOfGreatest};
 
 use ipc_terms::NoMemory;
 use std::alloc::Global;
 use std::collections::{BTreeMap, VecDeque};
 
-/// Numbers under keys: each key that has numbers has a bucket, in which they stand in order of entry.
-/// Each call takes as long as to find a bucket.
+/// Numbers under keys: each key that has numbers has a bucket, in which they stand in order of entry. The only bucket stays
+/// when it empties, so that numbers which come and go one at a time take no memory. Each call takes as long as to find a
+/// bucket.
 #[derive(Drop)]
 pub struct Buckets {
     alloc: Global,
@@ -20,7 +21,8 @@ pub struct Buckets {
 impl Buckets {
     /// No numbers. Takes no memory.
     pub fn new(alloc: Global) -> Self
-        ensures { (key : ℕ) → bucket_at result key ≡ None }
+        ensures none { (key : ℕ) → bucket_at result key ≡ None }
+        ensures alone { EmptyStandsAlone result }
     {
         Buckets {
             alloc,
@@ -33,10 +35,12 @@ impl Buckets {
     pub fn enter(&mut self, key: u64, number: u64) -> Result<(), NoMemory>
         ensures ok { OnOk result ((q : ℕ) → bucket_at self.new q ≡ (if q == key then with_last number (bucket_at self.old q) else bucket_at self.old q)) }
         ensures err { OnErr result ((q : ℕ) → bucket_at self.new q ≡ bucket_at self.old q) }
+        ensures alone { EmptyStandsAlone self.old → EmptyStandsAlone self.new }
     {
         match self.buckets.get_mut(&key) {
             Some(bucket) => bucket.push_back(number)?,
             None => {
+                self.drop_empty();
                 let mut bucket = VecDeque::new(self.alloc);
                 bucket.push_back(number)?;
                 self.buckets.insert(key, bucket)?;
@@ -45,15 +49,30 @@ impl Buckets {
         Ok(())
     }
 
-    /// The first number leaves the key's bucket, and an empty bucket goes. Takes no memory.
+    /// Drops the bucket that is empty, if there is one. Takes no memory.
+    fn drop_empty(&mut self)
+        ensures kept { (q : ℕ) → bucket_at self.new q ≡ bucket_at self.old q }
+        ensures filled { EmptyStandsAlone self.old → AreFilled self.new }
+    {
+        let is_empty = match self.buckets.first_key_value() {
+            Some((_, bucket)) => bucket.is_empty(),
+            None => false,
+        };
+        if is_empty {
+            self.buckets.pop_first();
+        }
+    }
+
+    /// The first number leaves the key's bucket. An empty bucket goes, unless it is the only one. Takes no memory.
     pub fn leave(&mut self, key: u64)
-        ensures { (q : ℕ) → bucket_at self.new q ≡ (if q == key then without_front (bucket_at self.old q) else bucket_at self.old q) }
+        ensures rest { (q : ℕ) → bucket_at self.new q ≡ (if q == key then without_front (bucket_at self.old q) else bucket_at self.old q) }
+        ensures alone { EmptyStandsAlone self.old → EmptyStandsAlone self.new }
     {
         let Some(bucket) = self.buckets.get_mut(&key) else {
             return;
         };
         bucket.pop_front();
-        if bucket.is_empty() {
+        if bucket.is_empty() && self.buckets.len() > 1 {
             self.buckets.remove(&key);
         }
     }

@@ -43,6 +43,8 @@ enum Step {
     Waiting(u64, usize),
     /// How many it takes.
     Take(u64, usize),
+    /// Its untaken answers are cleared.
+    Clear(u64),
     /// How many records the trail has.
     Records(usize),
     /// The limits are the standard ones.
@@ -54,7 +56,7 @@ enum Step {
 }
 
 use Asked::{Create, Hangup, Hello, Interrupt, Receive, Send, Umask};
-use Step::{Decide, New, Post, Records, Run, Standard, Take, Waiting};
+use Step::{Clear, Decide, New, Post, Records, Run, Standard, Take, Waiting};
 
 const ANN: Option<Sid> = Some(Sid(0));
 
@@ -133,6 +135,10 @@ fn gives(alloc: Global, core: &mut Core, step: &Step) -> Result<bool, Fail> {
             core.waiting(Sid(*sid)) == *count && core.answers(Sid(*sid)).len() == *count
         }
         Take(sid, count) => core.take(Sid(*sid)).len() == *count,
+        Clear(sid) => {
+            core.clear(Sid(*sid));
+            core.waiting(Sid(*sid)) == 0
+        }
         Records(count) => core.trail().len() == *count,
         Standard => core.config().limits == Limits::STANDARD,
         New => starts(alloc, core)?,
@@ -142,7 +148,7 @@ fn gives(alloc: Global, core: &mut Core, step: &Step) -> Result<bool, Fail> {
 
 /// Answers wait in outboxes until they are taken, once; a call that parks is answered later; what is
 /// answered to nobody, or to a session that is not live, stands nowhere.
-static STEPS: [Step; 37] = [
+static STEPS: [Step; 43] = [
     Records(0),
     Post(Hello(Some(Uid(1000))), None, ANN, None),
     Post(Hello(None), Some(Rule::BadKey), Some(Sid::NOBODY), None),
@@ -177,6 +183,12 @@ static STEPS: [Step; 37] = [
     Waiting(1, 0),
     Take(0, 1),
     Records(15),
+    Post(Umask(0, 0), None, ANN, None),
+    Clear(1),
+    Waiting(0, 1),
+    Clear(0),
+    Post(Umask(0, 0), None, ANN, None),
+    Waiting(0, 1),
     Standard,
     // A run answers each event, and what was answered waits.
     New,

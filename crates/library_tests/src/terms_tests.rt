@@ -2,17 +2,15 @@
 
 use crate::made::{joined, name, names};
 use bitflags::Flags;
-use ipc_terms::{
-    Answer, AnswerOp, Bytes, Call, CallOp, Desc, Names, NoMemory, OpenFlags, Rule, push_within,
-};
+use ipc_terms::{Answer, AnswerOp, Bytes, Call, CallOp, Desc, Names, NoMemory, OpenFlags, Rule};
 use std::alloc::Global;
 use std::test::Fail;
 
 /// Whether a copy of the bytes is equal to them, and they come back as they went in.
 fn keeps_bytes(alloc: Global, text: &str) -> Result<bool, NoMemory> {
-    let bytes = Bytes::new(Vec::from_slice(alloc, text.as_bytes())?);
+    let bytes = Bytes::from_vec(Vec::from_slice(alloc, text.as_bytes())?)?;
     let copy = bytes.clone()?;
-    Ok(bytes == copy && bytes.as_slice() == copy.into_vec().as_slice())
+    Ok(bytes == copy && bytes.as_slice() == copy.as_slice())
 }
 
 /// Whether a copy of the name is equal to it, and its bytes come back as they went in.
@@ -149,14 +147,5 @@ fn flags_are_bits(rt: HostRuntime) -> Result<(), Fail> {
             return Err(Fail::new(format_args!("at {bits}")));
         }
     }
-    Ok(())
-}
-
-#[test]
-fn a_push_within_reserved_room_is_at_the_end(rt: HostRuntime) -> Result<(), Fail> {
-    let mut numbers = Vec::from_slice(rt.alloc(), [5, 6].as_slice())?;
-    numbers.reserve(1)?;
-    push_within(&mut numbers, 7);
-    assert!(rt; numbers.as_slice() == [5, 6, 7].as_slice());
     Ok(())
 }

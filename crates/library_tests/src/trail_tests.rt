@@ -64,7 +64,7 @@ fn stands(trail: &Trail, place: usize, pushed: &Pushed) -> bool {
             let place = place as u64;
             record.rule == *rule
                 && trail.prio_at(place) == *priority
-                && trail.bytes_at(place) == *bytes
+                && trail.bytes_at(place).as_slice() == *bytes
         }
         _ => false,
     }

@@ -259,7 +259,7 @@ fn a_start_is_read_with_its_length(rt: HostRuntime) -> Result<(), Fail> {
 /// A hello by a key of so many bytes.
 fn hello_of(alloc: Global, length: usize) -> Result<Request, WriteFault> {
     let key = Vec::from_elem(alloc, b'a', length)?;
-    Ok(Request::Hello(Bytes::new(key)))
+    Ok(Request::Hello(Bytes::from_vec(key)?))
 }
 
 /// How many bytes the request's frame has.
@@ -282,7 +282,7 @@ fn a_text_of_65536_bytes_has_no_spelling(rt: HostRuntime) {
 /// A request on a name of so many bytes.
 fn unlink_of(alloc: Global, length: usize) -> Result<Request, WriteFault> {
     let name = Vec::from_elem(alloc, b'a', length)?;
-    Ok(Request::Do(Call::SemUnlink(Name::new(Bytes::new(name)))))
+    Ok(Request::Do(Call::SemUnlink(Name::new(Bytes::from_vec(name)?))))
 }
 
 /// Whether a request on a name of so many bytes is read as it was written, and nothing is left.

@@ -8,7 +8,7 @@ pub invariant_of-receipts-2 : goal.invariant_of-receipts-2
 invariant_of-receipts-2 g c =
     let h = c.args.core.now.history in
     let old = c.receipts.inside.entries.items in
-    let new = c.push_within.new.items.items in
+    let new = c.push_reserved.new.self.items in
     let x : Entry = record { receipt = c.in-Some-receipt.receipt; event = c.in-Ok.copy } in
     let is : new ≡ old ++ x ∷ [] = search rules in
     let current : IsCurrent h old = search rules in

@@ -1,7 +1,7 @@
 use Rattle.std.proofs.Common.{refl}
 use Rattle.ipc_terms.specs.declared.ids.Family.TheVariants.{Mq, Sem}
 use Rattle.ipc_terms.specs.declared.call.Call.TheVariants.{Umask, MqSend, MqReceive, SemPost, SemWait, SemGetvalue}
-use Rattle.ipc_policy.proofs.Unforbidden.{caller_live, call_free}
+use Rattle.ipc_policy.proofs.Histories.Unforbidden.{caller_live, call_free}
 use Rattle.ipc_core.proofs.Answering.{free_queue, free_semaphore, free_held}
 use Rattle.ipc_core.proofs.answer.call_answers.Goals as goal
 

@@ -16,4 +16,4 @@ returns c =
     let met = c.args.lookup.now in
     let told = noticed_by _ _ met.event c.args.priority c.args.bytes.now _ c.requires.queue (sym c.is_full.ensures ∙ c.if-is_full.false) (sym c.receiver_held.ensures ∙ c.in_default.is) c.notice.ensures in
     let for_caller = subst (λ (s : Sid). (s, Sent) ∷ listed c.notice.result ≡ answers_of (by_description (holds met.history) met.event) (send_answers met.config met.history s c.args.priority c.args.bytes.now)) c.requires.caller told in
-    c.one_or_two.ensures ∙ for_caller
+    c.of.ensures ∙ for_caller

@@ -3,7 +3,7 @@ use Rattle.std.specs.Prelude.{option_and_then}
 use Rattle.std.specs.Option.{option_copied}
 use Rattle.ipc_terms.specs.History.{message_at}
 use Rattle.ipc_queue.specs.Tickets.{Tickets, next_place}
-use Rattle.ipc_state.specs.Past.{queue_by}
+use Rattle.ipc_state.specs.StateView.{queue_by}
 use Rattle.ipc_state.specs.Meetings.{by_description}
 use Rattle.ipc_core.proofs.ByDescription.{place_by, message_by, message_some_by}
 use Rattle.ipc_state.proofs.HeldQueues.{message_none, message_whole}

@@ -1,4 +1,4 @@
-use Rattle.ipc_policy.proofs.Answering.{call_answered, parking_unanswered, hello_answered, hangup_unanswered, refusal_answered}
+use Rattle.ipc_policy.proofs.Outcomes.Answering.{call_answered, parking_unanswered, hello_answered, hangup_unanswered, refusal_answered}
 use Rattle.ipc_policy.proofs.laws.answered.Goals as goal
 
 pub returns-clause-calls : goal.returns-clause-calls

@@ -1,4 +1,4 @@
-use Rattle.ipc_policy.proofs.QueueBounds.{each_bounded}
+use Rattle.ipc_policy.proofs.Queues.QueueBounds.{each_bounded}
 use Rattle.ipc_policy.proofs.laws.bounded.Goals as goal
 
 pub returns : goal.returns

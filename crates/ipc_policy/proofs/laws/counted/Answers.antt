@@ -1,4 +1,4 @@
-use Rattle.ipc_policy.proofs.ValueCounts.{value_counted}
+use Rattle.ipc_policy.proofs.Semaphores.ValueCounts.{value_counted}
 use Rattle.ipc_policy.proofs.laws.counted.Goals as goal
 
 pub returns : goal.returns

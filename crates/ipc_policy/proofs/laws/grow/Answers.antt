@@ -1,4 +1,4 @@
-use Rattle.ipc_policy.proofs.Grown.{grows}
+use Rattle.ipc_policy.proofs.Histories.Grown.{grows}
 use Rattle.ipc_policy.proofs.laws.grow.Goals as goal
 
 pub returns : goal.returns

@@ -1,4 +1,4 @@
-use Rattle.ipc_policy.proofs.EntryOrder.{inside_in_order, next_is_greatest}
+use Rattle.ipc_policy.proofs.Lists.EntryOrder.{inside_in_order, next_is_greatest}
 use Rattle.ipc_policy.proofs.laws.in_order.Goals as goal
 
 pub returns-clause-order : goal.returns-clause-order

@@ -1,4 +1,4 @@
-use Rattle.ipc_policy.proofs.SemaphoreBounds.{each_in_range, waits_at_zero}
+use Rattle.ipc_policy.proofs.Semaphores.SemaphoreBounds.{each_in_range, waits_at_zero}
 use Rattle.ipc_policy.proofs.laws.in_range.Goals as goal
 
 pub returns-clause-range : goal.returns-clause-range

@@ -7,7 +7,7 @@ use Rattle.ipc_policy.specs.History.{History}
 use Rattle.ipc_policy.specs.Rules.{forbids}
 use Rattle.ipc_policy.specs.Verdict.{verdict}
 use Rattle.ipc_policy.specs.Laws.{IsLeastForbidding}
-use Rattle.ipc_policy.proofs.FirstPassing.{first_is_least, numbered, has_place, place_of, NonePass, IsLeastPassing}
+use Rattle.ipc_policy.proofs.Lists.FirstPassing.{first_is_least, numbered, has_place, place_of, NonePass, IsLeastPassing}
 use Rattle.ipc_policy.proofs.laws.least.Goals as goal
 
 spread : (c : Config) (h : History) (e : Event) (o : Option Rule) → MatchOption o (NonePass (λ rule. forbids rule c h e) every_rule) (IsLeastPassing (λ rule. forbids rule c h e) every_rule) → MatchOption o ((rule : Rule) → forbids rule c h e ≡ false) (IsLeastForbidding c h e)

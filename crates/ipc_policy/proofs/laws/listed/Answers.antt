@@ -1,6 +1,6 @@
-use Rattle.ipc_policy.proofs.Known.{bound_iff}
-use Rattle.ipc_policy.proofs.Listing.{listed_is_bound}
-use Rattle.ipc_policy.proofs.NamesBound.{named_is_bound, names_differ}
+use Rattle.ipc_policy.proofs.Histories.Known.{bound_iff}
+use Rattle.ipc_policy.proofs.Directories.Listing.{listed_is_bound}
+use Rattle.ipc_policy.proofs.Directories.NamesBound.{named_is_bound, names_differ}
 use Rattle.ipc_policy.proofs.laws.listed.Goals as goal
 
 pub returns-clause-objects : goal.returns-clause-objects

@@ -1,4 +1,4 @@
-use Rattle.ipc_policy.proofs.ParkedSessions.{is_parked}
+use Rattle.ipc_policy.proofs.Blocked.ParkedSessions.{is_parked}
 use Rattle.ipc_policy.proofs.laws.parked_alive.Goals as goal
 
 pub returns : goal.returns

@@ -1,4 +1,4 @@
-use Rattle.ipc_policy.proofs.CallsListed.{calls_listed}
+use Rattle.ipc_policy.proofs.Blocked.CallsListed.{calls_listed}
 use Rattle.ipc_policy.proofs.laws.parked_listed.Goals as goal
 
 pub returns : goal.returns

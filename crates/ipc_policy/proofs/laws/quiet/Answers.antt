@@ -1,5 +1,5 @@
-use Rattle.ipc_policy.proofs.Refused.{same_values}
-use Rattle.ipc_policy.proofs.Queueing.{refused_answered}
+use Rattle.ipc_policy.proofs.Histories.Refused.{same_values}
+use Rattle.ipc_policy.proofs.Queues.Queueing.{refused_answered}
 use Rattle.ipc_policy.proofs.laws.quiet.Goals as goal
 
 pub returns-clause-values : goal.returns-clause-values

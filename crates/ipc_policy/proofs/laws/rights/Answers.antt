@@ -1,4 +1,4 @@
-use Rattle.ipc_policy.proofs.HeldRights.{held_outlives, rights_by_description}
+use Rattle.ipc_policy.proofs.Holdings.HeldRights.{held_outlives, rights_by_description}
 use Rattle.ipc_policy.proofs.laws.rights.Goals as goal
 
 pub returns-clause-outlive : goal.returns-clause-outlive

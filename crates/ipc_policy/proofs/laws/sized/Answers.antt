@@ -1,6 +1,6 @@
-use Rattle.ipc_policy.proofs.NameLengths.{bound_short}
-use Rattle.ipc_policy.proofs.MessageSizes.{messages_fit, deliveries_fit, size_in_range}
-use Rattle.ipc_policy.proofs.AnswerSizes.{answers_small, outbox_small}
+use Rattle.ipc_policy.proofs.Directories.NameLengths.{bound_short}
+use Rattle.ipc_policy.proofs.Outcomes.MessageSizes.{messages_fit, deliveries_fit, size_in_range}
+use Rattle.ipc_policy.proofs.Outcomes.AnswerSizes.{answers_small, outbox_small}
 use Rattle.ipc_policy.proofs.laws.sized.Goals as goal
 
 pub returns-clause-names : goal.returns-clause-names

@@ -1,4 +1,4 @@
-use Rattle.ipc_policy.proofs.Limiting.{within_limit}
+use Rattle.ipc_policy.proofs.Queues.Limiting.{within_limit}
 use Rattle.ipc_policy.proofs.laws.within_limit.Goals as goal
 
 pub returns : goal.returns

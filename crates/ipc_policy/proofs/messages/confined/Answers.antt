@@ -1,5 +1,5 @@
-use Rattle.ipc_policy.proofs.Bringing.{answers_delivered}
-use Rattle.ipc_policy.proofs.Delivering.{delivery_confined, delivered_once}
+use Rattle.ipc_policy.proofs.Fates.Bringing.{answers_delivered}
+use Rattle.ipc_policy.proofs.Fates.Delivering.{delivery_confined, delivered_once}
 use Rattle.ipc_policy.proofs.messages.confined.Goals as goal
 
 pub returns-clause-answers : goal.returns-clause-answers

@@ -1,4 +1,4 @@
-use Rattle.ipc_policy.proofs.OneFate.{one_fate}
+use Rattle.ipc_policy.proofs.Fates.OneFate.{one_fate}
 use Rattle.ipc_policy.proofs.messages.once.Goals as goal
 
 pub returns : goal.returns

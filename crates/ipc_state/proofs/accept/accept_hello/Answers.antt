@@ -1,4 +1,4 @@
-use Rattle.ipc_policy.proofs.Unforbidden.{hello_known}
+use Rattle.ipc_policy.proofs.Histories.Unforbidden.{hello_known}
 use Rattle.ipc_state.proofs.Accepting.{agrees_begun}
 use Rattle.ipc_state.proofs.accept.accept_hello.Goals as goal
 

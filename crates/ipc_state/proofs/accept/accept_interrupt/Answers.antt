@@ -3,8 +3,5 @@ use Rattle.ipc_state.proofs.Accepted.{caller_within}
 use Rattle.ipc_state.proofs.Accepting.{agrees_interrupted}
 use Rattle.ipc_state.proofs.accept.accept_interrupt.Goals as goal
 
-pub withdraw-requires : goal.withdraw-requires
-withdraw-requires c = caller_within _ _ _ c.args.sid Interrupt c.requires.core.agrees c.requires.accepted
-
 pub returns : goal.returns
 returns c = rw c.withdraw.ensures (agrees_interrupted _ _ _ c.args.sid c.requires.core (caller_within _ _ _ c.args.sid Interrupt c.requires.core.agrees c.requires.accepted))

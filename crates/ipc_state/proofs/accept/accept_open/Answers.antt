@@ -1,14 +1,17 @@
 use Rattle.std.proofs.Common.{◌≡◌, true, ◌∙◌, sym, ap, subst, arith, is_some}
 use Rattle.std.specs.Option.{option_copied}
 use Rattle.ipc_terms.specs.declared.ids.Sid.{Sid}
+use Rattle.ipc_terms.specs.declared.ids.Family.{Family}
+use Rattle.ipc_terms.specs.declared.object.Object.{Object}
+use Rattle.ipc_terms.specs.Objects.{family_of}
 use Rattle.ipc_policy.specs.Sessions.{live, cred, mask}
 use Rattle.ipc_policy.specs.Names.{Opening}
-use Rattle.ipc_policy.proofs.Known.{opens_le-length, creations_le-length, mask_lt, known_user}
-use Rattle.ipc_names.specs.Directory.{Directory, object_named}
-use Rattle.ipc_tables.specs.Kept.{is_live_row, directory_kept}
+use Rattle.ipc_policy.proofs.Histories.Known.{opens_le-length, creations_le-length, mask_lt, known_user}
+use Rattle.ipc_names.specs.Directory.{object_named}
+use Rattle.ipc_tables.specs.TablesView.{is_live_row, directory_kept}
 use Rattle.ipc_state.proofs.Lookups.{found_is, directory_agrees}
-use Rattle.ipc_state.proofs.Accepted.{cred_row, user_row, opener_live, open_new, open_room, open_affords}
-use Rattle.ipc_state.proofs.Opens.{opens_of}
+use Rattle.ipc_state.proofs.Accepted.{cred_row, user_row, opener_live, opener_row, open_new, open_room, open_affords}
+use Rattle.ipc_state.proofs.Opens.{opens_of, named_by_open}
 use Rattle.ipc_state.proofs.Opened.{agrees_found, agrees_created}
 use Rattle.ipc_state.proofs.accept.accept_open.Goals as goal
 
@@ -21,17 +24,16 @@ open_found-requires c =
     let le = opens_le-length c.args.past.now.history in
     omega arith
 
-pub returns-in-Some-get-clause-ok : goal.returns-in-Some-get-clause-ok
-returns-in-Some-get-clause-ok c =
+pub returns-in-Some-bound-clause-ok : goal.returns-in-Some-bound-clause-ok
+returns-in-Some-bound-clause-ok c =
     let h = c.args.past.now.history in
     let t = c.args.tables.now in
     let a = c.requires.core.agrees in
     let e = c.args.event.now in
     let asked = c.in-Some.asked in
     let is = sym c.opening_of.ensures ∙ c.in-Some.is in
-    let named = c.get.ensures ∙ ap (λ (d : Directory). object_named d.bindings c.asked.inside.name.now) c.names.ensures ∙ ap (λ (x : Opening). object_named (directory_kept x.family t).bindings x.name) c.asked.view_is in
-    let found = sym (found_is h asked.family (directory_kept asked.family t) asked.name (directory_agrees c.args.config.now h t asked.family a)) ∙ sym named in
-    rw (c.in_ok-open_found.ensures.ok, c.grant_of-grant.ensures) (agrees_found c.args.config.now h t e asked c.in-Some-get.object (opens_of e asked is) a (found ∙ c.in-Some-get.is))
+    let found = sym (named_by_open h e asked is) ∙ sym c.requires.bound in
+    rw (c.in_ok-open_found.ensures.ok, c.grant_of-grant.ensures) (agrees_found c.args.config.now h t e asked c.in-Some-bound.object (opens_of e asked is) a (found ∙ c.in-Some-bound.is))
 
 pub unreachable-requires-in_default-session : goal.unreachable-requires-in_default-session
 unreachable-requires-in_default-session c =
@@ -57,7 +59,12 @@ unreachable-requires-in_default-cred c =
 
 pub new_facts-facts-requires : goal.new_facts-facts-requires
 new_facts-facts-requires c =
-    let m = c.requires.core.agrees.sessions.masks c.asked.inside.session.0 c.in-Some-session.session (sym c.session.ensures ∙ c.in-Some-session.is) in
+    let a = c.requires.core.agrees in
+    let is = sym c.opening_of.ensures ∙ c.in-Some.is in
+    let session = ap (λ (x : Opening). x.session) c.asked.view_is in
+    let row = sym c.session.ensures ∙ c.in-Some-session.is in
+    let lives = opener_row c.args.config.now c.args.past.now.history c.args.event.now c.in-Some.asked c.args.tables.now.sessions c.asked.inside.session c.in-Some-session.session a.sessions is c.requires.accepted session row in
+    let m = a.sessions.masks c.asked.inside.session.0 c.in-Some-session.session row lives in
     let lt = mask_lt c.args.past.now.history c.asked.inside.session.0 in
     omega arith
 
@@ -81,12 +88,11 @@ open_created-requires-clause-room c =
     let e = c.args.event.now in
     let asked = c.in-Some.asked in
     let is = sym c.opening_of.ensures ∙ c.in-Some.is in
-    let named = c.get.ensures ∙ ap (λ (d : Directory). object_named d.bindings c.asked.inside.name.now) c.names.ensures ∙ ap (λ (x : Opening). object_named (directory_kept x.family t).bindings x.name) c.asked.view_is in
-    let found = sym (found_is h asked.family (directory_kept asked.family t) asked.name (directory_agrees c.args.config.now h t asked.family a)) ∙ sym named in
+    let found = sym (named_by_open h e asked is) ∙ sym c.requires.bound in
     let session = ap (λ (x : Opening). x.session) c.asked.view_is in
     let row = sym c.session.ensures ∙ c.in-Some-session.is in
     let who = ap (λ (s : Sid). cred c.args.config.now h s.0) (sym session) ∙ sym (cred_row c.args.config.now h t.sessions c.asked.inside.session.0 c.in-Some-session.session a.sessions row) ∙ sym c.cred.ensures ∙ ap option_copied c.in-Some-cred.is in
-    rw c.new_object-object.ensures (open_room c.args.config.now h e asked c.in-Some-cred.who.now c.requires.core.in_range is c.requires.accepted (found ∙ c.in_default-get.is) who)
+    rw c.new_object-object.ensures (open_room c.args.config.now h e asked c.in-Some-cred.who.now c.requires.core.in_range is c.requires.accepted (found ∙ c.in_default-bound.is) who)
 
 pub open_created-requires-clause-affords : goal.open_created-requires-clause-affords
 open_created-requires-clause-affords c =
@@ -96,12 +102,11 @@ open_created-requires-clause-affords c =
     let e = c.args.event.now in
     let asked = c.in-Some.asked in
     let is = sym c.opening_of.ensures ∙ c.in-Some.is in
-    let named = c.get.ensures ∙ ap (λ (d : Directory). object_named d.bindings c.asked.inside.name.now) c.names.ensures ∙ ap (λ (x : Opening). object_named (directory_kept x.family t).bindings x.name) c.asked.view_is in
-    let found = sym (found_is h asked.family (directory_kept asked.family t) asked.name (directory_agrees c.args.config.now h t asked.family a)) ∙ sym named in
+    let found = sym (named_by_open h e asked is) ∙ sym c.requires.bound in
     let session = ap (λ (x : Opening). x.session) c.asked.view_is in
     let row = sym c.session.ensures ∙ c.in-Some-session.is in
     let who = ap (λ (s : Sid). cred c.args.config.now h s.0) (sym session) ∙ sym (cred_row c.args.config.now h t.sessions c.asked.inside.session.0 c.in-Some-session.session a.sessions row) ∙ sym c.cred.ensures ∙ ap option_copied c.in-Some-cred.is in
-    rw c.new_object-object.ensures (open_affords c.args.config.now h e asked t.charges c.in-Some-cred.who.now is c.requires.accepted (found ∙ c.in_default-get.is) who a.charges)
+    rw c.new_object-object.ensures (open_affords c.args.config.now h e asked t.charges c.in-Some-cred.who.now is c.requires.accepted (found ∙ c.in_default-bound.is) who a.charges)
 
 pub returns-clause-ok : goal.returns-clause-ok
 returns-clause-ok c =
@@ -111,12 +116,28 @@ returns-clause-ok c =
     let e = c.args.event.now in
     let asked = c.in-Some.asked in
     let is = sym c.opening_of.ensures ∙ c.in-Some.is in
-    let named = c.get.ensures ∙ ap (λ (d : Directory). object_named d.bindings c.asked.inside.name.now) c.names.ensures ∙ ap (λ (x : Opening). object_named (directory_kept x.family t).bindings x.name) c.asked.view_is in
-    let found = sym (found_is h asked.family (directory_kept asked.family t) asked.name (directory_agrees c.args.config.now h t asked.family a)) ∙ sym named in
+    let found = sym (named_by_open h e asked is) ∙ sym c.requires.bound in
     let session = ap (λ (x : Opening). x.session) c.asked.view_is in
     let row = sym c.session.ensures ∙ c.in-Some-session.is in
     let who = ap (λ (s : Sid). cred c.args.config.now h s.0) (sym session) ∙ sym (cred_row c.args.config.now h t.sessions c.asked.inside.session.0 c.in-Some-session.session a.sessions row) ∙ sym c.cred.ensures ∙ ap option_copied c.in-Some-cred.is in
-    let unbound = found ∙ c.in_default-get.is in
-    let masked = a.sessions.masks c.asked.inside.session.0 c.in-Some-session.session row ∙ ap (λ (s : Sid). mask h s.0) session in
+    let unbound = found ∙ c.in_default-bound.is in
+    let lives = opener_row c.args.config.now h e asked t.sessions c.asked.inside.session c.in-Some-session.session a.sessions is c.requires.accepted session row in
+    let masked = a.sessions.masks c.asked.inside.session.0 c.in-Some-session.session row lives ∙ ap (λ (s : Sid). mask h s.0) session in
     let name = ap (λ (x : Opening). x.name) c.asked.view_is in
     rw (c.in_ok-open_created.ensures.ok, c.grant_of-grant.ensures, c.new_object-object.ensures, c.new_facts-facts.ensures, masked, name) (agrees_created c.args.config.now h t e asked c.in-Some-cred.who.now (opens_of e asked is) a (open_new c.args.config.now h e asked is c.requires.accepted unbound) unbound who)
+
+pub open_created-requires-clause-unbound : goal.open_created-requires-clause-unbound
+open_created-requires-clause-unbound c =
+    let h = c.args.past.now.history in
+    let t = c.args.tables.now in
+    let e = c.args.event.now in
+    let asked = c.in-Some.asked in
+    let is = sym c.opening_of.ensures ∙ c.in-Some.is in
+    let found = sym (named_by_open h e asked is) ∙ sym c.requires.bound in
+    let family : family_of c.new_object-object.result.kind ≡ asked.family = ap (λ (x : Object). family_of x.kind) c.new_object-object.ensures ∙ (opens_of e asked is).family' c.args.config.now in
+    let name = ap (λ (x : Opening). x.name) c.asked.view_is in
+    ap (λ (f : Family). object_named (directory_kept f t).bindings c.asked.inside.name.now) family
+    ∙ ap (object_named (directory_kept asked.family t).bindings) name
+    ∙ found_is h asked.family (directory_kept asked.family t) asked.name (directory_agrees c.args.config.now h t asked.family c.requires.core.agrees)
+    ∙ found
+    ∙ c.in_default-bound.is

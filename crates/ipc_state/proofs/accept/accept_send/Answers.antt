@@ -1,26 +1,19 @@
 use Rattle.std.proofs.Common.{sym, ◌∙◌, refl}
 use Rattle.ipc_terms.specs.declared.call.Call.TheVariants.{MqSend}
 use Rattle.ipc_terms.specs.declared.ids.Family.TheVariants.{Mq}
-use Rattle.ipc_policy.proofs.Unforbidden.{call_free}
+use Rattle.ipc_policy.proofs.Histories.Unforbidden.{call_free}
 use Rattle.ipc_state.proofs.Accepted.{not_bad_held}
-use Rattle.ipc_state.proofs.QueueLookups.{number_is}
-use Rattle.ipc_state.proofs.Serving.{call_here, queue_stands, number_there, receiver_is}
+use Rattle.ipc_state.proofs.Serving.{call_here, queue_stands, number_there}
 use Rattle.ipc_state.proofs.Accepting.{agrees_sent}
 use Rattle.ipc_state.proofs.accept.accept_send.Goals as goal
 
 pub unreachable-requires : goal.unreachable-requires
 unreachable-requires c =
-    let none = sym (c.object_number.ensures ∙ number_is c.args.config.now c.args.past.now.history c.args.tables.now c.args.sid.0 c.args.desc.0 c.requires.core.agrees) ∙ c.in_default.is in
+    let none = sym c.requires.held ∙ c.in_default.is in
     number_there _ (not_bad_held c.args.config.now c.args.past.now.history c.args.sid.0 Mq c.args.desc.0 (call_free _ _ c.args.sid (MqSend c.args.desc c.args.priority c.args.bytes.now) Mq c.args.desc refl refl c.requires.accepted).held) none
 
-pub send-requires-clause-queue : goal.send-requires-clause-queue
-send-requires-clause-queue c = queue_stands c.args.config.now c.args.past.now.history c.args.tables.now c.args.sid.0 c.args.desc.0 c.in-Some.object c.requires.core.legal c.requires.core.agrees (call_here c.args.config.now c.args.past.now.history c.args.tables.now c.args.sid.0 c.args.desc.0 c.in-Some.object c.requires.core.agrees (call_free _ _ c.args.sid (MqSend c.args.desc c.args.priority c.args.bytes.now) Mq c.args.desc refl refl c.requires.accepted) (sym (c.object_number.ensures ∙ number_is c.args.config.now c.args.past.now.history c.args.tables.now c.args.sid.0 c.args.desc.0 c.requires.core.agrees) ∙ c.in-Some.is))
-
-pub send-requires-clause-receiver : goal.send-requires-clause-receiver
-send-requires-clause-receiver c = receiver_is c.args.config.now c.args.past.now.history c.args.tables.now c.args.sid.0 c.args.desc.0 c.in-Some.object c.requires.core.legal c.requires.core.agrees (call_here c.args.config.now c.args.past.now.history c.args.tables.now c.args.sid.0 c.args.desc.0 c.in-Some.object c.requires.core.agrees (call_free _ _ c.args.sid (MqSend c.args.desc c.args.priority c.args.bytes.now) Mq c.args.desc refl refl c.requires.accepted) (sym (c.object_number.ensures ∙ number_is c.args.config.now c.args.past.now.history c.args.tables.now c.args.sid.0 c.args.desc.0 c.requires.core.agrees) ∙ c.in-Some.is))
-
-pub send-requires-clause-session : goal.send-requires-clause-session
-send-requires-clause-session c = (call_here c.args.config.now c.args.past.now.history c.args.tables.now c.args.sid.0 c.args.desc.0 c.in-Some.object c.requires.core.agrees (call_free _ _ c.args.sid (MqSend c.args.desc c.args.priority c.args.bytes.now) Mq c.args.desc refl refl c.requires.accepted) (sym (c.object_number.ensures ∙ number_is c.args.config.now c.args.past.now.history c.args.tables.now c.args.sid.0 c.args.desc.0 c.requires.core.agrees) ∙ c.in-Some.is)).within
+pub send-requires : goal.send-requires
+send-requires c = queue_stands c.args.config.now c.args.past.now.history c.args.tables.now c.args.sid.0 c.args.desc.0 c.in-Some.object c.requires.core.legal c.requires.core.agrees (call_here c.args.config.now c.args.past.now.history c.args.tables.now c.args.sid.0 c.args.desc.0 c.in-Some.object c.requires.core.agrees (call_free _ _ c.args.sid (MqSend c.args.desc c.args.priority c.args.bytes.now) Mq c.args.desc refl refl c.requires.accepted) (sym c.requires.held ∙ c.in-Some.is))
 
 pub returns-clause-ok : goal.returns-clause-ok
-returns-clause-ok c = rw (c.in_ok-send.ensures.ok, c.len.ensures.count) (agrees_sent c.args.config.now c.args.past.now.history c.args.tables.now c.args.sid c.args.desc c.args.priority c.args.bytes.now c.in-Some.object c.requires.core (call_here c.args.config.now c.args.past.now.history c.args.tables.now c.args.sid.0 c.args.desc.0 c.in-Some.object c.requires.core.agrees (call_free _ _ c.args.sid (MqSend c.args.desc c.args.priority c.args.bytes.now) Mq c.args.desc refl refl c.requires.accepted) (sym (c.object_number.ensures ∙ number_is c.args.config.now c.args.past.now.history c.args.tables.now c.args.sid.0 c.args.desc.0 c.requires.core.agrees) ∙ c.in-Some.is)))
+returns-clause-ok c = rw (c.in_ok-send.ensures.ok, c.len.ensures.count) (agrees_sent c.args.config.now c.args.past.now.history c.args.tables.now c.args.sid c.args.desc c.args.priority c.args.bytes.now c.in-Some.object c.requires.core (call_here c.args.config.now c.args.past.now.history c.args.tables.now c.args.sid.0 c.args.desc.0 c.in-Some.object c.requires.core.agrees (call_free _ _ c.args.sid (MqSend c.args.desc c.args.priority c.args.bytes.now) Mq c.args.desc refl refl c.requires.accepted) (sym c.requires.held ∙ c.in-Some.is)))

@@ -8,17 +8,17 @@ use Rattle.ipc_policy.specs.declared.config.Config.{Config}
 use Rattle.ipc_policy.specs.declared.config.Held.{Held}
 use Rattle.ipc_policy.specs.History.{History}
 use Rattle.ipc_policy.specs.Descriptions.{holds}
-use Rattle.ipc_tables.specs.Kept.{Kept}
+use Rattle.ipc_tables.specs.TablesView.{TablesView}
 use Rattle.ipc_state.specs.Agrees.{Agrees}
 use Rattle.ipc_tables.specs.Steps.{after_setattr}
 use Rattle.ipc_policy.specs.History.{after_accepted}
 use Rattle.ipc_state.proofs.QueueLookups.{held_row}
-use Rattle.ipc_policy.proofs.Unforbidden.{call_free}
+use Rattle.ipc_policy.proofs.Histories.Unforbidden.{call_free}
 use Rattle.ipc_state.proofs.Accepted.{not_bad_held}
 use Rattle.ipc_state.proofs.Accepting.{agrees_set}
 use Rattle.ipc_state.proofs.accept.accept_setattr.Goals as goal
 
-set_held : (c : Config) (h : History) (t : Kept) (sid : Sid) (desc : Desc) (nonblock : Bool) → Agrees c h t → is_some (holds h sid.0 desc.0) ≡ true → Agrees c (after_accepted h (Do sid (MqSetattr desc nonblock))) (after_setattr t desc.0 nonblock)
+set_held : (c : Config) (h : History) (t : TablesView) (sid : Sid) (desc : Desc) (nonblock : Bool) → Agrees c h t → is_some (holds h sid.0 desc.0) ≡ true → Agrees c (after_accepted h (Do sid (MqSetattr desc nonblock))) (after_setattr t desc.0 nonblock)
 set_held c h t sid desc nonblock a there = at (holds h sid.0 desc.0) refl there where
   at : (w : Option Held) → holds h sid.0 desc.0 ≡ w → is_some w ≡ true → Agrees c (after_accepted h (Do sid (MqSetattr desc nonblock))) (after_setattr t desc.0 nonblock)
   at None e k = absurd cc

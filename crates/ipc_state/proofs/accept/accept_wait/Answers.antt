@@ -1,9 +1,8 @@
 use Rattle.std.proofs.Common.{sym, ◌∙◌, refl}
 use Rattle.ipc_terms.specs.declared.call.Call.TheVariants.{SemWait}
 use Rattle.ipc_terms.specs.declared.ids.Family.TheVariants.{Sem}
-use Rattle.ipc_policy.proofs.Unforbidden.{call_free}
+use Rattle.ipc_policy.proofs.Histories.Unforbidden.{call_free}
 use Rattle.ipc_state.proofs.Accepted.{not_bad_held}
-use Rattle.ipc_state.proofs.QueueLookups.{number_is}
 use Rattle.ipc_state.proofs.Serving.{semaphore_here, number_there}
 use Rattle.ipc_state.proofs.Posting.{semaphore_stands}
 use Rattle.ipc_state.proofs.Accepting.{agrees_waited}
@@ -11,14 +10,11 @@ use Rattle.ipc_state.proofs.accept.accept_wait.Goals as goal
 
 pub unreachable-requires : goal.unreachable-requires
 unreachable-requires c =
-    let none = sym (c.object_number.ensures ∙ number_is c.args.config.now c.args.past.now.history c.args.tables.now c.args.sid.0 c.args.desc.0 c.requires.core.agrees) ∙ c.in_default.is in
+    let none = sym c.requires.held ∙ c.in_default.is in
     number_there _ (not_bad_held c.args.config.now c.args.past.now.history c.args.sid.0 Sem c.args.desc.0 (call_free _ _ c.args.sid (SemWait c.args.desc) Sem c.args.desc refl refl c.requires.accepted).held) none
 
-pub wait-requires-clause-semaphore : goal.wait-requires-clause-semaphore
-wait-requires-clause-semaphore c = semaphore_stands c.args.config.now c.args.past.now.history c.args.tables.now c.args.sid.0 c.args.desc.0 c.in-Some.object c.requires.core.legal c.requires.core.agrees (semaphore_here c.args.config.now c.args.past.now.history c.args.tables.now c.args.sid.0 c.args.desc.0 c.in-Some.object c.requires.core.agrees (call_free _ _ c.args.sid (SemWait c.args.desc) Sem c.args.desc refl refl c.requires.accepted) (sym (c.object_number.ensures ∙ number_is c.args.config.now c.args.past.now.history c.args.tables.now c.args.sid.0 c.args.desc.0 c.requires.core.agrees) ∙ c.in-Some.is))
-
-pub wait-requires-clause-session : goal.wait-requires-clause-session
-wait-requires-clause-session c = (semaphore_here c.args.config.now c.args.past.now.history c.args.tables.now c.args.sid.0 c.args.desc.0 c.in-Some.object c.requires.core.agrees (call_free _ _ c.args.sid (SemWait c.args.desc) Sem c.args.desc refl refl c.requires.accepted) (sym (c.object_number.ensures ∙ number_is c.args.config.now c.args.past.now.history c.args.tables.now c.args.sid.0 c.args.desc.0 c.requires.core.agrees) ∙ c.in-Some.is)).within
+pub wait-requires : goal.wait-requires
+wait-requires c = semaphore_stands c.args.config.now c.args.past.now.history c.args.tables.now c.args.sid.0 c.args.desc.0 c.in-Some.object c.requires.core.legal c.requires.core.agrees (semaphore_here c.args.config.now c.args.past.now.history c.args.tables.now c.args.sid.0 c.args.desc.0 c.in-Some.object c.requires.core.agrees (call_free _ _ c.args.sid (SemWait c.args.desc) Sem c.args.desc refl refl c.requires.accepted) (sym c.requires.held ∙ c.in-Some.is))
 
 pub returns-clause-ok : goal.returns-clause-ok
-returns-clause-ok c = rw c.in_ok-wait.ensures.ok (agrees_waited c.args.config.now c.args.past.now.history c.args.tables.now c.args.sid c.args.desc c.in-Some.object c.requires.core (semaphore_here c.args.config.now c.args.past.now.history c.args.tables.now c.args.sid.0 c.args.desc.0 c.in-Some.object c.requires.core.agrees (call_free _ _ c.args.sid (SemWait c.args.desc) Sem c.args.desc refl refl c.requires.accepted) (sym (c.object_number.ensures ∙ number_is c.args.config.now c.args.past.now.history c.args.tables.now c.args.sid.0 c.args.desc.0 c.requires.core.agrees) ∙ c.in-Some.is)))
+returns-clause-ok c = rw c.in_ok-wait.ensures.ok (agrees_waited c.args.config.now c.args.past.now.history c.args.tables.now c.args.sid c.args.desc c.in-Some.object c.requires.core (semaphore_here c.args.config.now c.args.past.now.history c.args.tables.now c.args.sid.0 c.args.desc.0 c.in-Some.object c.requires.core.agrees (call_free _ _ c.args.sid (SemWait c.args.desc) Sem c.args.desc refl refl c.requires.accepted) (sym c.requires.held ∙ c.in-Some.is)))

@@ -25,7 +25,7 @@ invariant_of-self c =
     let less = one_left tickets found.0 found.1 in
     let count = c.self.invariant.1 in
     rw (c.of-2.ensures, c.of.ensures)
-    (left c.self.inside.buckets c.leave.new.self (λ q. places_of q tickets) _ c.in_ok-priority.priority c.self.invariant.0 c.leave.ensures (λ q. rw (← found.2) (places_without_next tickets found.0 q found.1)), omega arith)
+    (left c.self.inside.buckets c.leave.new.self (λ q. places_of q tickets) _ c.in_ok-priority.priority c.self.invariant.0 c.leave.ensures.rest c.leave.ensures.alone (λ q. rw (← found.2) (places_without_next tickets found.0 q found.1)), omega arith)
 
 pub returns-clause-next : goal.returns-clause-next
 returns-clause-next c =

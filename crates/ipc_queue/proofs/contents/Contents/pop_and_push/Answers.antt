@@ -15,7 +15,7 @@ unreachable-requires c =
     omega arith
 
 pub invariant_of-self : goal.invariant_of-self
-invariant_of-self c = (still_held c.self.inside.buckets c.enter.new.self _ c.self.invariant.0 c.in_err-enter.ensures.err, c.self.invariant.1)
+invariant_of-self c = (still_held c.self.inside.buckets c.enter.new.self _ c.self.invariant.0 c.in_err-enter.ensures.err c.in_err-enter.ensures.alone, c.self.invariant.1)
 
 pub invariant_of-self-2 : goal.invariant_of-self-2
 invariant_of-self-2 c =
@@ -24,6 +24,6 @@ invariant_of-self-2 c =
     let less = one_left tickets found.0 found.1 in
     let longer = length-append (without_next tickets) (c.args.ticket ∷ []) in
     let count = c.self.invariant.1 in
-    let behind = entered c.self.inside.buckets c.enter.new.self (λ q. places_of q tickets) _ c.args.ticket.priority c.args.ticket.place c.self.invariant.0 c.in_ok-enter.ensures.ok (λ q. places_push q tickets c.args.ticket) in
+    let behind = entered c.self.inside.buckets c.enter.new.self (λ q. places_of q tickets) _ c.args.ticket.priority c.args.ticket.place c.self.invariant.0 c.in_ok-enter.ensures.ok c.in_ok-enter.ensures.alone (λ q. places_push q tickets c.args.ticket) in
     rw (c.of-3.ensures, c.of-2.ensures, c.of-left.ensures, c.of.ensures)
-    (left c.enter.new.self c.leave.new.self _ _ c.in-Some.priority behind c.leave.ensures (λ q. rw (← found.2) (places_exchanged tickets found.0 c.args.ticket q found.1)), omega arith)
+    (left c.enter.new.self c.leave.new.self _ _ c.in-Some.priority behind c.leave.ensures.rest c.leave.ensures.alone (λ q. rw (← found.2) (places_exchanged tickets found.0 c.args.ticket q found.1)), omega arith)

@@ -5,7 +5,7 @@ use Rattle.ipc_queue.proofs.Standing.{places_push}
 use Rattle.ipc_queue.proofs.contents.Contents.push.Goals as goal
 
 pub invariant_of-self : goal.invariant_of-self
-invariant_of-self c = (still_held c.self.inside.buckets c.enter.new.self _ c.self.invariant.0 c.in_err-enter.ensures.err, c.self.invariant.1)
+invariant_of-self c = (still_held c.self.inside.buckets c.enter.new.self _ c.self.invariant.0 c.in_err-enter.ensures.err c.in_err-enter.ensures.alone, c.self.invariant.1)
 
 pub invariant_of-self-2 : goal.invariant_of-self-2
 invariant_of-self-2 c =
@@ -13,4 +13,4 @@ invariant_of-self-2 c =
     let longer = length-append tickets (c.args.ticket ∷ []) in
     let count = c.self.invariant.1 in
     rw (c.of-2.ensures, c.of.ensures)
-    (entered c.self.inside.buckets c.enter.new.self (λ q. places_of q tickets) _ c.args.ticket.priority c.args.ticket.place c.self.invariant.0 c.in_ok-enter.ensures.ok (λ q. places_push q tickets c.args.ticket), omega arith)
+    (entered c.self.inside.buckets c.enter.new.self (λ q. places_of q tickets) _ c.args.ticket.priority c.args.ticket.place c.self.invariant.0 c.in_ok-enter.ensures.ok c.in_ok-enter.ensures.alone (λ q. places_push q tickets c.args.ticket), omega arith)

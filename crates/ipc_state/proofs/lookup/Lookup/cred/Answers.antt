@@ -7,4 +7,4 @@ use Rattle.ipc_state.proofs.lookup.Lookup.cred.Goals as goal
 pub returns : goal.returns
 returns c =
     let met = c.self.invariant in
-    rw (← c.self.view_is) (met.of_user ∙ ap (user_in c.self.inside.config.now) met.of_session ∙ cred_is _ _ _ (caller c.self.inside.event.now).0 met.core.agrees.sessions)
+    rw (← c.self.view_is) (c.user_in.ensures ∙ ap (user_in c.self.inside.config.now) met.of_session ∙ cred_is _ _ _ (caller c.self.inside.event.now).0 met.core.agrees.sessions)

@@ -1,5 +1,5 @@
 use Rattle.std.proofs.Common.{ap, ◌∙◌}
-use Rattle.ipc_tables.specs.Kept.{is_live_row}
+use Rattle.ipc_tables.specs.TablesView.{is_live_row}
 use Rattle.ipc_state.proofs.states.State.is_live.Goals as goal
 
 pub returns : goal.returns

@@ -8,15 +8,9 @@ use Rattle.ipc_tables.specs.Objects.{with_held}
 use Rattle.ipc_tables.specs.Standing.{rows_in}
 use Rattle.ipc_tables.proofs.StandingLemmas.{Sets, counted_still}
 use Rattle.ipc_tables.proofs.Narrowing.{released}
-use Rattle.ipc_tables.proofs.Releasing.{all_counted, all_rows, one_held, none_held, absent_held}
+use Rattle.ipc_tables.proofs.Releasing.{one_held, none_held, absent_held}
 use Rattle.ipc_tables.proofs.objects.Objects.release.Goals as goal
 use Rattle.ipc_tables.proofs.objects.Objects.release.Goals.{After-self-in-Some-get_mut-1}
-
-pub returns-then-self-clause-counted : goal.returns-then-self-clause-counted
-returns-then-self-clause-counted c = all_counted c.args.descriptions.now.rows c.args.self.now _ c.release_all.ensures refl refl c.requires.counted
-
-pub returns-then-self-clause-rows : goal.returns-then-self-clause-rows
-returns-then-self-clause-rows c = all_rows c.args.descriptions.now.rows c.args.self.now.rows.entries _ c.release_all.ensures
 
 -- the row of the object that was touched
 set : (c : After-self-in-Some-get_mut-1) → Sets c.in-Some.object c.in-Some-get_mut.row.now (with_held c.args.descriptions.now.rows c.in-Some-get_mut.row.now) c.args.self.now.rows.entries (c.get_mut.follows.lender c.release_row.new.row).entries
@@ -29,10 +23,10 @@ pub returns-in-Some-get_mut-clause-counted : goal.returns-in-Some-get_mut-clause
 returns-in-Some-get_mut-clause-counted c = counted_still c.in-Some.object c.in-Some-get_mut.row.now (with_held c.args.descriptions.now.rows c.in-Some-get_mut.row.now) c.args.self.now _ (released c.args.descriptions.now.rows c.in-Some-get_mut.row.now).number (released c.args.descriptions.now.rows c.in-Some-get_mut.row.now).kind (set c) refl refl c.requires.counted
 
 pub returns-in-Some-get_mut-clause-rows : goal.returns-in-Some-get_mut-clause-rows
-returns-in-Some-get_mut-clause-rows c = one_held c.in-Some.object 0 c.args.self.now.created c.args.descriptions.now.rows c.in-Some-get_mut.row.now c.args.self.now.rows.entries _ c.requires.counted.numbered (set c) (rw c.in-Some.is at c.requires.others c.if-self.false)
+returns-in-Some-get_mut-clause-rows c = one_held c.in-Some.object 0 c.args.self.now.created c.args.descriptions.now.rows c.in-Some-get_mut.row.now c.args.self.now.rows.entries _ c.requires.counted.numbered (set c) (rw c.in-Some.is at c.requires.others)
 
 pub returns-in_default-get_mut-clause-rows : goal.returns-in_default-get_mut-clause-rows
-returns-in_default-get_mut-clause-rows c = ap (λ (m : BTreeMap ℕ ObjectRow). values_of m.entries) c.get_mut.follows.holds-at-none ∙ absent_held c.in-Some.object 0 c.args.self.now.created c.args.descriptions.now.rows c.args.self.now.rows.entries c.requires.counted.numbered (sym c.get_mut.ensures.value ∙ ap option_copied_mut c.in_default-get_mut.is) (rw c.in-Some.is at c.requires.others c.if-self.false)
+returns-in_default-get_mut-clause-rows c = ap (λ (m : BTreeMap ℕ ObjectRow). values_of m.entries) c.get_mut.follows.holds-at-none ∙ absent_held c.in-Some.object 0 c.args.self.now.created c.args.descriptions.now.rows c.args.self.now.rows.entries c.requires.counted.numbered (sym c.get_mut.ensures.value ∙ ap option_copied_mut c.in_default-get_mut.is) (rw c.in-Some.is at c.requires.others)
 
 pub returns-in_default-clause-rows : goal.returns-in_default-clause-rows
-returns-in_default-clause-rows c = none_held c.args.descriptions.now.rows (rows_in c.args.self.now) (rw c.in_default.is at c.requires.others c.if-self.false)
+returns-in_default-clause-rows c = none_held c.args.descriptions.now.rows (rows_in c.args.self.now) (rw c.in_default.is at c.requires.others)

@@ -6,7 +6,7 @@ use Rattle.std.specs.Option.{option_map}
 use Rattle.std.specs.Int.{from_bool}
 use Rattle.ipc_tables.specs.declared.rows.ObjectRow.{ObjectRow}
 use Rattle.ipc_tables.specs.Objects.{is_queue}
-use Rattle.ipc_tables.specs.Kept.{is_alive, is_kept}
+use Rattle.ipc_tables.specs.TablesView.{is_alive, is_kept}
 use Rattle.ipc_tables.specs.Standing.{rows_in}
 use Rattle.ipc_tables.proofs.Numbering.{found, found_number, removed_numbered, removed_count, removed_none}
 use Rattle.ipc_tables.proofs.Settling.{AllKept, filter_all, settled_all, untouched, touched_kept, touched_absent, Removed, removed, removed_covered}

@@ -18,7 +18,7 @@ use Rattle.ipc_tables.specs.declared.rows.Body.{Body}
 use Rattle.ipc_tables.specs.declared.rows.ObjectRow.{ObjectRow}
 use Rattle.ipc_tables.specs.declared.tables.Grant.{Grant}
 use Rattle.ipc_tables.specs.Objects.{is_queue, queue_in, registered_in, bytes_taken, new_body, new_row}
-use Rattle.ipc_tables.specs.Kept.{Kept}
+use Rattle.ipc_tables.specs.TablesView.{TablesView}
 use Rattle.ipc_tables.specs.Charging.{charged_with}
 use Rattle.ipc_tables.specs.Standing.{rows_in}
 use Rattle.ipc_tables.specs.Steps.{with_object}
@@ -48,7 +48,7 @@ charged_none : (charges : List Charge) (u : ℕ) (kind : Kind) → ((attributes 
 charged_none charges u (QueueKind attributes) apart = absurd (apart attributes refl)
 charged_none charges u (SemaphoreKind value) apart = refl
 
-with_object_is : (t : Kept) (grant : Grant) (object : Object) (facts : Facts) (rows : List ObjectRow) (descriptions : Descriptions) (charges : List Charge) → rows ≡ t.objects ++ new_row t.created object facts ∷ [] → descriptions ≡ with_open t.descriptions grant.session t.created grant.access grant.nonblock → charges ≡ charged_with t.charges object.creator.0 object.kind → record t { objects = rows; created = t.created + 1; descriptions = descriptions; charges = charges } ≡ with_object t grant object facts
+with_object_is : (t : TablesView) (grant : Grant) (object : Object) (facts : Facts) (rows : List ObjectRow) (descriptions : Descriptions) (charges : List Charge) → rows ≡ t.objects ++ new_row t.created object facts ∷ [] → descriptions ≡ with_open t.descriptions grant.session t.created grant.access grant.nonblock → charges ≡ charged_with t.charges object.creator.0 object.kind → record t { objects = rows; created = t.created + 1; descriptions = descriptions; charges = charges } ≡ with_object t grant object facts
 with_object_is t grant object facts rows descriptions charges one two three = rw (one, two, three) refl
 
 -- ---- the row that was put in
@@ -70,7 +70,7 @@ pub invariant_of-self-then-is_err : goal.invariant_of-self-then-is_err
 invariant_of-self-then-is_err c =
     let inside = c.self.inside in
     let unopened : c.open-opened.new.self ≡ inside.descriptions = search rules in
-    rw unopened (same_stands inside.queues inside.semaphores inside.descriptions.rows inside.objects _ (taken_out c) refl refl refl c.self.invariant)
+    rw unopened (same_stands inside.queues inside.semaphores inside.descriptions.rows inside.objects _ (taken_out c) refl refl c.self.invariant)
 
 pub returns-then-is_err-clause-err : goal.returns-then-is_err-clause-err
 returns-then-is_err-clause-err c =
@@ -85,23 +85,22 @@ overflow_add-objects c =
     let count = c.self.invariant.counted.counted in
     let few : count_by is_queue (rows_in objects) ≤ length (rows_in objects) = count_by-le-length is_queue (rows_in objects) in
     let below : 0 + length (rows_in objects) ≤ objects.created = count_below 0 objects.created objects.rows.entries c.self.invariant.counted.numbered in
-    let created : objects.created ≡ c.args.self.now.created = ap (λ (t : Kept). t.created) c.self.view_is in
+    let created : objects.created ≡ c.args.self.now.created = ap (λ (t : TablesView). t.created) c.self.view_is in
     let room = c.requires.created in
     omega arith
 
 opened : (c : After-open-opened) → Row
 opened c = record { desc = record { 0 = c.self.inside.descriptions.opened }; session = c.args.grant.session; object = c.self.inside.objects.created; access = c.args.grant.access; nonblock = c.args.grant.nonblock }
 
-adds : (c : After-open-opened) (after : Objects) → after.rows ≡ c.insert.new.self → after.created ≡ c.self.inside.objects.created + 1 → after.queue_count ≡ c.self.inside.objects.queue_count + cond (is_some (queue_in c.new.result)) 1 0 → after.astray ≡ c.self.inside.objects.astray → Adds (put c) (opened c) c.self.inside.objects after
+adds : (c : After-open-opened) (after : Objects) → after.rows ≡ c.insert.new.self → after.created ≡ c.self.inside.objects.created + 1 → after.queue_count ≡ c.self.inside.objects.queue_count + cond (is_some (queue_in c.new.result)) 1 0 → Adds (put c) (opened c) c.self.inside.objects after
 unfolding put opened
-adds c after rows created count astray = record {
+adds c after rows created count = record {
   number = refl;
   unregistered = ap registered_in c.new.ensures ∙ new_unregistered c.args.object.kind;
   gives = refl;
   entries = ap (λ m. m.entries) rows ∙ c.in_ok-insert.ensures.entries;
   created = created;
   count = count;
-  astray = astray;
 }
 
 inserted : (c : After-open-opened) → values_of c.insert.new.self.entries ≡ rows_in c.self.inside.objects ++ new_row c.self.inside.objects.created c.args.object c.args.facts ∷ []
@@ -117,8 +116,8 @@ invariant_of-self-2 c =
     let inside = c.self.inside in
     let open_is : c.open-opened.new.self ≡ with_open inside.descriptions c.args.grant.session inside.objects.created c.args.grant.access c.args.grant.nonblock = search rules in
     elim c.match-object.branch [
-      | in-Queue w ↦ rw (open_is, w.objects-is) (added_stands inside.queues inside.semaphores inside.descriptions.rows (put here) (opened here) inside.objects _ (adds here _ refl refl (one_more inside.objects.queue_count c.args.object.kind c.new.result w.in-Queue.field-0 w.in-Queue.is c.new.ensures) refl) c.self.invariant)
-      | in_default w ↦ rw (open_is, w.objects-is) (added_stands inside.queues inside.semaphores inside.descriptions.rows (put here) (opened here) inside.objects _ (adds here _ refl refl (none_more inside.objects.queue_count c.args.object.kind c.new.result w.in_default.not-Queue c.new.ensures) refl) c.self.invariant)
+      | in-Queue w ↦ rw (open_is, w.objects-is) (added_stands inside.queues inside.semaphores inside.descriptions.rows (put here) (opened here) inside.objects _ (adds here _ refl refl (one_more inside.objects.queue_count c.args.object.kind c.new.result w.in-Queue.field-0 w.in-Queue.is c.new.ensures)) c.self.invariant)
+      | in_default w ↦ rw (open_is, w.objects-is) (added_stands inside.queues inside.semaphores inside.descriptions.rows (put here) (opened here) inside.objects _ (adds here _ refl refl (none_more inside.objects.queue_count c.args.object.kind c.new.result w.in_default.not-Queue c.new.ensures)) c.self.invariant)
     ]
 
 pub returns-clause-ok : goal.returns-clause-ok

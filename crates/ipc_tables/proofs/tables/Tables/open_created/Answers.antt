@@ -6,7 +6,7 @@ use Rattle.ipc_terms.specs.declared.binding.Binding.{Binding}
 use Rattle.ipc_terms.specs.declared.ids.Family.{Family}
 use Rattle.ipc_terms.specs.declared.ids.Family.TheVariants.{Mq, Sem}
 use Rattle.ipc_names.specs.Directory.{object_named, without_name}
-use Rattle.ipc_tables.specs.Kept.{Kept, directory_kept}
+use Rattle.ipc_tables.specs.TablesView.{TablesView, directory_kept}
 use Rattle.ipc_tables.specs.Steps.{with_binding, without_binding}
 use Rattle.ipc_tables.specs.contracts.tables.Tables.{the_view}
 use Rattle.ipc_tables.proofs.StandingLemmas.{back_stands}
@@ -28,7 +28,7 @@ again name o (x ∷ xs) e =
     rw other (ap (λ l. x ∷ l) (again name o xs (later_at name x xs (same_name x.name name) other e)))
 
 -- so the tables are as they were
-undone : (f : Family) (name : List ℕ) (o : ℕ) (t : Kept) → object_named (directory_kept f t).bindings name ≡ None → without_binding f name (with_binding f name o t) ≡ t
+undone : (f : Family) (name : List ℕ) (o : ℕ) (t : TablesView) → object_named (directory_kept f t).bindings name ≡ None → without_binding f name (with_binding f name o t) ≡ t
 undone Mq name o t e = ap (λ (l : List Binding). record t { queues = record t.queues { bindings = l } }) (again name o t.queues.bindings e)
 undone Sem name o t e = ap (λ (l : List Binding). record t { semaphores = record t.semaphores { bindings = l } }) (again name o t.semaphores.bindings e)
 
@@ -45,7 +45,7 @@ pub invariant_of-self : goal.invariant_of-self
 invariant_of-self c =
     let inside = c.self.inside in
     let same = back (goal.at.invariant_of-self c).After-unbind ∙ sym c.self.view_is in
-    back_stands inside.queues inside.semaphores c.unbind.new.queues c.unbind.new.semaphores inside.descriptions.rows c.self-2.inside.descriptions.rows inside.objects c.self-2.inside.objects (ap (λ (t : Kept). t.queues) same) (ap (λ (t : Kept). t.semaphores) same) (ap (λ (t : Kept). t.descriptions.rows) same) (ap (λ (t : Kept). t.objects) same) c.self.invariant c.self-2.invariant.counted c.self-2.invariant.own
+    back_stands inside.queues inside.semaphores c.unbind.new.queues c.unbind.new.semaphores inside.descriptions.rows c.self-2.inside.descriptions.rows inside.objects c.self-2.inside.objects (ap (λ (t : TablesView). t.queues) same) (ap (λ (t : TablesView). t.semaphores) same) (ap (λ (t : TablesView). t.descriptions.rows) same) (ap (λ (t : TablesView). t.objects) same) c.self.invariant c.self-2.invariant.counted
 
 pub returns-then-is_err-clause-err : goal.returns-then-is_err-clause-err
 returns-then-is_err-clause-err c = back (goal.at.returns-then-is_err-clause-err c).After-unbind

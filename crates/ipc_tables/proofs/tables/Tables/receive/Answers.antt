@@ -1,19 +1,15 @@
-use Rattle.std.proofs.Common.{◌≡◌, ℕ, List, Some, None, is_some, refl, sym, ap, subst, ◌∙◌, ◌<◌, length}
+use Rattle.std.proofs.Common.{◌≡◌, ℕ, List, Some, is_some, refl, sym, ap, ◌∙◌}
 use Rattle.std.specs.Map.{lookup, values_of}
 use Rattle.std.specs.BTreeMap.{is_at}
 use Rattle.std.specs.Ordering.{nat_cmp}
 use Rattle.std.specs.Option.{option_map, option_copied_mut}
-use Rattle.ipc_terms.specs.Lists.{changed}
-use Rattle.ipc_terms.specs.declared.ids.Sid.{Sid}
 use Rattle.ipc_queue.specs.Tickets.{receive_outcome, received}
 use Rattle.ipc_tables.specs.declared.rows.ObjectRow.{ObjectRow}
 use Rattle.ipc_tables.specs.contracts.tables.Tables.{the_view}
-use Rattle.ipc_tables.specs.declared.rows.Session.{Session}
 use Rattle.ipc_tables.specs.Objects.{queue_at, queue_in, with_queue}
-use Rattle.ipc_tables.specs.Kept.{Kept}
+use Rattle.ipc_tables.specs.TablesView.{TablesView}
 use Rattle.ipc_tables.specs.Standing.{rows_in}
-use Rattle.ipc_tables.specs.Steps.{with_parked}
-use Rattle.ipc_tables.proofs.CallTables.{no_row, at_row, parked_items, admitted_in, after_receive_is}
+use Rattle.ipc_tables.proofs.CallTables.{no_row, at_row, after_receive_is}
 use Rattle.ipc_tables.proofs.StandingLemmas.{Sets, tame_receive, changed_stands, same_stands}
 use Rattle.ipc_tables.proofs.RowChanges.{row_there, sets_body, rows_changed, with_objects, entries_same, on_err}
 use Rattle.ipc_tables.proofs.tables.Tables.receive.Goals as goal
@@ -24,22 +20,22 @@ there : (c : In-Some) → lookup (is_at (nat_cmp c.args.object)) c.self.inside.o
 there c = sym c.get_mut.ensures.value ∙ ap option_copied_mut c.in-Some.is
 
 queue_there : (c : In-Some) → queue_at c.args.self.now.objects c.args.object ≡ queue_in c.in-Some.row.now.body
-queue_there c = sym (ap (λ (t : Kept). queue_at t.objects c.args.object) c.self.view_is) ∙ at_row queue_in (rows_in c.self.inside.objects) c.args.object c.in-Some.row.now (row_there c.args.object c.self.inside.objects _ c.self.invariant.counted (there c))
+queue_there c = sym (ap (λ (t : TablesView). queue_at t.objects c.args.object) c.self.view_is) ∙ at_row queue_in (rows_in c.self.inside.objects) c.args.object c.in-Some.row.now (row_there c.args.object c.self.inside.objects _ c.self.invariant.counted (there c))
 
 pub unreachable-requires : goal.unreachable-requires
 unreachable-requires c =
     let none = row_there c.args.object c.self.inside.objects _ c.self.invariant.counted (sym c.get_mut.ensures.value ∙ ap option_copied_mut c.in_default.is) in
-    no_row queue_in (rows_in c.self.inside.objects) c.args.object none (ap (λ (t : Kept). is_some (queue_at t.objects c.args.object)) c.self.view_is ∙ c.requires.queue)
+    no_row queue_in (rows_in c.self.inside.objects) c.args.object none (ap (λ (t : TablesView). is_some (queue_at t.objects c.args.object)) c.self.view_is ∙ c.requires)
 
 pub receive-requires : goal.receive-requires
-receive-requires c = ap is_some (sym (queue_there (goal.at.receive-requires c).In-Some)) ∙ c.requires.queue
+receive-requires c = ap is_some (sym (queue_there (goal.at.receive-requires c).In-Some)) ∙ c.requires
 
 -- where memory is wanted it is as it was
 unchanged : (c : After-receive) → c.receive.new.self ≡ c.in-Some.row.now.body → (c.get_mut.follows.lender (record c.in-Some.row.now { body = c.receive.new.self })).entries ≡ c.self.inside.objects.rows.entries
 unchanged c same = entries_same c.args.object c.in-Some.row.now c.receive.new.self c.self.inside.objects.rows.entries _ (sym c.get_mut.ensures.value ∙ ap option_copied_mut c.in-Some.is) (c.get_mut.follows.holds (record c.in-Some.row.now { body = c.receive.new.self })).0 same
 
 pub invariant_of-self : goal.invariant_of-self
-invariant_of-self c = same_stands c.self.inside.queues c.self.inside.semaphores c.self.inside.descriptions.rows c.self.inside.objects _ (unchanged (goal.at.invariant_of-self c).After-receive c.in_err-receive.ensures.err) refl refl refl c.self.invariant
+invariant_of-self c = same_stands c.self.inside.queues c.self.inside.semaphores c.self.inside.descriptions.rows c.self.inside.objects _ (unchanged (goal.at.invariant_of-self c).After-receive c.in_err-receive.ensures.err) refl refl c.self.invariant
 
 pub returns-in_err-receive-clause-err : goal.returns-in_err-receive-clause-err
 returns-in_err-receive-clause-err c = on_err c.from_residual.result (ap (λ (es : List (ℕ × ObjectRow)). with_objects (the_view c.self.inside) (values_of es)) (unchanged (goal.at.returns-in_err-receive-clause-err c).After-receive c.in_err-receive.ensures.err) ∙ c.self.view_is)
@@ -49,34 +45,28 @@ sets : (c : In_ok-receive) → Sets c.args.object c.in-Some.row.now (with_queue 
 sets c = sets_body c.args.object c.in-Some.row.now c.receive.new.self _ c.self.inside.objects.rows.entries _ (sym c.get_mut.ensures.value ∙ ap option_copied_mut c.in-Some.is) (c.get_mut.follows.holds (record c.in-Some.row.now { body = c.receive.new.self })).0 c.in_ok-receive.ensures.ok
 
 pub invariant_of-self-in-Took : goal.invariant_of-self-in-Took
-invariant_of-self-in-Took c = changed_stands c.self.inside.queues c.self.inside.semaphores c.self.inside.descriptions.rows c.args.object c.in-Some.row.now _ c.self.inside.objects _ (tame_receive c.args.sid c.in-Some.row.now) (sets (goal.at.invariant_of-self-in-Took c).In_ok-receive) refl refl refl c.self.invariant
+invariant_of-self-in-Took c = changed_stands c.self.inside.queues c.self.inside.semaphores c.self.inside.descriptions.rows c.args.object c.in-Some.row.now _ c.self.inside.objects _ (tame_receive c.args.sid c.in-Some.row.now) (sets (goal.at.invariant_of-self-in-Took c).In_ok-receive) refl refl c.self.invariant
 
 pub invariant_of-self-in-TookAndAdmitted : goal.invariant_of-self-in-TookAndAdmitted
-invariant_of-self-in-TookAndAdmitted c = changed_stands c.self.inside.queues c.self.inside.semaphores c.self.inside.descriptions.rows c.args.object c.in-Some.row.now _ c.self.inside.objects _ (tame_receive c.args.sid c.in-Some.row.now) (sets (goal.at.invariant_of-self-in-TookAndAdmitted c).In_ok-receive) refl refl refl c.self.invariant
+invariant_of-self-in-TookAndAdmitted c = changed_stands c.self.inside.queues c.self.inside.semaphores c.self.inside.descriptions.rows c.args.object c.in-Some.row.now _ c.self.inside.objects _ (tame_receive c.args.sid c.in-Some.row.now) (sets (goal.at.invariant_of-self-in-TookAndAdmitted c).In_ok-receive) refl refl c.self.invariant
 
 pub invariant_of-self-in-Parked : goal.invariant_of-self-in-Parked
-invariant_of-self-in-Parked c = changed_stands c.self.inside.queues c.self.inside.semaphores c.self.inside.descriptions.rows c.args.object c.in-Some.row.now _ c.self.inside.objects _ (tame_receive c.args.sid c.in-Some.row.now) (sets (goal.at.invariant_of-self-in-Parked c).In_ok-receive) refl refl refl c.self.invariant
-
-pub set_parked-requires : goal.set_parked-requires
-set_parked-requires c =
-    let found = admitted_in _ c.in-TookAndAdmitted.field-0 c.in-TookAndAdmitted.sender (ap Some (sym c.in-TookAndAdmitted.is) ∙ c.in_ok-receive.ensures.outcome) in
-    let stands = c.requires.sender found.0 found.1.1.0 (queue_there (goal.at.set_parked-requires c).In-Some ∙ found.1.0) found.1.1.1.0 in
-    rw (c.deref_mut.ensures.value, ap (λ (t : Kept). length t.sessions) c.self.view_is) (subst (λ (s : Sid). s.0 < length c.args.self.now.sessions) found.1.1.1.1 stands)
+invariant_of-self-in-Parked c = changed_stands c.self.inside.queues c.self.inside.semaphores c.self.inside.descriptions.rows c.args.object c.in-Some.row.now _ c.self.inside.objects _ (tame_receive c.args.sid c.in-Some.row.now) (sets (goal.at.invariant_of-self-in-Parked c).In_ok-receive) refl refl c.self.invariant
 
 pub returns-in-Took-clause-ok : goal.returns-in-Took-clause-ok
 returns-in-Took-clause-ok c =
     let inside = c.self.inside in
-    let outcome = ap Some (sym c.in-Took.is) ∙ c.in_ok-receive.ensures.outcome ∙ ap (option_map receive_outcome) (sym (queue_there (goal.at.returns-in-Took-clause-ok c).In-Some)) ∙ sym (ap (λ (t : Kept). option_map receive_outcome (queue_at t.objects c.args.object)) c.self.view_is) in
+    let outcome = ap Some (sym c.in-Took.is) ∙ c.in_ok-receive.ensures.outcome ∙ ap (option_map receive_outcome) (sym (queue_there (goal.at.returns-in-Took-clause-ok c).In-Some)) ∙ sym (ap (λ (t : TablesView). option_map receive_outcome (queue_at t.objects c.args.object)) c.self.view_is) in
     rw (← c.self.view_is) (after_receive_is (the_view inside) c.args.object c.args.sid _ _ _ outcome refl (rows_changed c.args.object (with_queue (received c.args.sid)) c.in-Some.row.now inside.objects _ c.self.invariant.counted (sets (goal.at.returns-in-Took-clause-ok c).In_ok-receive)))
 
 pub returns-in-TookAndAdmitted-clause-ok : goal.returns-in-TookAndAdmitted-clause-ok
 returns-in-TookAndAdmitted-clause-ok c =
     let inside = c.self.inside in
-    let outcome = ap Some (sym c.in-TookAndAdmitted.is) ∙ c.in_ok-receive.ensures.outcome ∙ ap (option_map receive_outcome) (sym (queue_there (goal.at.returns-in-TookAndAdmitted-clause-ok c).In-Some)) ∙ sym (ap (λ (t : Kept). option_map receive_outcome (queue_at t.objects c.args.object)) c.self.view_is) in
-    rw (← c.self.view_is) (after_receive_is (the_view inside) c.args.object c.args.sid _ _ _ outcome (parked_items inside.sessions c.set_parked.new.sessions None c.in-TookAndAdmitted.sender.0 (c.set_parked.ensures ∙ ap (λ (l : List Session). changed (with_parked None) l c.in-TookAndAdmitted.sender.0) c.deref_mut.ensures.value)) (rows_changed c.args.object (with_queue (received c.args.sid)) c.in-Some.row.now inside.objects _ c.self.invariant.counted (sets (goal.at.returns-in-TookAndAdmitted-clause-ok c).In_ok-receive)))
+    let outcome = ap Some (sym c.in-TookAndAdmitted.is) ∙ c.in_ok-receive.ensures.outcome ∙ ap (option_map receive_outcome) (sym (queue_there (goal.at.returns-in-TookAndAdmitted-clause-ok c).In-Some)) ∙ sym (ap (λ (t : TablesView). option_map receive_outcome (queue_at t.objects c.args.object)) c.self.view_is) in
+    rw (← c.self.view_is) (after_receive_is (the_view inside) c.args.object c.args.sid _ _ _ outcome c.set_parked.ensures (rows_changed c.args.object (with_queue (received c.args.sid)) c.in-Some.row.now inside.objects _ c.self.invariant.counted (sets (goal.at.returns-in-TookAndAdmitted-clause-ok c).In_ok-receive)))
 
 pub returns-in-Parked-clause-ok : goal.returns-in-Parked-clause-ok
 returns-in-Parked-clause-ok c =
     let inside = c.self.inside in
-    let outcome = ap Some (sym c.in-Parked.is) ∙ c.in_ok-receive.ensures.outcome ∙ ap (option_map receive_outcome) (sym (queue_there (goal.at.returns-in-Parked-clause-ok c).In-Some)) ∙ sym (ap (λ (t : Kept). option_map receive_outcome (queue_at t.objects c.args.object)) c.self.view_is) in
-    rw (← c.self.view_is) (after_receive_is (the_view inside) c.args.object c.args.sid _ _ _ outcome (parked_items inside.sessions c.set_parked-in-Parked.new.sessions (Some c.args.object) c.args.sid.0 (c.set_parked-in-Parked.ensures ∙ ap (λ (l : List Session). changed (with_parked (Some c.args.object)) l c.args.sid.0) c.deref_mut-in-Parked.ensures.value)) (rows_changed c.args.object (with_queue (received c.args.sid)) c.in-Some.row.now inside.objects _ c.self.invariant.counted (sets (goal.at.returns-in-Parked-clause-ok c).In_ok-receive)))
+    let outcome = ap Some (sym c.in-Parked.is) ∙ c.in_ok-receive.ensures.outcome ∙ ap (option_map receive_outcome) (sym (queue_there (goal.at.returns-in-Parked-clause-ok c).In-Some)) ∙ sym (ap (λ (t : TablesView). option_map receive_outcome (queue_at t.objects c.args.object)) c.self.view_is) in
+    rw (← c.self.view_is) (after_receive_is (the_view inside) c.args.object c.args.sid _ _ _ outcome c.set_parked-in-Parked.ensures (rows_changed c.args.object (with_queue (received c.args.sid)) c.in-Some.row.now inside.objects _ c.self.invariant.counted (sets (goal.at.returns-in-Parked-clause-ok c).In_ok-receive)))

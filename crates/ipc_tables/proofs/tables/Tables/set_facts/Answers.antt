@@ -11,7 +11,7 @@ use Rattle.ipc_tables.proofs.tables.Tables.set_facts.Goals as goal
 pub invariant_of-self : goal.invariant_of-self
 invariant_of-self c =
     let inside = c.self.inside in
-    changed_stands inside.queues inside.semaphores inside.descriptions.rows c.in-Object.object c.in-Some.row.now (with_facts c.args.facts c.in-Some.row.now) inside.objects _ (tame_facts c.args.facts c.in-Some.row.now) (record { there = sym c.get_mut.ensures.value ∙ ap option_copied_mut c.in-Some.is; sets = (c.get_mut.follows.holds (with_facts c.args.facts c.in-Some.row.now)).0 }) refl refl refl c.self.invariant
+    changed_stands inside.queues inside.semaphores inside.descriptions.rows c.in-Object.object c.in-Some.row.now (with_facts c.args.facts c.in-Some.row.now) inside.objects _ (tame_facts c.args.facts c.in-Some.row.now) (record { there = sym c.get_mut.ensures.value ∙ ap option_copied_mut c.in-Some.is; sets = (c.get_mut.follows.holds (with_facts c.args.facts c.in-Some.row.now)).0 }) refl refl c.self.invariant
 
 pub invariant_of-self-in-Directory-Mq : goal.invariant_of-self-in-Directory-Mq
 invariant_of-self-in-Directory-Mq c =

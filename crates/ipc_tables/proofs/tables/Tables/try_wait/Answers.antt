@@ -14,8 +14,8 @@ pub invariant_of-self : goal.invariant_of-self
 invariant_of-self c =
     let inside = c.self.inside in
     elim c.match-get_mut.branch [
-      | in-Some w ↦ rw w.self-inside-is (changed_stands inside.queues inside.semaphores inside.descriptions.rows c.args.object w.in-Some.row.now (with_semaphore tried w.in-Some.row.now) inside.objects _ (tame_semaphore tried w.in-Some.row.now) (sets_body c.args.object w.in-Some.row.now w.try_wait.new.self _ inside.objects.rows.entries (c.get_mut.follows.lender (record w.in-Some.row.now { body = w.try_wait.new.self })).entries (sym c.get_mut.ensures.value ∙ ap option_copied_mut w.in-Some.is) (c.get_mut.follows.holds (record w.in-Some.row.now { body = w.try_wait.new.self })).0 w.try_wait.ensures) refl refl refl c.self.invariant)
-      | in_default w ↦ rw w.self-inside-is (same_stands inside.queues inside.semaphores inside.descriptions.rows inside.objects _ (ap (λ (m : BTreeMap ℕ ObjectRow). m.entries) c.get_mut.follows.holds-at-none) refl refl refl c.self.invariant)
+      | in-Some w ↦ rw w.self-inside-is (changed_stands inside.queues inside.semaphores inside.descriptions.rows c.args.object w.in-Some.row.now (with_semaphore tried w.in-Some.row.now) inside.objects _ (tame_semaphore tried w.in-Some.row.now) (sets_body c.args.object w.in-Some.row.now w.try_wait.new.self _ inside.objects.rows.entries (c.get_mut.follows.lender (record w.in-Some.row.now { body = w.try_wait.new.self })).entries (sym c.get_mut.ensures.value ∙ ap option_copied_mut w.in-Some.is) (c.get_mut.follows.holds (record w.in-Some.row.now { body = w.try_wait.new.self })).0 w.try_wait.ensures) refl refl c.self.invariant)
+      | in_default w ↦ rw w.self-inside-is (same_stands inside.queues inside.semaphores inside.descriptions.rows inside.objects _ (ap (λ (m : BTreeMap ℕ ObjectRow). m.entries) c.get_mut.follows.holds-at-none) refl refl c.self.invariant)
     ]
 
 pub returns : goal.returns

@@ -10,7 +10,7 @@ invariant_of-self-in-Err g c =
     rw (c.remove.ensures.entries, c.in_ok-insert.ensures.entries, insert_last 0 calls next c.args.call c.self.invariant.rising, remove_last 0 calls next c.args.call c.self.invariant.rising)
     record {
       rising = c.self.invariant.rising;
-      held = still_held c.self.inside.numbers c.enter.new.self _ c.self.invariant.held c.in-Err.ensures.err;
+      held = still_held c.self.inside.numbers c.enter.new.self _ c.self.invariant.held c.in-Err.ensures.err c.in-Err.ensures.alone;
     }
 
 pub returns-in-Err-clause-err : goal.returns-in-Err-clause-err
@@ -27,7 +27,7 @@ invariant_of-self-2 g c =
     rw (c.in_ok-insert.ensures.entries, insert_last 0 calls next c.args.call c.self.invariant.rising, c.in-Some.ensures.1)
     record {
       rising = rise_push 0 calls next c.args.call c.self.invariant.rising;
-      held = entered c.self.inside.numbers c.enter.new.self _ _ c.session-session.result.0 next c.self.invariant.held c.in_default-enter.ensures.ok (λ q. rw c.session-session.ensures (numbers_push caller q calls next c.args.call));
+      held = entered c.self.inside.numbers c.enter.new.self _ _ c.session-session.result.0 next c.self.invariant.held c.in_default-enter.ensures.ok c.in_default-enter.ensures.alone (λ q. rw c.session-session.ensures (numbers_push caller q calls next c.args.call));
     }
 
 pub returns-clause-ok : goal.returns-clause-ok

@@ -11,5 +11,5 @@ invariant_of-self-2 g c =
     let held = rw c.in_ok-call.ensures.removal at c.self.invariant.held in
     record {
       rising = rise_from 0 _ left_calls c.self.inside.next (omega arith) rising.1;
-      held = left c.self.inside.numbers c.leave.new.self _ _ c.session.result.0 held c.leave.ensures (λ q. rw c.session.ensures (numbers_served caller q _ c.in_ok-call.call left_calls));
+      held = left c.self.inside.numbers c.leave.new.self _ _ c.session.result.0 held c.leave.ensures.rest c.leave.ensures.alone (λ q. rw c.session.ensures (numbers_served caller q _ c.in_ok-call.call left_calls));
     }

@@ -31,7 +31,7 @@ invariant_of-self g c =
     let gone = one_withdrawn caller s 0 c.in-Some.number one.0 calls c.self.inside.next c.self.invariant.rising one.1 in
     rw c.remove.ensures.entries record {
       rising = gone.rising;
-      held = left c.self.inside.numbers c.leave.new.self _ _ s c.self.invariant.held c.leave.ensures gone.numbers;
+      held = left c.self.inside.numbers c.leave.new.self _ _ s c.self.invariant.held c.leave.ensures.rest c.leave.ensures.alone gone.numbers;
     }
 
 pub returns-clause-found : goal.returns-clause-found

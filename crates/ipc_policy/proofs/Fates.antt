@@ -1,0 +1,6 @@
+-- What became of each message.
+pub mod Sent
+pub mod Tracing
+pub mod Delivering
+pub mod Bringing
+pub mod OneFate

@@ -1,0 +1,4 @@
+-- Descriptions and what they give.
+pub mod Holding
+pub mod Granting
+pub mod HeldRights

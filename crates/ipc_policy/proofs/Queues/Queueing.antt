@@ -1,0 +1,84 @@
+-- What one accepted event does to a queue, to its registration, to a semaphore, to a session's parked call, and to its answers.
+use Rattle.std.proofs.Common.{◌≡◌, ℕ, ◌+◌, ◌-◌, ◌++◌, ◌∷◌, [], length, cond, Option, Some, None, refl, sym, ap, ◌∙◌}
+use Rattle.std.specs.Prelude.{unwrap_or}
+use Rattle.std.specs.Option.{option_or}
+use Rattle.ipc_terms.specs.Objects.{value_asked}
+use Rattle.ipc_terms.specs.declared.rule.Rule.{Rule}
+use Rattle.ipc_terms.specs.declared.call.Answer.TheVariants.{Refused}
+use Rattle.ipc_terms.specs.declared.record.Event.{Event}
+use Rattle.ipc_policy.specs.declared.config.Config.{Config}
+use Rattle.ipc_policy.specs.History.{History, newest}
+use Rattle.ipc_policy.specs.Sessions.{hellos, live}
+use Rattle.ipc_policy.specs.Descriptions.{holds}
+use Rattle.ipc_policy.specs.Queues.{act_by, queue, queue_after, room, attributes, is_full, is_empty}
+use Rattle.ipc_policy.specs.Names.{is_bound, creations}
+use Rattle.ipc_policy.specs.Semaphores.{semaphore_act, semaphore_act_by, gives_value, with_first, semaphore_after, semaphore, posts, passes, given_value, value, is_zero}
+use Rattle.ipc_policy.specs.Registrations.{registered}
+use Rattle.ipc_policy.specs.Parking.{parked}
+use Rattle.ipc_policy.specs.Grow.{live_after, first_value, given_value_after, posts_after, passes_after, registered_after, parked_after}
+use Rattle.ipc_policy.specs.Verdict.{verdict, caller, answers, answers_at, for_session, outbox}
+use Rattle.ipc_policy.proofs.Histories.Growing.{live_grows, made_grows}
+
+pub queue_grows : (c : Config) (h : History) (e : Event) (o : ℕ) → queue c (record { event = e; rule = None } ∷ h) o ≡ queue_after (room (attributes c h o)) (act_by (length h) (holds h) o e) (queue c h o)
+unfolding queue
+queue_grows c h e o = refl
+
+or_nothing : {A : Type 0} (w : Option A) → option_or w None ≡ w
+or_nothing None = refl
+or_nothing (Some x) = refl
+
+pub first_value_is : (h : History) (e : Event) (o : ℕ) → gives_value o e h ≡ first_value o e (is_bound h) (creations h)
+first_value_is h e o = sym (or_nothing (gives_value o e h)) ∙ made_grows h e o (λ asked. value_asked asked.kind) None
+
+pub semaphore_grows : (h : History) (e : Event) (o : ℕ) → semaphore (record { event = e; rule = None } ∷ h) o ≡ with_first (first_value o e (is_bound h) (creations h)) (semaphore_after (semaphore_act_by (length h) (holds h) o e) (semaphore h o))
+unfolding semaphore
+semaphore_grows h e o = ap (λ v. with_first v (semaphore_after (semaphore_act o e h) (semaphore h o))) (first_value_is h e o)
+
+-- what its value is counted from
+or_first : (v w : Option ℕ) → unwrap_or (option_or v w) 0 ≡ unwrap_or v (unwrap_or w 0)
+or_first None w = refl
+or_first (Some n) w = refl
+
+pub given_value_grows : (h : History) (e : Event) (o : ℕ) → given_value (record { event = e; rule = None } ∷ h) o ≡ given_value_after (first_value o e (is_bound h) (creations h)) (given_value h o)
+given_value_grows h e o = or_first (gives_value o e h) (newest (gives_value o) h) ∙ ap (λ v. unwrap_or v (given_value h o)) (first_value_is h e o)
+
+pub value_grows : (h : History) (e : Event) (o : ℕ) → value (record { event = e; rule = None } ∷ h) o ≡ (given_value_after (first_value o e (is_bound h) (creations h)) (given_value h o) + posts_after (semaphore_act o e h) (posts h o)) - passes_after (semaphore_act o e h) (semaphore h o) (passes h o)
+unfolding value
+value_grows h e o = ap (λ n. (n + posts_after (semaphore_act o e h) (posts h o)) - passes_after (semaphore_act o e h) (semaphore h o) (passes h o)) (given_value_grows h e o)
+
+pub refused_semaphore : (h : History) (e : Event) (rule : Rule) (o : ℕ) → semaphore (record { event = e; rule = Some rule } ∷ h) o ≡ semaphore h o
+unfolding semaphore
+refused_semaphore h e rule o = refl
+
+pub registered_grows : (c : Config) (h : History) (e : Event) (o : ℕ) → registered c (record { event = e; rule = None } ∷ h) o ≡ registered_after o e (length h) (holds h) (queue c h o) (registered c h o)
+unfolding registered
+registered_grows c h e o = refl
+
+pub parked_grows : (c : Config) (h : History) (e : Event) (s : ℕ) → parked c (record { event = e; rule = None } ∷ h) s ≡ parked_after s e (length h) (holds h) (is_full c h) (is_empty c h) (is_zero c h) (queue c h) (semaphore h) (parked c h s)
+unfolding parked
+parked_grows c h e s = refl
+
+pub outbox_grows : (c : Config) (h : History) (e : Event) (s : ℕ) → outbox c (record { event = e; rule = None } ∷ h) s ≡ outbox c h s ++ cond (live_after s e (hellos h) (live h s)) (for_session s (answers c h e)) []
+unfolding outbox
+outbox_grows c h e s = ap (λ b. outbox c h s ++ cond b (for_session s (answers c h e)) []) (live_grows h e s)
+
+-- a refused event changes none of them but the answers of its session
+pub refused_queue : (c : Config) (h : History) (e : Event) (rule : Rule) (o : ℕ) → queue c (record { event = e; rule = Some rule } ∷ h) o ≡ queue c h o
+unfolding queue
+refused_queue c h e rule o = refl
+
+pub refused_parked : (c : Config) (h : History) (e : Event) (rule : Rule) (s : ℕ) → parked c (record { event = e; rule = Some rule } ∷ h) s ≡ parked c h s
+unfolding parked
+refused_parked c h e rule s = refl
+
+refused_live : (h : History) (e : Event) (rule : Rule) (s : ℕ) → live (record { event = e; rule = Some rule } ∷ h) s ≡ live h s
+unfolding live
+refused_live h e rule s = refl
+
+refused_outbox : (c : Config) (h : History) (e : Event) (rule : Rule) (s : ℕ) → outbox c (record { event = e; rule = Some rule } ∷ h) s ≡ outbox c h s ++ cond (live h s) (for_session s (answers c h e)) []
+unfolding outbox
+refused_outbox c h e rule s = ap (λ b. outbox c h s ++ cond b (for_session s (answers c h e)) []) (refused_live h e rule s)
+
+pub refused_answered : (c : Config) (h : History) (e : Event) (rule : Rule) (s : ℕ) → verdict c h e ≡ Some rule → outbox c (record { event = e; rule = Some rule } ∷ h) s ≡ outbox c h s ++ cond (live h s) (for_session s ((caller e, Refused rule) ∷ [])) []
+unfolding answers
+refused_answered c h e rule s is = rw (refused_outbox c h e rule s) (ap (λ v. outbox c h s ++ cond (live h s) (for_session s (answers_at v c h e)) []) is)

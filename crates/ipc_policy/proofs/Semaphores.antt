@@ -1,0 +1,3 @@
+-- Values of semaphores.
+pub mod SemaphoreBounds
+pub mod ValueCounts

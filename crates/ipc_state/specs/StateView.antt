@@ -1,0 +1,37 @@
+-- What is seen of a state: the configuration, and the history of all events with their verdicts.
+use Rattle.std.specs.Prelude.{ℕ, Option, option_and_then}
+use Rattle.std.specs.Option.{option_map}
+use Rattle.ipc_terms.specs.History.{Message}
+use Rattle.ipc_terms.specs.Objects.{as_semaphore}
+use Rattle.ipc_terms.specs.declared.record.Event.{Event}
+use Rattle.ipc_policy.specs.declared.config.Config.{Config}
+use Rattle.ipc_policy.specs.History.{History}
+use Rattle.ipc_policy.specs.Objects.{object}
+use Rattle.ipc_policy.specs.Descriptions.{holds}
+use Rattle.ipc_policy.specs.Queues.{Send, Queue, attributes, queue}
+use Rattle.ipc_policy.specs.Semaphores.{Semaphore, semaphore, value}
+use Rattle.ipc_policy.specs.Verdict.{after_event}
+
+pub record StateView : Type 0 where
+  pub config : Config
+  pub history : History
+
+-- with one event more, and the verdict on it
+abbrev pub with_event : Event → StateView → StateView
+with_event e a = record a { history = after_event a.config a.history e }
+
+-- what a receive of the message gets
+abbrev pub brought : Send → Message
+brought m = record { priority = m.priority; bytes = m.bytes }
+
+-- the queue that session s has by description d, if it is one
+abbrev pub queue_by : Config → History → ℕ → ℕ → Option Queue
+queue_by c h s d = option_and_then (λ x. option_map (λ given. queue c h x.object) (attributes c h x.object)) (holds h s d)
+
+-- the semaphore that session s has by description d, if it is one
+abbrev pub semaphore_by : Config → History → ℕ → ℕ → Option Semaphore
+semaphore_by c h s d = option_and_then (λ x. option_map (λ first_value. semaphore h x.object) (as_semaphore (object c h x.object))) (holds h s d)
+
+-- the value of the semaphore that session s has by description d, if it is one
+abbrev pub value_by : Config → History → ℕ → ℕ → Option ℕ
+value_by c h s d = option_and_then (λ x. option_map (λ first_value. value h x.object) (as_semaphore (object c h x.object))) (holds h s d)
