@@ -1,4 +1,4 @@
-.PHONY: demo build install test rows
+.PHONY: demo build install test rows docs exhaust
 
 PREFIX = /usr/local
 
@@ -30,3 +30,12 @@ test:
 # Runs the programs that the gate or a build left, over inputs whose outcome is known: both streams, and statuses.
 rows:
 	@rows/run.py
+
+# Compares the documents with what they speak of.
+docs:
+	@docs/check.py
+
+# Refuses each growth in turn, and disturbs each read and write in turn, in the programs that the gate left. The last line
+# counts the allocations refused and the runs that failed.
+exhaust:
+	@exhaust/run.py
