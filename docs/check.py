@@ -1,7 +1,7 @@
 #!/usr/bin/env python3
 """Compares the documents with what they speak of: the table of rules in MAP.md, and the wrong bodies that PROOFS.md names.
 
-Each rule's number, error, definition, function, row and edit must be those of the code, and each wrong body must be an edit
+Each rule's number, error, name, definition, function, row and edit must be those of the code, and each wrong body must be an edit
 of a crate. Prints what differs, and how many names were compared.
 """
 
@@ -27,11 +27,11 @@ def numbers():
     return {rule: int(number) for rule, number in re.findall(r"^    (\w+) = (\d+),$", text("crates/ipc_terms/src/rule.rt"), re.M)}
 
 
-def errors():
-    """Each rule's error, by the arms of `errno`."""
-    body = text("crates/ipc_terms/src/rule.rt").split("pub fn errno", 1)[1]
+def words(function):
+    """Each rule's word, by the arms of `errno` or `name`."""
+    body = text("crates/ipc_terms/src/rule.rt").split(f"pub fn {function}", 1)[1].split("pub fn ", 1)[0]
     arms = re.findall(r"((?:Rule::\w+\s*\|?\s*)+)=> \"(\w+)\"", body)
-    return {rule: error for heads, error in arms for rule in re.findall(r"Rule::(\w+)", heads)}
+    return {rule: word for heads, word in arms for rule in re.findall(r"Rule::(\w+)", heads)}
 
 
 def main():
@@ -39,7 +39,7 @@ def main():
     rows = {path.stem for path in CRATES.glob("*/data/*") if path.suffix == ".in"}
     definitions = set(re.findall(r"^(?:abbrev |unfoldable )?pub (\w+) :", text("crates/ipc_policy/specs/Rules.antt"), re.M))
     asked = dict(re.findall(r"^        (\w+) => (\w+),$", text("crates/ipc_rules/src/rules.rt"), re.M))
-    number, error = numbers(), errors()
+    number, error, name = numbers(), words("errno"), words("name")
     wrong, compared = [], 0
 
     def same(what, found, wanted):
@@ -53,6 +53,7 @@ def main():
     for place, rule, errno, function, row, edit in table:
         same(f"number of {rule}", place, number.get(rule))
         same(f"error of {rule}", errno, error.get(rule))
+        same(f"name of {rule}", rule, name.get(rule))
         same(f"function of {rule}", function, asked.get(rule))
         same(f"definition of {rule}", function in definitions, True)
         same(f"row {row}", row in rows, True)

@@ -17,7 +17,6 @@ mod parsing;
 mod printing;
 mod readings;
 mod records;
-mod rules;
 mod usage;
 mod values;
 

@@ -77,19 +77,19 @@ fn lists_of_names_are_their_names_in_order(rt: HostRuntime) -> Result<(), Fail> 
     Ok(())
 }
 
-/// Rules, their numbers and their error words.
-static RULES: [(Rule, u16, &str); 5] = [
-    (Rule::NoSession, 1, "ESRCH"),
-    (Rule::NameLong, 5, "ENAMETOOLONG"),
-    (Rule::Sticky, 17, "EACCES"),
-    (Rule::WouldBlock, 29, "EAGAIN"),
-    (Rule::BadKey, 31, "EACCES"),
+/// Rules, their numbers, their error words and their names.
+static RULES: [(Rule, u16, &str, &str); 5] = [
+    (Rule::NoSession, 1, "ESRCH", "NoSession"),
+    (Rule::NameLong, 5, "ENAMETOOLONG", "NameLong"),
+    (Rule::Sticky, 17, "EACCES", "Sticky"),
+    (Rule::WouldBlock, 29, "EAGAIN", "WouldBlock"),
+    (Rule::BadKey, 31, "EACCES", "BadKey"),
 ];
 
 #[test]
-fn rules_have_numbers_and_error_words(_rt: HostRuntime) -> Result<(), Fail> {
-    for (rule, number, word) in &RULES {
-        if rule.number() != *number || rule.errno() != *word {
+fn rules_have_numbers_error_words_and_names(_rt: HostRuntime) -> Result<(), Fail> {
+    for (rule, number, word, name) in &RULES {
+        if rule.number() != *number || rule.errno() != *word || rule.name() != *name {
             return Err(Fail::new(format_args!("at {word}")));
         }
     }
