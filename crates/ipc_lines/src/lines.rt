@@ -6,6 +6,7 @@ ghost use Rattle.ipc_lines.specs.Lines.{lines_read, reads_left};
 
 use crate::fault::LineFault;
 use crate::output::Output;
+use memchr::memchr;
 use std::alloc::Global;
 use std::io::{BufRead, BufReader, ErrorKind, Read, Take, Write};
 use std::{io, str};
@@ -90,7 +91,7 @@ impl<R: Read + Drop> Lines<R> {
     /// Whether the next line was read in whole together with an earlier one, so that nothing is
     /// waited for.
     pub fn is_at_hand(&self) -> bool {
-        self.input.get_ref().buffer().contains(&b'\n')
+        memchr(b'\n', self.input.get_ref().buffer()).is_some()
     }
 
     /// The next line, and `None` at the input's end. A line has at most 1,048,576 bytes without its line
@@ -158,10 +159,34 @@ impl<R: Read + Drop> Lines<R> {
     {
         self.line.clear();
         self.input.set_limit(LONGEST_LINE + 1);
-        match self.input.read_until(b'\n', &mut self.line) {
-            Ok(_) => Ok(()),
-            Err(e) if e.kind() == ErrorKind::OutOfMemory => Err(LineFault::Memory),
-            Err(_) => Err(LineFault::Read),
+        // Each turn but the first makes a read.
+        for _ in 0..=MOST_READS {
+            if self.read_piece()? {
+                return Ok(());
+            }
         }
+        Err(LineFault::Read)
+    }
+
+    /// Adds the bytes that are at hand to the line, up to a line feed; reads some where none are. Says whether the
+    /// line ends there.
+    fn read_piece(&mut self) -> Result<bool, LineFault>
+        ensures counted { self.new.count ≡ self.old.count }
+        ensures blamed { IfErr result (BlamesOnly (self.old.count + 1)) }
+    {
+        let found = match self.input.fill_buf() {
+            Ok(found) => found,
+            Err(e) if e.kind() == ErrorKind::Interrupted => return Ok(false),
+            Err(_) => return Err(LineFault::Read),
+        };
+        let end = match memchr(b'\n', found) {
+            Some(place) => place + 1,
+            None => found.len(),
+        };
+        if self.line.extend_from_slice(&found[..end]).is_err() {
+            return Err(LineFault::Memory);
+        }
+        self.input.consume(end);
+        Ok(end == 0 || self.line.last() == Some(&b'\n'))
     }
 }
