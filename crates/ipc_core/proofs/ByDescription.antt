@@ -14,7 +14,7 @@ use Rattle.ipc_queue.specs.Tickets.{Tickets, next_place}
 use Rattle.ipc_sem.specs.Counters.{Counter}
 use Rattle.ipc_policy.specs.declared.asking.Described.{Described}
 use Rattle.ipc_policy.specs.declared.config.Config.{Config}
-use Rattle.ipc_policy.specs.History.{History, there_is}
+use Rattle.ipc_policy.specs.History.{History, is_some_and}
 use Rattle.ipc_policy.specs.Descriptions.{holds}
 use Rattle.ipc_policy.specs.Queues.{Send, next, is_full, is_empty}
 use Rattle.ipc_policy.specs.Registrations.{registered}
@@ -76,20 +76,20 @@ message_some_by c h e place k = at (description e) k where
   at (Some x) k = message_some c h (caller e).0 x.desc.0 place k
 
 -- what a send is told
-pub full_by : (c : Config) (h : History) (e : Event) (priority : ℕ) (bytes : List ℕ) → there_is (λ x. is_full c h x.object) (by_description (holds h) e) ≡ true → answers_of (by_description (holds h) e) (send_answers c h (caller e) priority bytes) ≡ []
+pub full_by : (c : Config) (h : History) (e : Event) (priority : ℕ) (bytes : List ℕ) → is_some_and (λ x. is_full c h x.object) (by_description (holds h) e) ≡ true → answers_of (by_description (holds h) e) (send_answers c h (caller e) priority bytes) ≡ []
 full_by c h e priority bytes full = at (description e) full where
-  at : (w : Option Described) → there_is (λ x. is_full c h x.object) (option_and_then (λ (x : Described). holds h (caller e).0 x.desc.0) w) ≡ true → answers_of (option_and_then (λ (x : Described). holds h (caller e).0 x.desc.0) w) (send_answers c h (caller e) priority bytes) ≡ []
+  at : (w : Option Described) → is_some_and (λ x. is_full c h x.object) (option_and_then (λ (x : Described). holds h (caller e).0 x.desc.0) w) ≡ true → answers_of (option_and_then (λ (x : Described). holds h (caller e).0 x.desc.0) w) (send_answers c h (caller e) priority bytes) ≡ []
   at None k = absurd cc
   at (Some x) k = full_told c h (caller e) x.desc.0 priority bytes k
 
-pub served_by : (c : Config) (h : History) (e : Event) (priority : ℕ) (bytes : List ℕ) (r : Sid) → IsSome (by_description (attributes_held c h) e) → there_is (λ x. is_full c h x.object) (by_description (holds h) e) ≡ false → option_and_then (λ q. option_map (λ w. record { 0 = w.session }) (first q.receivers)) (by_description (queue_by c h) e) ≡ Some r → (caller e, Sent) ∷ (r, Received priority bytes) ∷ [] ≡ answers_of (by_description (holds h) e) (send_answers c h (caller e) priority bytes)
+pub served_by : (c : Config) (h : History) (e : Event) (priority : ℕ) (bytes : List ℕ) (r : Sid) → IsSome (by_description (attributes_held c h) e) → is_some_and (λ x. is_full c h x.object) (by_description (holds h) e) ≡ false → option_and_then (λ q. option_map (λ w. record { 0 = w.session }) (first q.receivers)) (by_description (queue_by c h) e) ≡ Some r → (caller e, Sent) ∷ (r, Received priority bytes) ∷ [] ≡ answers_of (by_description (holds h) e) (send_answers c h (caller e) priority bytes)
 served_by c h e priority bytes r some full k = at (description e) some full k where
-  at : (w : Option Described) → IsSome (option_and_then (λ (x : Described). attributes_held c h (caller e).0 x.desc.0) w) → there_is (λ x. is_full c h x.object) (option_and_then (λ (x : Described). holds h (caller e).0 x.desc.0) w) ≡ false → option_and_then (λ q. option_map (λ w. record { 0 = w.session }) (first q.receivers)) (option_and_then (λ (x : Described). queue_by c h (caller e).0 x.desc.0) w) ≡ Some r → (caller e, Sent) ∷ (r, Received priority bytes) ∷ [] ≡ answers_of (option_and_then (λ (x : Described). holds h (caller e).0 x.desc.0) w) (send_answers c h (caller e) priority bytes)
+  at : (w : Option Described) → IsSome (option_and_then (λ (x : Described). attributes_held c h (caller e).0 x.desc.0) w) → is_some_and (λ x. is_full c h x.object) (option_and_then (λ (x : Described). holds h (caller e).0 x.desc.0) w) ≡ false → option_and_then (λ q. option_map (λ w. record { 0 = w.session }) (first q.receivers)) (option_and_then (λ (x : Described). queue_by c h (caller e).0 x.desc.0) w) ≡ Some r → (caller e, Sent) ∷ (r, Received priority bytes) ∷ [] ≡ answers_of (option_and_then (λ (x : Described). holds h (caller e).0 x.desc.0) w) (send_answers c h (caller e) priority bytes)
   at None s f k = absurd cc
   at (Some x) s f k = served_told c h (caller e) x.desc.0 priority bytes r s f k
 
-pub noticed_by : (c : Config) (h : History) (e : Event) (priority : ℕ) (bytes : List ℕ) (told : List (Sid × Answer)) → IsSome (by_description (attributes_held c h) e) → there_is (λ x. is_full c h x.object) (by_description (holds h) e) ≡ false → ◌≡◌ {A = Option Sid} (option_and_then (λ q. option_map (λ w. record { 0 = w.session }) (first q.receivers)) (by_description (queue_by c h) e)) None → told ≡ noticed (cond (there_is (λ x. is_empty c h x.object) (by_description (holds h) e)) (option_and_then (λ x. registered c h x.object) (by_description (holds h) e)) None) → (caller e, Sent) ∷ told ≡ answers_of (by_description (holds h) e) (send_answers c h (caller e) priority bytes)
+pub noticed_by : (c : Config) (h : History) (e : Event) (priority : ℕ) (bytes : List ℕ) (told : List (Sid × Answer)) → IsSome (by_description (attributes_held c h) e) → is_some_and (λ x. is_full c h x.object) (by_description (holds h) e) ≡ false → ◌≡◌ {A = Option Sid} (option_and_then (λ q. option_map (λ w. record { 0 = w.session }) (first q.receivers)) (by_description (queue_by c h) e)) None → told ≡ noticed (cond (is_some_and (λ x. is_empty c h x.object) (by_description (holds h) e)) (option_and_then (λ x. registered c h x.object) (by_description (holds h) e)) None) → (caller e, Sent) ∷ told ≡ answers_of (by_description (holds h) e) (send_answers c h (caller e) priority bytes)
 noticed_by c h e priority bytes told some full k is = at (description e) some full k is where
-  at : (w : Option Described) → IsSome (option_and_then (λ (x : Described). attributes_held c h (caller e).0 x.desc.0) w) → there_is (λ x. is_full c h x.object) (option_and_then (λ (x : Described). holds h (caller e).0 x.desc.0) w) ≡ false → ◌≡◌ {A = Option Sid} (option_and_then (λ q. option_map (λ w. record { 0 = w.session }) (first q.receivers)) (option_and_then (λ (x : Described). queue_by c h (caller e).0 x.desc.0) w)) None → told ≡ noticed (cond (there_is (λ x. is_empty c h x.object) (option_and_then (λ (x : Described). holds h (caller e).0 x.desc.0) w)) (option_and_then (λ x. registered c h x.object) (option_and_then (λ (x : Described). holds h (caller e).0 x.desc.0) w)) None) → (caller e, Sent) ∷ told ≡ answers_of (option_and_then (λ (x : Described). holds h (caller e).0 x.desc.0) w) (send_answers c h (caller e) priority bytes)
+  at : (w : Option Described) → IsSome (option_and_then (λ (x : Described). attributes_held c h (caller e).0 x.desc.0) w) → is_some_and (λ x. is_full c h x.object) (option_and_then (λ (x : Described). holds h (caller e).0 x.desc.0) w) ≡ false → ◌≡◌ {A = Option Sid} (option_and_then (λ q. option_map (λ w. record { 0 = w.session }) (first q.receivers)) (option_and_then (λ (x : Described). queue_by c h (caller e).0 x.desc.0) w)) None → told ≡ noticed (cond (is_some_and (λ x. is_empty c h x.object) (option_and_then (λ (x : Described). holds h (caller e).0 x.desc.0) w)) (option_and_then (λ x. registered c h x.object) (option_and_then (λ (x : Described). holds h (caller e).0 x.desc.0) w)) None) → (caller e, Sent) ∷ told ≡ answers_of (option_and_then (λ (x : Described). holds h (caller e).0 x.desc.0) w) (send_answers c h (caller e) priority bytes)
   at None s f k i = absurd cc
   at (Some x) s f k i = noticed_told c h (caller e) x.desc.0 priority bytes told s f k i

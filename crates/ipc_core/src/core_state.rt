@@ -1,9 +1,9 @@
 //! The core.
 
 ghost use Rattle.std.specs.Prelude.{◌≡◌, ◌≤◌, ◌||◌, ◌++◌, [], IfOk, IfErr, OnOk, OnErr, filter, length, map, take, MatchOption};
+ghost use Rattle.std.specs.Option.{option_to_list};
 ghost use Rattle.ipc_terms.specs.Lists.{changed};
 ghost use Rattle.ipc_core.specs.Boxes.{box_at, taken};
-ghost use Rattle.ipc_policy.specs.History.{listed};
 ghost use Rattle.ipc_policy.specs.Sessions.{live};
 ghost use Rattle.ipc_policy.specs.Verdict.{verdict, answers, Legal, all_answers};
 ghost use Rattle.ipc_core.specs.Outboxes.{BoxesAgree, starts, told_list, session_at, after_step, after_steps};
@@ -170,7 +170,7 @@ impl Core {
         ensures verdict { IfOk result (λ posted. posted.verdict ≡ verdict self.old.config self.old.history event) }
         ensures caller { IfOk result (λ posted. posted.caller ≡ session_at 0 (answers self.old.config self.old.history event)) }
         ensures other { IfOk result (λ posted. posted.other ≡ session_at 1 (answers self.old.config self.old.history event)) }
-        ensures sessions { IfOk result (λ posted. listed posted.caller ++ listed posted.other ≡ map (λ p. p.0) (answers self.old.config self.old.history event)) }
+        ensures sessions { IfOk result (λ posted. option_to_list posted.caller ++ option_to_list posted.other ≡ map (λ p. p.0) (answers self.old.config self.old.history event)) }
         ensures ok { OnOk result (self.new ≡ after_step event self.old) }
         ensures err { OnErr result (self.new ≡ self.old) }
     {

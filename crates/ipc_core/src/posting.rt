@@ -1,7 +1,7 @@
 //! What a step answers is put into outboxes.
 
 ghost use Rattle.std.specs.Prelude.{◌≡◌, true, ℕ, ◌||◌, [], ◌∷◌, ◌++◌, filter, OnOk};
-ghost use Rattle.ipc_policy.specs.History.{listed};
+ghost use Rattle.std.specs.Option.{option_to_list};
 ghost use Rattle.ipc_policy.specs.Sessions.{live};
 ghost use Rattle.ipc_policy.specs.Verdict.{for_session};
 ghost use Rattle.ipc_core.specs.Boxes.{untaken_by};
@@ -65,7 +65,7 @@ fn are_live(told: &Told, lookup: &Lookup<'_>, is_new: bool) -> bool
 
 /// The answer, if its session is live or starts.
 fn if_live(answer: (Sid, Answer), lookup: &Lookup<'_>, is_new: bool) -> Option<(Sid, Answer)>
-    ensures { listed result ≡ filter (λ p. is_new || live lookup.now.history p.0.0) (answer ∷ []) }
+    ensures { option_to_list result ≡ filter (λ p. is_new || live lookup.now.history p.0.0) (answer ∷ []) }
 {
     if is_new || lookup.is_session_live(answer.0) {
         return Some(answer);

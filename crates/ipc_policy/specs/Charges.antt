@@ -11,7 +11,7 @@ use Rattle.ipc_terms.specs.declared.record.Event.TheVariants.{Do}
 use Rattle.ipc_access.specs.Users.{cred_of}
 use Rattle.ipc_policy.specs.declared.config.Config.{Config}
 use Rattle.ipc_policy.specs.declared.config.TheConstants.{MQ_PRIO_MAX}
-use Rattle.ipc_policy.specs.History.{History, newest, how_many_below, sum_below, there_is}
+use Rattle.ipc_policy.specs.History.{History, newest, how_many_below, sum_below, is_some_and}
 use Rattle.ipc_policy.specs.Names.{creations}
 use Rattle.ipc_policy.specs.Objects.{object}
 use Rattle.ipc_policy.specs.Life.{alive}
@@ -26,7 +26,7 @@ is_queue_alive alive made = alive && is_some (as_queue made)
 
 -- user u created the object
 abbrev pub is_created_by : Uid → Option Object → Bool
-is_created_by u made = there_is (λ x. x.creator.0 == u.0) made
+is_created_by u made = is_some_and (λ x. x.creator.0 == u.0) made
 
 -- what an object takes of the bytes of user u: the bytes of a queue that is alive, where u created it
 abbrev pub charge : Uid → Bool → Option Object → ℕ

@@ -1,6 +1,6 @@
 -- Where a message that is received comes from, and who may receive it.
 use Rattle.std.specs.Prelude.{◌≡◌, Bool, false, ℕ, ◌<◌, ◌≤◌, ◌||◌, List, [], ◌∷◌, length, IsTrue, Option, Some, None, is_none, if◌then◌else◌}
-use Rattle.std.specs.Option.{option_map}
+use Rattle.std.specs.Option.{option_map, option_to_list}
 use Rattle.ipc_terms.specs.declared.ids.Sid.{Sid}
 use Rattle.ipc_terms.specs.declared.facts.Facts.{Facts}
 use Rattle.ipc_terms.specs.declared.call.Answer.{Answer}
@@ -12,12 +12,12 @@ use Rattle.ipc_access.specs.declared.class.Cred.{Cred}
 use Rattle.ipc_access.specs.Class.{granted}
 use Rattle.ipc_policy.specs.declared.config.Config.{Config}
 use Rattle.ipc_policy.specs.declared.config.Held.{Held}
-use Rattle.ipc_policy.specs.History.{History, after_accepted, listed, record_at, before_at}
+use Rattle.ipc_policy.specs.History.{History, after_accepted, record_at, before_at}
 use Rattle.ipc_policy.specs.Sessions.{cred}
 use Rattle.ipc_policy.specs.Names.{Opening, opening, creating}
 use Rattle.ipc_policy.specs.Objects.{facts}
 use Rattle.ipc_policy.specs.Descriptions.{opens, opened, held_as, holds}
-use Rattle.ipc_policy.specs.Queues.{Send, Wait}
+use Rattle.ipc_policy.specs.Queues.{Send, Waiter}
 use Rattle.ipc_policy.specs.Rules.{bits_wanted, reads_only, writes_only}
 use Rattle.ipc_policy.specs.Verdict.{Legal, verdict, answers}
 use Rattle.ipc_policy.specs.Deliveries.{Delivery, delivery, deliveries}
@@ -58,7 +58,7 @@ pub record IsSendTo (c : Config) (h : History) (o : ℕ) (m : Send) : Type 0 whe
 
 -- the record of the place is an accepted receive; from there to the end of the history its session held the description,
 -- of object o and for reading
-pub record IsReceiveFrom (c : Config) (h : History) (o : ℕ) (w : Wait) : Type 0 where
+pub record IsReceiveFrom (c : Config) (h : History) (o : ℕ) (w : Waiter) : Type 0 where
   pub length' : ℕ
   pub recorded : IsAccepted h w.place (Do (record { 0 = w.session }) (MqReceive (record { 0 = w.desc }) length'))
   pub reader : Held
@@ -87,7 +87,7 @@ brings x = record { session = x.receive.session; priority = x.message.priority; 
 abbrev pub EachAnswerIsDelivered : Type 0
 EachAnswerIsDelivered =
     (c : Config) (h : History) (e : Event) →
-    brought (answers c h e) ≡ listed (option_map brings (if is_none (verdict c h e) then delivery c e h else None))
+    brought (answers c h e) ≡ option_to_list (option_map brings (if is_none (verdict c h e) then delivery c e h else None))
 
 -- the message was sent to the object, and the receive was made of it
 pub record IsConfined (c : Config) (h : History) (x : Delivery) : Type 0 where

@@ -7,18 +7,18 @@ use Rattle.ipc_terms.specs.declared.record.Event.TheVariants.{Do}
 use Rattle.ipc_policy.specs.declared.config.Config.{Config}
 use Rattle.ipc_policy.specs.History.{History, newest, how_many}
 use Rattle.ipc_policy.specs.Descriptions.{holds}
-use Rattle.ipc_policy.specs.Queues.{Send, Wait, Act, Sends, Receives, Queue, has_all, next, act, queue, maxmsg}
+use Rattle.ipc_policy.specs.Queues.{Send, Waiter, Act, Sends, Receives, Queue, is_filled, next, act, queue, maxmsg}
 use Rattle.ipc_policy.specs.Rules.{described}
 
 -- a message of a queue, and the receive that gets it
 pub record Delivery : Type 0 where
   pub object : ℕ
   pub message : Send
-  pub receive : Wait
+  pub receive : Waiter
 
 -- a send that does not park gives its message to the longest parked receive, and a receive takes the next message
 abbrev pub delivers : ℕ → ℕ → Act → Queue → Option Delivery
-delivers maxmsg o (Sends m) q = if has_all maxmsg q.contents then None else option_map (λ w. record { object = o; message = m; receive = w }) (first q.receivers)
+delivers maxmsg o (Sends m) q = if is_filled maxmsg q.contents then None else option_map (λ w. record { object = o; message = m; receive = w }) (first q.receivers)
 delivers maxmsg o (Receives w) q = option_map (λ m. record { object = o; message = m; receive = w }) (next q.contents)
 delivers maxmsg o _ q = None
 
@@ -32,13 +32,13 @@ unfoldable pub delivery : Config → Event → History → Option Delivery
 delivery c e before = option_and_then (λ o. delivers (maxmsg c before o) o (act o e before) (queue c before o)) (object_asked before e)
 
 -- the receive that gets the message of the send of place i
-abbrev pub receive_of : ℕ → Option Delivery → Option Wait
+abbrev pub receive_of : ℕ → Option Delivery → Option Waiter
 receive_of i None = None
 receive_of i (Some x) = if x.message.place == i then Some x.receive else None
 
 -- the receive that took the message of the send of place i
-abbrev pub taken_by : Config → History → ℕ → Option Wait
-taken_by c h i = newest (λ e before. receive_of i (delivery c e before)) h
+abbrev pub receive_that_took : Config → History → ℕ → Option Waiter
+receive_that_took c h i = newest (λ e before. receive_of i (delivery c e before)) h
 
 -- how many events delivered it
 abbrev pub deliveries : Config → History → ℕ → ℕ

@@ -35,15 +35,15 @@ gives d e before was = given_by (opening e) where
   given_by (Some asked) = if opens before == d then option_map (held_as asked) (opened before asked) else None
 
 -- session s closes description d, or hangs up
-abbrev pub lets_go : ℕ → ℕ → Event → Bool
-lets_go s d (Do sid (MqClose desc)) = (sid.0 == s) && (desc.0 == d)
-lets_go s d (Do sid (SemClose desc)) = (sid.0 == s) && (desc.0 == d)
-lets_go s d (Hangup sid) = sid.0 == s
-lets_go s d _ = false
+abbrev pub closes : ℕ → ℕ → Event → Bool
+closes s d (Do sid (MqClose desc)) = (sid.0 == s) && (desc.0 == d)
+closes s d (Do sid (SemClose desc)) = (sid.0 == s) && (desc.0 == d)
+closes s d (Hangup sid) = sid.0 == s
+closes s d _ = false
 
 -- it ends when its session closes it or hangs up
 abbrev pub ends_held : ℕ → Held → Event → Bool
-ends_held d held e = lets_go held.session.0 d e
+ends_held d held e = closes held.session.0 d e
 
 -- what description d gives, and to which session
 unfoldable pub held : History → ℕ → Option Held

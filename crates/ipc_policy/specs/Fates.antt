@@ -7,9 +7,9 @@ use Rattle.ipc_policy.specs.declared.config.Config.{Config}
 use Rattle.ipc_policy.specs.History.{History, how_many, before_at}
 use Rattle.ipc_policy.specs.Descriptions.{holds}
 use Rattle.ipc_policy.specs.Life.{alive, gives_object}
-use Rattle.ipc_policy.specs.Queues.{Send, Wait, Act, Withdraws, Queue, act, queue, contents, senders}
+use Rattle.ipc_policy.specs.Queues.{Send, Waiter, Act, Withdraws, Queue, act, queue, contents, senders}
 use Rattle.ipc_policy.specs.Verdict.{Legal}
-use Rattle.ipc_policy.specs.Deliveries.{taken_by, deliveries}
+use Rattle.ipc_policy.specs.Deliveries.{receive_that_took, deliveries}
 use Rattle.ipc_policy.specs.Confined.{IsAccepted, IsSend}
 
 -- the send of place i is in the list
@@ -32,7 +32,7 @@ fates c h o i =
     has_send i (senders c h o)
     ∷ is_withdrawn c h o i
     ∷ (has_send i (contents c h o) && alive h o)
-    ∷ is_some (taken_by c h i)
+    ∷ is_some (receive_that_took c h i)
     ∷ (has_send i (contents c h o) && not (alive h o))
     ∷ []
 
@@ -42,7 +42,7 @@ how_many_hold [] = 0
 how_many_hold (b ∷ bs) = if b then how_many_hold bs + 1 else how_many_hold bs
 
 -- a receive was made of object o, and accepted
-pub record IsReceiveOf (h : History) (o : ℕ) (w : Wait) : Type 0 where
+pub record IsReceiveOf (h : History) (o : ℕ) (w : Waiter) : Type 0 where
   pub length' : ℕ
   pub recorded : IsAccepted h w.place (Do (record { 0 = w.session }) (MqReceive (record { 0 = w.desc }) length'))
   pub made_of : gives_object o (holds (before_at w.place h) w.session w.desc) ≡ true
@@ -53,7 +53,7 @@ pub record HasOneFate (c : Config) (h : History) (m : Send) : Type 0 where
   pub object : ℕ
   pub sent_to : gives_object object (holds (before_at m.place h) m.session m.desc) ≡ true
   pub one : how_many_hold (fates c h object m.place) ≡ 1
-  pub taker : (w : Wait) → taken_by c h m.place ≡ Some w → IsReceiveOf h object w
+  pub taker : (w : Waiter) → receive_that_took c h m.place ≡ Some w → IsReceiveOf h object w
   pub one_taker : deliveries c h m.place ≤ 1
 
 -- so of each send that was accepted

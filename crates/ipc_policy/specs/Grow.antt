@@ -19,14 +19,14 @@ use Rattle.ipc_access.specs.declared.class.Cred.{Cred}
 use Rattle.ipc_policy.specs.declared.config.Config.{Config}
 use Rattle.ipc_policy.specs.declared.config.Held.{Held}
 use Rattle.ipc_policy.specs.declared.config.Registration.{Registration}
-use Rattle.ipc_policy.specs.History.{History, after_accepted, kept, any_below, how_many_below, sum_below}
+use Rattle.ipc_policy.specs.History.{History, after_accepted, unless, any_below, how_many_below, sum_below}
 use Rattle.ipc_policy.specs.Sessions.{hellos, user, live, cred, mask}
 use Rattle.ipc_policy.specs.Names.{Opening, Naming, opening, nonblock_asked, unlinking, unlinks, asks_name, is_bound, creations, bound}
 use Rattle.ipc_policy.specs.Objects.{without_mask, object, owner, group, mode, facts, together, directory, made_by, owner_given, group_given, mode_given, means_object, means_directory, object_bits, directory_bits}
 use Rattle.ipc_policy.specs.Descriptions.{opened_by, held_as, opens, held, holds, held_count, is_nonblock, ends_held}
 use Rattle.ipc_policy.specs.Life.{named, bindings, names, alive, gives_object}
 pub use Rattle.ipc_policy.specs.Queues.{act_by}
-use Rattle.ipc_policy.specs.Queues.{Queue, queue, queue_after, room, attributes, is_full, is_empty}
+use Rattle.ipc_policy.specs.Queues.{Queue, queue, queue_after, maxmsg_of, attributes, is_full, is_empty}
 pub use Rattle.ipc_policy.specs.Semaphores.{semaphore_act_by}
 use Rattle.ipc_policy.specs.Semaphores.{SemaphoreAct, Semaphore, semaphore, semaphore_after, with_first, is_post, is_pass, given_value, posts, passes, value, is_zero}
 use Rattle.ipc_policy.specs.Registrations.{registers, ends_registration, registered}
@@ -110,7 +110,7 @@ opens_after e was = by_open (opening e) where
 abbrev pub held_after : ℕ → Event → ℕ → (Family → List ℕ → Option ℕ) → ℕ → Option Held → Option Held
 held_after d e opens bound creations was = by_open (opening e) where
   by_open : Option Opening → Option Held
-  by_open None = kept (λ x. ends_held d x e) was
+  by_open None = unless (λ x. ends_held d x e) was
   by_open (Some asked) = option_or (if opens == d then option_map (held_as asked) (opened_by bound creations asked) else None) was
 
 -- a close of what is held leaves one less, and a hang-up none
@@ -136,7 +136,7 @@ nonblock_after s d e opens was = by_open (opening e) where
 abbrev pub named_after : ℕ → Event → (Family → List ℕ → Bool) → ℕ → Option Opening → Option Opening
 named_after o e is_bound creations was = by_open (opening e) where
   by_open : Option Opening → Option Opening
-  by_open None = kept (λ asked. unlinks asked.family asked.name e) was
+  by_open None = unless (λ asked. unlinks asked.family asked.name e) was
   by_open (Some asked) = if is_new asked is_bound && (creations == o) then Some asked else was
 
 abbrev pub bindings_after : Family → Event → (Family → List ℕ → Bool) → ℕ → List Binding → List Binding
@@ -192,12 +192,12 @@ passes_after a q was = if is_pass a q then was + 1 else was
 -- the call of session s that parks, or else the one that was parked, unless the event ends it
 abbrev pub parked_after : ℕ → Event → ℕ → (ℕ → ℕ → Option Held) → (ℕ → Bool) → (ℕ → Bool) → (ℕ → Bool) → (ℕ → Queue) → (ℕ → Semaphore) → Option Parked → Option Parked
 parked_after s e place holds full empty zero queue semaphore was =
-    option_or (parks_by place holds full empty zero s e) (kept (λ p. is_posted (semaphore_act_by place holds p.object e) p.kind p.place (semaphore p.object) || ends_call s p (act_by place holds p.object e) (queue p.object)) was)
+    option_or (parks_by place holds full empty zero s e) (unless (λ p. is_posted (semaphore_act_by place holds p.object e) p.kind p.place (semaphore p.object) || ends_call s p (act_by place holds p.object e) (queue p.object)) was)
 
 -- the registration that a notify begins, or else the one that there was, unless the event ends it
 abbrev pub registered_after : ℕ → Event → ℕ → (ℕ → ℕ → Option Held) → Queue → Option Registration → Option Registration
 registered_after o e place holds queue was =
-    option_or (registers holds o e) (kept (λ x. ends_registration x e (act_by place holds o e) queue) was)
+    option_or (registers holds o e) (unless (λ x. ends_registration x e (act_by place holds o e) queue) was)
 
 -- each value after an accepted event, by the values before it
 pub record Grows (c : Config) (h k : History) (e : Event) : Type 0 where
@@ -218,7 +218,7 @@ pub record Grows (c : Config) (h k : History) (e : Event) : Type 0 where
   pub held_by : (d : ℕ) → held k d ≡ held_after d e (opens h) (bound h) (creations h) (held h d)
   pub count_of : (s : ℕ) → held_count k s ≡ held_count_after s e (bound h) (creations h) (holds h) (held_count h s)
   pub nonblock_of : (s d : ℕ) → is_nonblock k s d ≡ nonblock_after s d e (opens h) (is_nonblock h s d)
-  pub queue_of : (o : ℕ) → queue c k o ≡ queue_after (room (attributes c h o)) (act_by (length h) (holds h) o e) (queue c h o)
+  pub queue_of : (o : ℕ) → queue c k o ≡ queue_after (maxmsg_of (attributes c h o)) (act_by (length h) (holds h) o e) (queue c h o)
   pub registered_to : (o : ℕ) → registered c k o ≡ registered_after o e (length h) (holds h) (queue c h o) (registered c h o)
   pub semaphore_of : (o : ℕ) → semaphore k o ≡ with_first (first_value o e (is_bound h) (creations h)) (semaphore_after (semaphore_act_by (length h) (holds h) o e) (semaphore h o))
   pub given_value_of : (o : ℕ) → given_value k o ≡ given_value_after (first_value o e (is_bound h) (creations h)) (given_value h o)

@@ -4,7 +4,7 @@
 -- and how many accepted events are of a kind. Queues and semaphores alone are asked event by event.
 -- Refused events say, begin and end nothing.
 use Rattle.std.specs.Prelude.{Bool, false, ℕ, zero, suc, ◌+◌, ◌&&◌, ◌||◌, ◌==◌, List, [], ◌∷◌, ◌++◌, length, Option, Some, None, is_none, if◌then◌else◌}
-use Rattle.std.specs.Option.{option_or}
+use Rattle.std.specs.Option.{option_or, option_to_list}
 pub use Rattle.ipc_terms.specs.History.{History, record_at}
 use Rattle.ipc_terms.specs.declared.rule.Rule.{Rule}
 use Rattle.ipc_terms.specs.declared.record.Event.{Event}
@@ -39,14 +39,14 @@ how_many is_one (r ∷ before) =
     if is_accepted r && is_one r.event before then how_many is_one before + 1 else how_many is_one before
 
 -- there is one, and this holds of it
-abbrev pub there_is : {A : Type 0} → (A → Bool) → Option A → Bool
-there_is test None = false
-there_is test (Some x) = test x
+abbrev pub is_some_and : {A : Type 0} → (A → Bool) → Option A → Bool
+is_some_and test None = false
+is_some_and test (Some x) = test x
 
 -- what is left of it unless it was ended
-abbrev pub kept : {A : Type 0} → (A → Bool) → Option A → Option A
-kept ends None = None
-kept ends (Some x) = if ends x then None else Some x
+abbrev pub unless : {A : Type 0} → (A → Bool) → Option A → Option A
+unless ends None = None
+unless ends (Some x) = if ends x then None else Some x
 
 -- what the newest accepted event that begins something begins, unless a later accepted event ends it;
 -- an event is read with what came before it, and what it begins may be made of what there was just before
@@ -54,7 +54,7 @@ abbrev pub unended_from : {A : Type 0} → (Event → History → Option A → O
 unended_from begins ends [] = None
 unended_from begins ends (r ∷ before) =
     if is_accepted r
-    then option_or (begins r.event before (unended_from begins ends before)) (kept (λ x. ends x r.event before) (unended_from begins ends before))
+    then option_or (begins r.event before (unended_from begins ends before)) (unless (λ x. ends x r.event before) (unended_from begins ends before))
     else unended_from begins ends before
 
 -- the same, where what begins is not made of what there was
@@ -76,12 +76,7 @@ abbrev pub any_below : (ℕ → Bool) → ℕ → Bool
 any_below is_one zero = false
 any_below is_one (suc n) = is_one n || any_below is_one n
 
--- what there is, as a list
-abbrev pub listed : {A : Type 0} → Option A → List A
-listed None = []
-listed (Some x) = x ∷ []
-
 -- what the numbers below a limit give, in their order
 abbrev pub gathered_below : {A : Type 0} → (ℕ → Option A) → ℕ → List A
 gathered_below give zero = []
-gathered_below give (suc n) = gathered_below give n ++ listed (give n)
+gathered_below give (suc n) = gathered_below give n ++ option_to_list (give n)

@@ -12,7 +12,7 @@ use Rattle.ipc_terms.specs.declared.record.Event.{Event}
 use Rattle.ipc_terms.specs.declared.call.Answer.TheVariants.{Refused}
 use Rattle.ipc_policy.specs.declared.config.Config.{Config}
 use Rattle.ipc_policy.specs.declared.config.Held.{Held}
-use Rattle.ipc_policy.specs.History.{History, after_refused, newest, there_is}
+use Rattle.ipc_policy.specs.History.{History, after_refused, newest, is_some_and}
 use Rattle.ipc_policy.specs.Sessions.{hellos, user, live, cred, mask}
 use Rattle.ipc_policy.specs.Names.{asks_name, is_bound, creations, bound}
 use Rattle.ipc_policy.specs.Objects.{object, owner, group, mode, facts, directory}
@@ -104,7 +104,7 @@ BoundIsToObject = (h : History) (f : Family) (name : List ℕ) → is_bound h f 
 abbrev pub NamedIsBound : Type 0
 NamedIsBound =
     (h : History) (o : ℕ) (f : Family) (name : List ℕ) →
-    there_is (λ asked. asks_name asked f name) (named h o) ≡ there_is (λ n. n == o) (bound h f name)
+    is_some_and (λ asked. asks_name asked f name) (named h o) ≡ is_some_and (λ n. n == o) (bound h f name)
 
 -- the names of a family that are listed are all different
 abbrev pub NamesDiffer : Type 0

@@ -21,7 +21,7 @@ use Rattle.ipc_terms.specs.declared.record.Event.TheVariants.{Do}
 use Rattle.ipc_access.specs.declared.class.Cred.{Cred}
 use Rattle.ipc_policy.specs.declared.config.Config.{Config}
 use Rattle.ipc_terms.specs.declared.facts.Facts.{Facts}
-use Rattle.ipc_policy.specs.History.{History, newest, there_is}
+use Rattle.ipc_policy.specs.History.{History, newest, is_some_and}
 use Rattle.ipc_policy.specs.Sessions.{cred, mask}
 use Rattle.ipc_policy.specs.Names.{Opening, creation, creations, bound}
 
@@ -80,7 +80,7 @@ mode_given meant _ = None
 -- the target is a name that is bound to object o, by what the names are bound to
 abbrev pub means_object : (Family → List ℕ → Option ℕ) → ℕ → Target → Bool
 means_object bound o (Dir family) = false
-means_object bound o (Name family name) = there_is (λ n. n == o) (bound family name)
+means_object bound o (Name family name) = is_some_and (λ n. n == o) (bound family name)
 
 -- the target is the directory of the family
 abbrev pub means_directory : Family → Target → Bool

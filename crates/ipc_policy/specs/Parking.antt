@@ -7,7 +7,7 @@ use Rattle.ipc_terms.specs.declared.record.Event.{Event}
 use Rattle.ipc_terms.specs.declared.record.Event.TheVariants.{Do}
 use Rattle.ipc_policy.specs.declared.config.Config.{Config}
 use Rattle.ipc_policy.specs.declared.config.Held.{Held}
-use Rattle.ipc_policy.specs.History.{History, unended, there_is}
+use Rattle.ipc_policy.specs.History.{History, unended, is_some_and}
 use Rattle.ipc_policy.specs.Descriptions.{holds}
 use Rattle.ipc_policy.specs.Semaphores.{SemaphoreAct, Posts, Semaphore, semaphore_act, semaphore, is_zero}
 use Rattle.ipc_policy.specs.Queues.{Act, Sends, Receives, Withdraws, Queue, act, queue, is_full, is_empty}
@@ -46,7 +46,7 @@ parks c s e before = parks_by (length before) (holds before) (is_full c before) 
 
 -- there is one, and this is its place
 abbrev pub stands_at : {A : Type 0} → (A → ℕ) → ℕ → Option A → Bool
-stands_at place i x = there_is (λ y. place y == i) x
+stands_at place i x = is_some_and (λ y. place y == i) x
 
 -- the call of this place is the longest parked of its kind on the queue
 abbrev pub is_longest : ParkedKind → ℕ → Queue → Bool

@@ -1,5 +1,6 @@
 -- What sends, receives, interrupts and hang-ups make of a queue.
 use Rattle.std.specs.Prelude.{Bool, true, false, ℕ, ◌||◌, ◌==◌, not, nat_le, List, [], ◌∷◌, ◌++◌, length, filter, Option, Some, None, if◌then◌else◌}
+use Rattle.std.specs.Option.{option_to_list}
 use Rattle.ipc_terms.specs.Lists.{first}
 use Rattle.ipc_terms.specs.Objects.{as_queue}
 use Rattle.ipc_terms.specs.Priorities.{first_of_greatest}
@@ -9,7 +10,7 @@ use Rattle.ipc_terms.specs.declared.record.Event.{Event}
 use Rattle.ipc_terms.specs.declared.record.Event.TheVariants.{Do, Hangup}
 use Rattle.ipc_policy.specs.declared.config.Config.{Config}
 use Rattle.ipc_policy.specs.declared.config.Held.{Held}
-use Rattle.ipc_policy.specs.History.{History, is_accepted, listed, there_is}
+use Rattle.ipc_policy.specs.History.{History, is_accepted, is_some_and}
 use Rattle.ipc_policy.specs.Objects.{object}
 use Rattle.ipc_policy.specs.Descriptions.{holds}
 use Rattle.ipc_policy.specs.Life.{gives_object}
@@ -22,8 +23,8 @@ pub record Send : Type 0 where
   pub priority : ℕ
   pub bytes : List ℕ
 
--- a receive: its place, and who made it by which description
-pub record Wait : Type 0 where
+-- a receive, or a wait for a semaphore: its place, and who made it by which description
+pub record Waiter : Type 0 where
   pub place : ℕ
   pub session : ℕ
   pub desc : ℕ
@@ -31,18 +32,18 @@ pub record Wait : Type 0 where
 -- what an event does to one queue
 pub data Act : Type 0 where
   Sends : Send → Act
-  Receives : Wait → Act
+  Receives : Waiter → Act
   Withdraws : ℕ → Act
-  Rests : Act
+  NoAct : Act
 
 -- what an event does to queue o, by the event's place and by what each session holds; an interrupt and a hang-up
 -- withdraw the parked call of their session, wherever it is
 abbrev pub act_by : ℕ → (ℕ → ℕ → Option Held) → ℕ → Event → Act
-act_by place holds o (Do sid (MqSend desc priority bytes)) = if gives_object o (holds sid.0 desc.0) then Sends (record { place = place; session = sid.0; desc = desc.0; priority = priority; bytes = bytes }) else Rests
-act_by place holds o (Do sid (MqReceive desc length')) = if gives_object o (holds sid.0 desc.0) then Receives (record { place = place; session = sid.0; desc = desc.0 }) else Rests
+act_by place holds o (Do sid (MqSend desc priority bytes)) = if gives_object o (holds sid.0 desc.0) then Sends (record { place = place; session = sid.0; desc = desc.0; priority = priority; bytes = bytes }) else NoAct
+act_by place holds o (Do sid (MqReceive desc length')) = if gives_object o (holds sid.0 desc.0) then Receives (record { place = place; session = sid.0; desc = desc.0 }) else NoAct
 act_by place holds o (Do sid Interrupt) = Withdraws sid.0
 act_by place holds o (Hangup sid) = Withdraws sid.0
-act_by place holds o _ = Rests
+act_by place holds o _ = NoAct
 
 -- what an event does to queue o
 abbrev pub act : ℕ → Event → History → Act
@@ -62,16 +63,16 @@ others (Some n) messages = filter (λ m. not (m.place == n.place)) messages
 pub record Queue : Type 0 where
   pub contents : List Send
   pub senders : List Send
-  pub receivers : List Wait
+  pub receivers : List Waiter
 
 -- a queue at its creation
 abbrev pub empty_queue : Queue
 empty_queue = record { contents = []; senders = []; receivers = [] }
 
 -- all but the first
-abbrev pub behind : {A : Type 0} → List A → List A
-behind [] = []
-behind (x ∷ xs) = xs
+abbrev pub tail : {A : Type 0} → List A → List A
+tail [] = []
+tail (x ∷ xs) = xs
 
 -- there is nothing in the list
 abbrev pub has_none : {A : Type 0} → List A → Bool
@@ -79,39 +80,39 @@ has_none [] = true
 has_none (x ∷ xs) = false
 
 -- there are as many as there may be
-abbrev pub has_all : {A : Type 0} → ℕ → List A → Bool
-has_all most xs = nat_le most (length xs)
+abbrev pub is_filled : {A : Type 0} → ℕ → List A → Bool
+is_filled most xs = nat_le most (length xs)
 
 -- a send enters, unless the queue is full or a parked receive takes the message at once; a receive takes the next
 -- message, and lets the longest parked send enter behind what is left
 abbrev pub contents_after : ℕ → Act → Queue → List Send
-contents_after maxmsg (Sends m) q = if has_all maxmsg q.contents || not (has_none q.receivers) then q.contents else q.contents ++ m ∷ []
-contents_after maxmsg (Receives w) q = others (next q.contents) q.contents ++ listed (first q.senders)
+contents_after maxmsg (Sends m) q = if is_filled maxmsg q.contents || not (has_none q.receivers) then q.contents else q.contents ++ m ∷ []
+contents_after maxmsg (Receives w) q = others (next q.contents) q.contents ++ option_to_list (first q.senders)
 contents_after maxmsg (Withdraws s) q = q.contents
-contents_after maxmsg Rests q = q.contents
+contents_after maxmsg NoAct q = q.contents
 
 -- a send to a full queue parks; a receive lets the longest parked send enter; an interrupt or a hang-up withdraws
 abbrev pub senders_after : ℕ → Act → Queue → List Send
-senders_after maxmsg (Sends m) q = if has_all maxmsg q.contents then q.senders ++ m ∷ [] else q.senders
-senders_after maxmsg (Receives w) q = behind q.senders
+senders_after maxmsg (Sends m) q = if is_filled maxmsg q.contents then q.senders ++ m ∷ [] else q.senders
+senders_after maxmsg (Receives w) q = tail q.senders
 senders_after maxmsg (Withdraws s) q = filter (λ m. not (m.session == s)) q.senders
-senders_after maxmsg Rests q = q.senders
+senders_after maxmsg NoAct q = q.senders
 
 -- a receive from an empty queue parks; a send is taken by the longest parked receive; an interrupt or a hang-up withdraws
-abbrev pub receivers_after : Act → Queue → List Wait
-receivers_after (Sends m) q = behind q.receivers
+abbrev pub receivers_after : Act → Queue → List Waiter
+receivers_after (Sends m) q = tail q.receivers
 receivers_after (Receives w) q = if has_none q.contents then q.receivers ++ w ∷ [] else q.receivers
 receivers_after (Withdraws s) q = filter (λ w. not (w.session == s)) q.receivers
-receivers_after Rests q = q.receivers
+receivers_after NoAct q = q.receivers
 
 -- a queue of so many messages at most after an act
 abbrev pub queue_after : ℕ → Act → Queue → Queue
 queue_after maxmsg a q = record { contents = contents_after maxmsg a q; senders = senders_after maxmsg a q; receivers = receivers_after a q }
 
 -- how many messages a queue may have: 0 where there is no queue
-abbrev pub room : Option Attributes → ℕ
-room None = 0
-room (Some x) = x.maxmsg
+abbrev pub maxmsg_of : Option Attributes → ℕ
+maxmsg_of None = 0
+maxmsg_of (Some x) = x.maxmsg
 
 -- the attributes of object o, where it is a queue
 abbrev pub attributes : Config → History → ℕ → Option Attributes
@@ -119,7 +120,7 @@ attributes c h o = as_queue (object c h o)
 
 -- how many messages queue o may have
 abbrev pub maxmsg : Config → History → ℕ → ℕ
-maxmsg c h o = room (attributes c h o)
+maxmsg c h o = maxmsg_of (attributes c h o)
 
 -- queue o
 unfoldable pub queue : Config → History → ℕ → Queue
@@ -136,13 +137,13 @@ abbrev pub senders : Config → History → ℕ → List Send
 senders c h o = (queue c h o).senders
 
 -- the receives that are parked on queue o, longest parked first
-abbrev pub receivers : Config → History → ℕ → List Wait
+abbrev pub receivers : Config → History → ℕ → List Waiter
 receivers c h o = (queue c h o).receivers
 
 -- there is such a queue, and it has as many messages as it may
 abbrev pub is_full : Config → History → ℕ → Bool
-is_full c h o = there_is (λ x. has_all x.maxmsg (contents c h o)) (attributes c h o)
+is_full c h o = is_some_and (λ x. is_filled x.maxmsg (contents c h o)) (attributes c h o)
 
 -- there is such a queue, and it has no messages
 abbrev pub is_empty : Config → History → ℕ → Bool
-is_empty c h o = there_is (λ x. has_none (contents c h o)) (attributes c h o)
+is_empty c h o = is_some_and (λ x. has_none (contents c h o)) (attributes c h o)

@@ -4,14 +4,14 @@
 use Rattle.std.specs.Prelude.{◌≡◌, Bool, false, ℕ, ◌+◌, ◌<◌, ◌≤◌, ◌&&◌, ◌==◌, not, find, List, [], ◌∷◌, ◌++◌, length, Option, Some, None, is_some, unwrap_or, if◌then◌else◌, MatchOption}
 use Rattle.ipc_terms.specs.Lists.{first, Each}
 use Rattle.ipc_policy.specs.declared.config.Config.{Config}
-use Rattle.ipc_policy.specs.History.{History, newest, kept, unended}
-use Rattle.ipc_policy.specs.Queues.{Send, Wait, Act, Sends, Receives, Withdraws, Queue, has_all, has_none, next, act, queue, maxmsg, contents, senders, receivers}
-use Rattle.ipc_policy.specs.Semaphores.{SemaphoreAct, Posts, Waits, Cancels, Semaphore, semaphore_act, semaphore, waiters}
+use Rattle.ipc_policy.specs.History.{History, newest, unless, unended}
+use Rattle.ipc_policy.specs.Queues.{Send, Waiter, Act, Sends, Receives, Withdraws, Queue, is_filled, has_none, next, act, queue, maxmsg, contents, senders, receivers}
+use Rattle.ipc_policy.specs.Semaphores.{SemaphoreAct, Posts, Waits, WithdrawsWait, Semaphore, semaphore_act, semaphore, waiters}
 use Rattle.ipc_policy.specs.Parking.{stands_at}
 
 -- the send of place i to a full queue parks
 abbrev pub parks_send : ℕ → ℕ → Act → Queue → Option Send
-parks_send maxmsg i (Sends m) q = if has_all maxmsg q.contents && (m.place == i) then Some m else None
+parks_send maxmsg i (Sends m) q = if is_filled maxmsg q.contents && (m.place == i) then Some m else None
 parks_send maxmsg i _ q = None
 
 -- an interrupt or a hang-up of its session ends a parked send, and so does a receive, if it is the longest parked
@@ -21,24 +21,24 @@ ends_send m (Receives w) q = stands_at (λ n. n.place) m.place (first q.senders)
 ends_send m _ q = false
 
 -- the receive of place i from an empty queue parks
-abbrev pub parks_receive : ℕ → Act → Queue → Option Wait
+abbrev pub parks_receive : ℕ → Act → Queue → Option Waiter
 parks_receive i (Receives w) q = if has_none q.contents && (w.place == i) then Some w else None
 parks_receive i _ q = None
 
 -- an interrupt or a hang-up of its session ends a parked receive, and so does a send, if it is the longest parked
-abbrev pub ends_receive : Wait → Act → Queue → Bool
+abbrev pub ends_receive : Waiter → Act → Queue → Bool
 ends_receive w (Withdraws s) q = w.session == s
 ends_receive w (Sends m) q = stands_at (λ n. n.place) w.place (first q.receivers)
 ends_receive w _ q = false
 
 -- the wait of place i at 0 parks
-abbrev pub parks_wait : ℕ → SemaphoreAct → Semaphore → Option Wait
+abbrev pub parks_wait : ℕ → SemaphoreAct → Semaphore → Option Waiter
 parks_wait i (Waits w) q = if (q.value == 0) && (w.place == i) then Some w else None
 parks_wait i _ q = None
 
 -- an interrupt or a hang-up of its session ends a parked wait, and so does a post, if it is the longest parked
-abbrev pub ends_wait : Wait → SemaphoreAct → Semaphore → Bool
-ends_wait w (Cancels s) q = w.session == s
+abbrev pub ends_wait : Waiter → SemaphoreAct → Semaphore → Bool
+ends_wait w (WithdrawsWait s) q = w.session == s
 ends_wait w Posts q = stands_at (λ n. n.place) w.place (first q.waiters)
 ends_wait w _ q = false
 
@@ -49,7 +49,7 @@ entering i (Some m) = if m.place == i then Some m else None
 
 -- the send of place i enters at its own place if it does not park, else at the receive that serves it
 abbrev pub enters : ℕ → ℕ → Act → Queue → Option Send
-enters maxmsg i (Sends m) q = if not (has_all maxmsg q.contents) && (m.place == i) then Some m else None
+enters maxmsg i (Sends m) q = if not (is_filled maxmsg q.contents) && (m.place == i) then Some m else None
 enters maxmsg i (Receives w) q = entering i (first q.senders)
 enters maxmsg i _ q = None
 
@@ -61,7 +61,7 @@ takes m _ q = false
 
 -- the send of place i, if it enters and is not taken at the same record
 abbrev pub stays : ℕ → ℕ → Act → Queue → Option Send
-stays maxmsg i a q = kept (λ m. takes m a q) (enters maxmsg i a q)
+stays maxmsg i a q = unless (λ m. takes m a q) (enters maxmsg i a q)
 
 -- what a list has of place i
 abbrev pub of_place : {A : Type 0} → (A → ℕ) → ℕ → List A → Option A

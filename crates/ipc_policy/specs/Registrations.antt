@@ -8,7 +8,7 @@ use Rattle.ipc_policy.specs.declared.config.Config.{Config}
 use Rattle.ipc_policy.specs.declared.config.Held.{Held}
 use Rattle.ipc_policy.specs.declared.config.Registration.{Registration}
 use Rattle.ipc_policy.specs.History.{History, unended}
-use Rattle.ipc_policy.specs.Descriptions.{holds, lets_go}
+use Rattle.ipc_policy.specs.Descriptions.{holds, closes}
 use Rattle.ipc_policy.specs.Life.{gives_object}
 use Rattle.ipc_policy.specs.Queues.{Act, Sends, Queue, has_none, act, queue}
 
@@ -33,7 +33,7 @@ fires _ q = false
 
 -- a registration ends when it is turned off, when its session closes the description or hangs up, and when it fires
 abbrev pub ends_registration : Registration → Event → Act → Queue → Bool
-ends_registration x e a q = turns_off x e || lets_go x.session.0 x.desc.0 e || fires a q
+ends_registration x e a q = turns_off x e || closes x.session.0 x.desc.0 e || fires a q
 
 -- the registration of queue o
 unfoldable pub registered : Config → History → ℕ → Option Registration

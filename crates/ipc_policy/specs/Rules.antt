@@ -28,7 +28,7 @@ use Rattle.ipc_terms.specs.declared.object.Object.{Object}
 use Rattle.ipc_terms.specs.declared.object.TheConstants.{SEM_VALUE_MAX}
 use Rattle.ipc_policy.specs.declared.config.TheConstants.{DESCRIPTIONS_MAX, MQ_PRIO_MAX, HARD_MSG_MAX, HARD_MSGSIZE_MAX, LIMIT_MAX}
 use Rattle.ipc_policy.specs.History.{History}
-pub use Rattle.ipc_policy.specs.History.{there_is}
+pub use Rattle.ipc_policy.specs.History.{is_some_and}
 use Rattle.ipc_policy.specs.Sessions.{live, cred}
 use Rattle.ipc_policy.specs.Names.{opening, unlinking, naming, is_bound, creating, bound, Opening}
 use Rattle.ipc_policy.specs.Objects.{object, kind_of, facts, directory, facts_meant}
@@ -65,7 +65,7 @@ out_of_range c _ _ = false
 
 -- there is a user, and it is another than user 0
 abbrev pub is_not_admin : Option Cred → Bool
-is_not_admin who = there_is (λ w. not (w.uid.0 == 0)) who
+is_not_admin who = is_some_and (λ w. not (w.uid.0 == 0)) who
 
 -- the attributes of the queue that an open makes, where it asks for a queue
 abbrev pub queue_made : Config → Opening → Option Attributes
@@ -73,7 +73,7 @@ queue_made c asked = of_queue (kind_of c asked.kind)
 
 -- the user's queues and one more of these attributes take more bytes together than the user's limit
 abbrev pub above_limit : Config → History → Attributes → Cred → Bool
-above_limit c h given who = there_is (λ most. nat_lt most (charged c h who.uid + bytes_of given)) (limit c h who.uid)
+above_limit c h given who = is_some_and (λ most. nat_lt most (charged c h who.uid + bytes_of given)) (limit c h who.uid)
 
 -- there are a user and an object, and the directory does not let the user remove the object's name
 abbrev pub removal_denied : Option Cred → Facts → Option Facts → Bool
@@ -150,11 +150,11 @@ not_in_call c h _ = false
 
 -- 4: a named call, and the name has not the form of a name
 unfoldable pub name_form : Config → History → Event → Bool
-name_form c h e = there_is (λ what. not (has_name_form what.name)) (naming e)
+name_form c h e = is_some_and (λ what. not (has_name_form what.name)) (naming e)
 
 -- 5: a named call, and the name has more bytes in all than its family's limit
 unfoldable pub name_long : Config → History → Event → Bool
-name_long c h e = there_is (λ what. is_long_name what.family what.name) (naming e)
+name_long c h e = is_some_and (λ what. is_long_name what.family what.name) (naming e)
 
 -- 6: a SetLimit or an Audit, by another than user 0
 unfoldable pub not_admin : Config → History → Event → Bool
@@ -169,22 +169,22 @@ no_user c h _ = false
 
 -- 8: a call that names a description, and the session does not hold it, or it gives an object of the other family
 unfoldable pub bad_descr : Config → History → Event → Bool
-bad_descr c h (Do sid call) = there_is (λ named. not_held c h sid.0 named.family named.desc.0) (described call)
+bad_descr c h (Do sid call) = is_some_and (λ named. not_held c h sid.0 named.family named.desc.0) (described call)
 bad_descr c h _ = false
 
 -- 9: a send by a description that was opened for reading alone
 unfoldable pub not_for_write : Config → History → Event → Bool
-not_for_write c h (Do sid (MqSend desc priority bytes)) = there_is (λ x. reads_only x.access) (holds h sid.0 desc.0)
+not_for_write c h (Do sid (MqSend desc priority bytes)) = is_some_and (λ x. reads_only x.access) (holds h sid.0 desc.0)
 not_for_write c h _ = false
 
 -- 10: a receive by a description that was opened for writing alone
 unfoldable pub not_for_read : Config → History → Event → Bool
-not_for_read c h (Do sid (MqReceive desc length')) = there_is (λ x. writes_only x.access) (holds h sid.0 desc.0)
+not_for_read c h (Do sid (MqReceive desc length')) = is_some_and (λ x. writes_only x.access) (holds h sid.0 desc.0)
 not_for_read c h _ = false
 
 -- 11: a named call, and search on the family's directory is not granted
 unfoldable pub dir_search : Config → History → Event → Bool
-dir_search c h e = there_is (λ what. denied (cred c h what.session.0) (directory h what.family) 1) (naming e)
+dir_search c h e = is_some_and (λ what. denied (cred c h what.session.0) (directory h what.family) 1) (naming e)
 
 -- 12: a listing, and read on the directory is not granted
 unfoldable pub dir_read : Config → History → Event → Bool
@@ -195,27 +195,27 @@ dir_read c h _ = false
 unfoldable pub absent : Config → History → Event → Bool
 absent c h e = by_open (opening e) where
   by_open : Option Opening → Bool
-  by_open None = there_is (λ what. not (is_bound h what.family what.name)) (naming e)
+  by_open None = is_some_and (λ what. not (is_bound h what.family what.name)) (naming e)
   by_open (Some asked) = not (has_create asked.flags) && not (is_bound h asked.family asked.name)
 
 -- 14: an open with CREAT and EXCL, and the name is bound
 unfoldable pub present : Config → History → Event → Bool
-present c h e = there_is (λ asked. has_create asked.flags && has_exclusive asked.flags && is_bound h asked.family asked.name) (opening e)
+present c h e = is_some_and (λ asked. has_create asked.flags && has_exclusive asked.flags && is_bound h asked.family asked.name) (opening e)
 
 -- 15: an open of a bound name, and the object does not grant the wanted access
 unfoldable pub mode_denied : Config → History → Event → Bool
-mode_denied c h e = there_is (λ asked. denied_at (cred c h asked.session.0) (option_and_then (facts c h) (bound h asked.family asked.name)) (bits_wanted asked.access)) (opening e)
+mode_denied c h e = is_some_and (λ asked. denied_at (cred c h asked.session.0) (option_and_then (facts c h) (bound h asked.family asked.name)) (bits_wanted asked.access)) (opening e)
 
 -- 16: a creating open, or an unlink, and write on the directory is not granted
 unfoldable pub dir_write : Config → History → Event → Bool
 dir_write c h e = by_open (opening e) where
   by_open : Option Opening → Bool
-  by_open None = there_is (λ what. denied (cred c h what.session.0) (directory h what.family) 2) (unlinking e)
+  by_open None = is_some_and (λ what. denied (cred c h what.session.0) (directory h what.family) 2) (unlinking e)
   by_open (Some asked) = creating h asked && denied (cred c h asked.session.0) (directory h asked.family) 2
 
 -- 17: an unlink of a bound name in a sticky directory, by another than user 0, the object's owner and the directory's
 unfoldable pub sticky : Config → History → Event → Bool
-sticky c h e = there_is (λ what. removal_denied (cred c h what.session.0) (directory h what.family) (option_and_then (facts c h) (bound h what.family what.name))) (unlinking e)
+sticky c h e = is_some_and (λ what. removal_denied (cred c h what.session.0) (directory h what.family) (option_and_then (facts c h) (bound h what.family what.name))) (unlinking e)
 
 -- 18: a chmod, by another than user 0 and the owner of what is meant
 unfoldable pub not_owner : Config → History → Event → Bool
@@ -229,24 +229,24 @@ chown_denied c h _ = false
 
 -- 20: a creating open with attributes that are 0 or above the caller's limits
 unfoldable pub attr_range : Config → History → Event → Bool
-attr_range c h e = there_is (λ asked. creating h asked && out_of_range c (cred c h asked.session.0) (attributes_asked asked.kind)) (opening e)
+attr_range c h e = is_some_and (λ asked. creating h asked && out_of_range c (cred c h asked.session.0) (attributes_asked asked.kind)) (opening e)
 
 -- 21: a creating open of a semaphore with a first value above 2,147,483,647, or a SetLimit above 1,000,000,000,000,000
 unfoldable pub value_range : Config → History → Event → Bool
 value_range c h (Do sid (SetLimit uid bytes)) = nat_lt LIMIT_MAX bytes
-value_range c h e = there_is (λ asked. creating h asked && there_is (nat_lt SEM_VALUE_MAX) (value_asked asked.kind)) (opening e)
+value_range c h e = is_some_and (λ asked. creating h asked && is_some_and (nat_lt SEM_VALUE_MAX) (value_asked asked.kind)) (opening e)
 
 -- 22: a creating open of a queue, by another than user 0, while `queues_max` queues or more are alive
 unfoldable pub queue_count : Config → History → Event → Bool
-queue_count c h e = there_is (λ asked. creating h asked && is_some (queue_made c asked) && is_not_admin (cred c h asked.session.0) && nat_le c.limits.queues_max (queues_alive c h)) (opening e)
+queue_count c h e = is_some_and (λ asked. creating h asked && is_some (queue_made c asked) && is_not_admin (cred c h asked.session.0) && nat_le c.limits.queues_max (queues_alive c h)) (opening e)
 
 -- 23: a creating open of a queue, and the caller's queues and the new one take more bytes together than the caller's limit
 unfoldable pub byte_limit : Config → History → Event → Bool
-byte_limit c h e = there_is (λ asked. creating h asked && there_is (λ given. there_is (above_limit c h given) (cred c h asked.session.0)) (queue_made c asked)) (opening e)
+byte_limit c h e = is_some_and (λ asked. creating h asked && is_some_and (λ given. is_some_and (above_limit c h given) (cred c h asked.session.0)) (queue_made c asked)) (opening e)
 
 -- 24: an open while the session holds 1,024 descriptions
 unfoldable pub descr_limit : Config → History → Event → Bool
-descr_limit c h e = there_is (λ asked. nat_le DESCRIPTIONS_MAX (held_count h asked.session.0)) (opening e)
+descr_limit c h e = is_some_and (λ asked. nat_le DESCRIPTIONS_MAX (held_count h asked.session.0)) (opening e)
 
 -- 25: a send with a priority of 32,768 or more
 unfoldable pub prio_range : Config → History → Event → Bool
@@ -255,29 +255,29 @@ prio_range c h _ = false
 
 -- 26: a send that is longer than the queue's message size
 unfoldable pub message_long : Config → History → Event → Bool
-message_long c h (Do sid (MqSend desc priority bytes)) = there_is (λ x. nat_lt x.msgsize (length bytes)) (attributes_held c h sid.0 desc.0)
+message_long c h (Do sid (MqSend desc priority bytes)) = is_some_and (λ x. nat_lt x.msgsize (length bytes)) (attributes_held c h sid.0 desc.0)
 message_long c h _ = false
 
 -- 27: a receive with a length below the queue's message size
 unfoldable pub buffer_short : Config → History → Event → Bool
-buffer_short c h (Do sid (MqReceive desc length')) = there_is (λ x. nat_lt length' x.msgsize) (attributes_held c h sid.0 desc.0)
+buffer_short c h (Do sid (MqReceive desc length')) = is_some_and (λ x. nat_lt length' x.msgsize) (attributes_held c h sid.0 desc.0)
 buffer_short c h _ = false
 
 -- 28: a notify on, and the queue has a registration
 unfoldable pub notify_taken : Config → History → Event → Bool
-notify_taken c h (Do sid (MqNotify desc on)) = on && there_is (λ x. is_some (registered c h x.object)) (holds h sid.0 desc.0)
+notify_taken c h (Do sid (MqNotify desc on)) = on && is_some_and (λ x. is_some (registered c h x.object)) (holds h sid.0 desc.0)
 notify_taken c h _ = false
 
 -- 29: a send to a full queue, or a receive from an empty one, by a description with NONBLOCK; a trywait at 0
 unfoldable pub would_block : Config → History → Event → Bool
-would_block c h (Do sid (MqSend desc priority bytes)) = is_nonblock h sid.0 desc.0 && there_is (λ x. is_full c h x.object) (holds h sid.0 desc.0)
-would_block c h (Do sid (MqReceive desc length')) = is_nonblock h sid.0 desc.0 && there_is (λ x. is_empty c h x.object) (holds h sid.0 desc.0)
-would_block c h (Do sid (SemTryWait desc)) = there_is (λ x. is_zero c h x.object) (holds h sid.0 desc.0)
+would_block c h (Do sid (MqSend desc priority bytes)) = is_nonblock h sid.0 desc.0 && is_some_and (λ x. is_full c h x.object) (holds h sid.0 desc.0)
+would_block c h (Do sid (MqReceive desc length')) = is_nonblock h sid.0 desc.0 && is_some_and (λ x. is_empty c h x.object) (holds h sid.0 desc.0)
+would_block c h (Do sid (SemTryWait desc)) = is_some_and (λ x. is_zero c h x.object) (holds h sid.0 desc.0)
 would_block c h _ = false
 
 -- 30: a post at 2,147,483,647
 unfoldable pub overflow : Config → History → Event → Bool
-overflow c h (Do sid (SemPost desc)) = there_is (λ x. is_greatest c h x.object) (holds h sid.0 desc.0)
+overflow c h (Do sid (SemPost desc)) = is_some_and (λ x. is_greatest c h x.object) (holds h sid.0 desc.0)
 overflow c h _ = false
 
 -- 31: a hello for no user of the file

@@ -7,29 +7,29 @@ use Rattle.ipc_terms.specs.declared.record.Event.{Event}
 use Rattle.ipc_terms.specs.declared.record.Event.TheVariants.{Do, Hangup}
 use Rattle.ipc_policy.specs.declared.config.Config.{Config}
 use Rattle.ipc_policy.specs.declared.config.Held.{Held}
-use Rattle.ipc_policy.specs.History.{History, is_accepted, newest, how_many, there_is}
+use Rattle.ipc_policy.specs.History.{History, is_accepted, newest, how_many, is_some_and}
 use Rattle.ipc_policy.specs.Objects.{object, creation_of}
 use Rattle.ipc_policy.specs.Descriptions.{holds}
 use Rattle.ipc_policy.specs.Life.{gives_object}
-use Rattle.ipc_policy.specs.Queues.{Wait, behind, has_none}
+use Rattle.ipc_policy.specs.Queues.{Waiter, tail, has_none}
 
 -- what an event does to one semaphore
 pub data SemaphoreAct : Type 0 where
   Posts : SemaphoreAct
-  Waits : Wait → SemaphoreAct
+  Waits : Waiter → SemaphoreAct
   Tries : SemaphoreAct
-  Cancels : ℕ → SemaphoreAct
-  Idles : SemaphoreAct
+  WithdrawsWait : ℕ → SemaphoreAct
+  NoSemaphoreAct : SemaphoreAct
 
 -- what an event does to semaphore o, by the event's place and by what each session holds; an interrupt and a hang-up
--- cancel the parked wait of their session, wherever it is
+-- withdraw the parked wait of their session, wherever it is
 abbrev pub semaphore_act_by : ℕ → (ℕ → ℕ → Option Held) → ℕ → Event → SemaphoreAct
-semaphore_act_by place holds o (Do sid (SemPost desc)) = if gives_object o (holds sid.0 desc.0) then Posts else Idles
-semaphore_act_by place holds o (Do sid (SemWait desc)) = if gives_object o (holds sid.0 desc.0) then Waits (record { place = place; session = sid.0; desc = desc.0 }) else Idles
-semaphore_act_by place holds o (Do sid (SemTryWait desc)) = if gives_object o (holds sid.0 desc.0) then Tries else Idles
-semaphore_act_by place holds o (Do sid Interrupt) = Cancels sid.0
-semaphore_act_by place holds o (Hangup sid) = Cancels sid.0
-semaphore_act_by place holds o _ = Idles
+semaphore_act_by place holds o (Do sid (SemPost desc)) = if gives_object o (holds sid.0 desc.0) then Posts else NoSemaphoreAct
+semaphore_act_by place holds o (Do sid (SemWait desc)) = if gives_object o (holds sid.0 desc.0) then Waits (record { place = place; session = sid.0; desc = desc.0 }) else NoSemaphoreAct
+semaphore_act_by place holds o (Do sid (SemTryWait desc)) = if gives_object o (holds sid.0 desc.0) then Tries else NoSemaphoreAct
+semaphore_act_by place holds o (Do sid Interrupt) = WithdrawsWait sid.0
+semaphore_act_by place holds o (Hangup sid) = WithdrawsWait sid.0
+semaphore_act_by place holds o _ = NoSemaphoreAct
 
 -- what an event does to semaphore o
 abbrev pub semaphore_act : ℕ → Event → History → SemaphoreAct
@@ -38,7 +38,7 @@ semaphore_act o e before = semaphore_act_by (length before) (holds before) o e
 -- a semaphore, act by act: its value, and the waits that are parked on it, longest parked first
 pub record Semaphore : Type 0 where
   pub value : ℕ
-  pub waiters : List Wait
+  pub waiters : List Waiter
 
 -- a semaphore before its creation
 abbrev pub no_semaphore : Semaphore
@@ -50,16 +50,16 @@ abbrev pub value_after : SemaphoreAct → Semaphore → ℕ
 value_after Posts q = if has_none q.waiters then q.value + 1 else q.value
 value_after (Waits w) q = q.value - 1
 value_after Tries q = q.value - 1
-value_after (Cancels s) q = q.value
-value_after Idles q = q.value
+value_after (WithdrawsWait s) q = q.value
+value_after NoSemaphoreAct q = q.value
 
--- a wait at 0 parks; a post serves the longest parked wait; an interrupt or a hang-up cancels
-abbrev pub waiters_after : SemaphoreAct → Semaphore → List Wait
-waiters_after Posts q = behind q.waiters
+-- a wait at 0 parks; a post serves the longest parked wait; an interrupt or a hang-up withdraws
+abbrev pub waiters_after : SemaphoreAct → Semaphore → List Waiter
+waiters_after Posts q = tail q.waiters
 waiters_after (Waits w) q = if q.value == 0 then q.waiters ++ w ∷ [] else q.waiters
 waiters_after Tries q = q.waiters
-waiters_after (Cancels s) q = filter (λ w. not (w.session == s)) q.waiters
-waiters_after Idles q = q.waiters
+waiters_after (WithdrawsWait s) q = filter (λ w. not (w.session == s)) q.waiters
+waiters_after NoSemaphoreAct q = q.waiters
 
 -- a semaphore after an act
 abbrev pub semaphore_after : SemaphoreAct → Semaphore → Semaphore
@@ -112,13 +112,13 @@ unfoldable pub value : History → ℕ → ℕ
 value h o = (given_value h o + posts h o) - passes h o
 
 -- the waits that are parked on semaphore o, longest parked first
-abbrev pub waiters : History → ℕ → List Wait
+abbrev pub waiters : History → ℕ → List Waiter
 waiters h o = (semaphore h o).waiters
 
 -- there is such a semaphore, and its value is 0
 abbrev pub is_zero : Config → History → ℕ → Bool
-is_zero c h o = there_is (λ first_value. value h o == 0) (as_semaphore (object c h o))
+is_zero c h o = is_some_and (λ first_value. value h o == 0) (as_semaphore (object c h o))
 
 -- there is such a semaphore, and its value is the greatest
 abbrev pub is_greatest : Config → History → ℕ → Bool
-is_greatest c h o = there_is (λ first_value. value h o == SEM_VALUE_MAX) (as_semaphore (object c h o))
+is_greatest c h o = is_some_and (λ first_value. value h o == SEM_VALUE_MAX) (as_semaphore (object c h o))

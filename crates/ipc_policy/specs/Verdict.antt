@@ -21,7 +21,7 @@ use Rattle.ipc_policy.specs.declared.config.Registration.{Registration}
 use Rattle.ipc_terms.specs.declared.call.Attributes.{Attributes}
 pub use Rattle.ipc_policy.specs.Objects.{facts_meant}
 use Rattle.ipc_policy.specs.Descriptions.{opens, holds, is_nonblock}
-use Rattle.ipc_policy.specs.Queues.{Send, Wait, attributes, next, queue, contents, senders, receivers, is_full}
+use Rattle.ipc_policy.specs.Queues.{Send, Waiter, attributes, next, queue, contents, senders, receivers, is_full}
 use Rattle.ipc_policy.specs.Registrations.{is_idle, registered}
 use Rattle.ipc_policy.specs.Semaphores.{value, waiters, is_zero}
 use Rattle.ipc_policy.specs.Life.{names}
@@ -32,9 +32,9 @@ unfoldable pub verdict : Config → History → Event → Option Rule
 verdict c h e = find (λ rule. forbids rule c h e) every_rule
 
 -- a session is told what there is
-abbrev pub told : Sid → Option Facts → List (Sid × Answer)
-told sid None = []
-told sid (Some found) = (sid, Stat found) ∷ []
+abbrev pub stat_answers : Sid → Option Facts → List (Sid × Answer)
+stat_answers sid None = []
+stat_answers sid (Some found) = (sid, Stat found) ∷ []
 
 -- what is answered of the object that a description gives, where there is one
 abbrev pub answers_of : Option Held → (ℕ → List (Sid × Answer)) → List (Sid × Answer)
@@ -42,14 +42,14 @@ answers_of None answered = []
 answers_of (Some x) answered = answered x.object
 
 -- a session whose receive was parked is given a message, where there is one
-abbrev pub given : ℕ → List ℕ → Option Wait → List (Sid × Answer)
-given priority bytes None = []
-given priority bytes (Some w) = (record { 0 = w.session }, Received priority bytes) ∷ []
+abbrev pub receiver_answers : ℕ → List ℕ → Option Waiter → List (Sid × Answer)
+receiver_answers priority bytes None = []
+receiver_answers priority bytes (Some w) = (record { 0 = w.session }, Received priority bytes) ∷ []
 
 -- a session whose send was parked is told that its message entered, where there is one
-abbrev pub let_in : Option Send → List (Sid × Answer)
-let_in None = []
-let_in (Some m) = (record { 0 = m.session }, Sent) ∷ []
+abbrev pub sender_answers : Option Send → List (Sid × Answer)
+sender_answers None = []
+sender_answers (Some m) = (record { 0 = m.session }, Sent) ∷ []
 
 -- the session that is registered is told of the message, where there is one
 abbrev pub noticed : Option Registration → List (Sid × Answer)
@@ -62,12 +62,12 @@ abbrev pub send_answers : Config → History → Sid → ℕ → List ℕ → �
 send_answers c h sid priority bytes o =
     if is_full c h o
     then []
-    else (sid, Sent) ∷ given priority bytes (first (receivers c h o)) ++ (if is_idle (queue c h o) then noticed (registered c h o) else [])
+    else (sid, Sent) ∷ receiver_answers priority bytes (first (receivers c h o)) ++ (if is_idle (queue c h o) then noticed (registered c h o) else [])
 
 -- a session takes a message, and then the sender that it lets in is told
 abbrev pub received : Sid → Option Send → Option Send → List (Sid × Answer)
 received sid None sender = []
-received sid (Some m) sender = (sid, Received m.priority m.bytes) ∷ let_in sender
+received sid (Some m) sender = (sid, Received m.priority m.bytes) ∷ sender_answers sender
 
 -- a receive that parks is not answered yet; else the next message is, and then the longest parked send enters
 abbrev pub receive_answers : Config → History → Sid → ℕ → List (Sid × Answer)
@@ -85,13 +85,13 @@ attributes_told c h sid d = by_held (holds h sid.0 d) where
   by_held (Some x) = by_queue x.object (attributes c h x.object)
 
 -- a session whose wait was parked is told that it is over, where there is one
-abbrev pub let_through : Option Wait → List (Sid × Answer)
-let_through None = []
-let_through (Some w) = (record { 0 = w.session }, Done) ∷ []
+abbrev pub waiter_answers : Option Waiter → List (Sid × Answer)
+waiter_answers None = []
+waiter_answers (Some w) = (record { 0 = w.session }, Done) ∷ []
 
 -- a post is answered, and then the longest parked wait
 abbrev pub post_answers : History → Sid → ℕ → List (Sid × Answer)
-post_answers h sid o = (sid, Done) ∷ let_through (first (waiters h o))
+post_answers h sid o = (sid, Done) ∷ waiter_answers (first (waiters h o))
 
 -- a wait that parks is not answered yet
 abbrev pub wait_answers : Config → History → Sid → ℕ → List (Sid × Answer)
@@ -121,7 +121,7 @@ accepted_answers c h (Do sid (SemWait desc)) = answers_of (holds h sid.0 desc.0)
 accepted_answers c h (Do sid (SemTryWait desc)) = (sid, Done) ∷ []
 accepted_answers c h (Do sid (SemGetvalue desc)) = answers_of (holds h sid.0 desc.0) (value_told h sid)
 accepted_answers c h (Do sid (ListNames family start count)) = (sid, Names (page start count (names h family))) ∷ []
-accepted_answers c h (Do sid (StatName target)) = told sid (facts_meant c h target)
+accepted_answers c h (Do sid (StatName target)) = stat_answers sid (facts_meant c h target)
 accepted_answers c h (Do sid (Chmod mode target)) = (sid, Done) ∷ []
 accepted_answers c h (Do sid (Chown owner group target)) = (sid, Done) ∷ []
 accepted_answers c h (Do sid (SetLimit uid bytes)) = (sid, Done) ∷ []

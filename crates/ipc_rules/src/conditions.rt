@@ -8,7 +8,7 @@ ghost use Rattle.ipc_terms.specs.Objects.{as_queue, of_queue, attributes_asked, 
 ghost use Rattle.ipc_policy.specs.Objects.{kind_of};
 ghost use Rattle.ipc_policy.specs.Charges.{bytes_of};
 ghost use Rattle.ipc_terms.specs.declared.object.TheConstants.{SEM_VALUE_MAX};
-ghost use Rattle.ipc_policy.specs.Rules.{there_is, is_not_admin, above_limit, is_of_family, denied, denied_at, removal_denied, change_denied, reads_only, writes_only, bits_wanted, out_of_range};
+ghost use Rattle.ipc_policy.specs.Rules.{is_some_and, is_not_admin, above_limit, is_of_family, denied, denied_at, removal_denied, change_denied, reads_only, writes_only, bits_wanted, out_of_range};
 
 use crate::questions::{charged, limit};
 use ipc_access::{Cred, READ, WRITE, grants, may_chmod, may_chown, may_remove};
@@ -27,7 +27,7 @@ pub fn is_known(config: &Config, found: Option<Uid>) -> bool
 }
 
 pub fn is_read_only(held: Option<Held>) -> bool
-    ensures { result ≡ there_is (λ x. reads_only x.access) held }
+    ensures { result ≡ is_some_and (λ x. reads_only x.access) held }
 {
     match held {
         Some(held) => matches!(held.access, Access::Read),
@@ -36,7 +36,7 @@ pub fn is_read_only(held: Option<Held>) -> bool
 }
 
 pub fn is_write_only(held: Option<Held>) -> bool
-    ensures { result ≡ there_is (λ x. writes_only x.access) held }
+    ensures { result ≡ is_some_and (λ x. writes_only x.access) held }
 {
     match held {
         Some(held) => matches!(held.access, Access::Write),
@@ -75,7 +75,7 @@ pub fn attributes_asked(kind: Asked) -> Option<Attributes>
 
 /// Whether an open asks for a first value above the greatest.
 pub fn is_too_great(kind: Asked) -> bool
-    ensures { result ≡ there_is (nat_lt SEM_VALUE_MAX) (value_asked kind) }
+    ensures { result ≡ is_some_and (nat_lt SEM_VALUE_MAX) (value_asked kind) }
 {
     match kind {
         Asked::Queue(_) => false,
@@ -84,7 +84,7 @@ pub fn is_too_great(kind: Asked) -> bool
 }
 
 pub fn is_too_long(queue: Option<Attributes>, length: usize) -> bool
-    ensures { result ≡ there_is (λ x. nat_lt x.msgsize length) queue }
+    ensures { result ≡ is_some_and (λ x. nat_lt x.msgsize length) queue }
 {
     match queue {
         Some(attributes) => (attributes.msgsize as usize) < length,
@@ -93,7 +93,7 @@ pub fn is_too_long(queue: Option<Attributes>, length: usize) -> bool
 }
 
 pub fn is_too_short(queue: Option<Attributes>, length: u32) -> bool
-    ensures { result ≡ there_is (λ x. nat_lt length x.msgsize) queue }
+    ensures { result ≡ is_some_and (λ x. nat_lt length x.msgsize) queue }
 {
     match queue {
         Some(attributes) => length < attributes.msgsize,
@@ -198,7 +198,7 @@ pub fn is_not_admin(who: Option<&Cred>) -> bool
 
 /// Whether the user's queues and one more of these attributes take more bytes than the user's may.
 pub fn is_above_limit(lookup: &Lookup<'_>, who: Option<&Cred>, given: Option<Attributes>) -> bool
-    ensures { result ≡ there_is (λ given. there_is (above_limit lookup.now.config lookup.now.history given) (option_copied who.entry)) given }
+    ensures { result ≡ is_some_and (λ given. is_some_and (above_limit lookup.now.config lookup.now.history given) (option_copied who.entry)) given }
 {
     let (Some(who), Some(given)) = (who, given) else {
         return false;

@@ -28,7 +28,7 @@ use Rattle.ipc_policy.specs.Names.{Opening, opening, queue_opening, semaphore_op
 use Rattle.ipc_policy.specs.Grow.{is_new}
 use Rattle.ipc_policy.specs.Objects.{object, attributes_of, kind_of}
 use Rattle.ipc_policy.specs.Descriptions.{holds}
-use Rattle.ipc_policy.specs.Rules.{there_is, is_of_family, not_held, out_of_range, above_limit, queue_made}
+use Rattle.ipc_policy.specs.Rules.{is_some_and, is_of_family, not_held, out_of_range, above_limit, queue_made}
 use Rattle.ipc_policy.specs.Charges.{limit}
 use Rattle.ipc_policy.specs.Verdict.{verdict}
 use Rattle.ipc_policy.proofs.Histories.Known.{bound_iff}
@@ -172,7 +172,7 @@ unbound_is h family name none = bound_iff h family name ∙ ap is_some none
 pub open_new : (c : Config) (h : History) (e : Event) (asked : Opening) → opening e ≡ Some asked → verdict c h e ≡ None → bound h asked.family asked.name ≡ None → is_new asked (is_bound h) ≡ true
 open_new c h e asked is accepted none = new_at (has_create asked.flags) (is_bound h asked.family asked.name) (unbound_is h asked.family asked.name none) (ap (λ b. not (has_create asked.flags) && not b) (sym (unbound_is h asked.family asked.name none)) ∙ open_there c h e asked is accepted)
 
-room_at : (c : Config) (asked : Asked) (who : Cred) → first_bad c.limits ≡ None → out_of_range c (Some who) (attributes_asked asked) ≡ false → there_is (nat_lt SEM_VALUE_MAX) (value_asked asked) ≡ false → HasRoom (kind_of c asked)
+room_at : (c : Config) (asked : Asked) (who : Cred) → first_bad c.limits ≡ None → out_of_range c (Some who) (attributes_asked asked) ≡ false → is_some_and (nat_lt SEM_VALUE_MAX) (value_asked asked) ≡ false → HasRoom (kind_of c asked)
 room_at c (AskedQueue given) who in_range one two = attributes_range c who given in_range one
 room_at c (AskedSemaphore value) who in_range one two = grind (arith, nat_tests)
 
@@ -180,12 +180,12 @@ pub open_room : (c : Config) (h : History) (e : Event) (asked : Opening) (who : 
 open_room c h e asked who in_range is accepted none known =
     let new = open_new c h e asked is accepted none in
     let one = ap (λ b. b && out_of_range c (cred c h asked.session.0) (attributes_asked asked.kind)) (sym new) ∙ open_in_range c h e asked is accepted in
-    let two = ap (λ b. b && there_is (nat_lt SEM_VALUE_MAX) (value_asked asked.kind)) (sym new) ∙ open_value_in_range c h e asked is accepted in
+    let two = ap (λ b. b && is_some_and (nat_lt SEM_VALUE_MAX) (value_asked asked.kind)) (sym new) ∙ open_value_in_range c h e asked is accepted in
     room_at c asked.kind who in_range (ap (λ w. out_of_range c w (attributes_asked asked.kind)) (sym known) ∙ one) two
 
 -- and its creator can afford it
 pub open_affords : (c : Config) (h : History) (e : Event) (asked : Opening) (charges : List Charge) (who : Cred) → opening e ≡ Some asked → verdict c h e ≡ None → bound h asked.family asked.name ≡ None → cred c h asked.session.0 ≡ Some who → ChargesAgree c h charges → Affords charges who.uid.0 (kind_of c asked.kind)
 open_affords c h e asked charges who is accepted none known a =
     let new = open_new c h e asked is accepted none in
-    let fits = ap (λ b. b && there_is (λ given. there_is (above_limit c h given) (cred c h asked.session.0)) (queue_made c asked)) (sym new) ∙ open_within_limit c h e asked is accepted in
-    affords_kind c h charges who (kind_of c asked.kind) (caller_limited c h asked.session.0 who known) a (subst (λ (w : Option Cred). there_is (λ given. there_is (above_limit c h given) w) (queue_made c asked) ≡ false) known fits)
+    let fits = ap (λ b. b && is_some_and (λ given. is_some_and (above_limit c h given) (cred c h asked.session.0)) (queue_made c asked)) (sym new) ∙ open_within_limit c h e asked is accepted in
+    affords_kind c h charges who (kind_of c asked.kind) (caller_limited c h asked.session.0 who known) a (subst (λ (w : Option Cred). is_some_and (λ given. is_some_and (above_limit c h given) w) (queue_made c asked) ≡ false) known fits)

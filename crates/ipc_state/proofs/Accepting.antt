@@ -26,14 +26,14 @@ use Rattle.ipc_policy.proofs.Queues.Registering.{IsHeldFor, registered_held}
 use Rattle.ipc_policy.proofs.Queues.RegisteredSteps.{registered_stays, registered_send_other, registered_on, registered_on_other, registered_off, registered_hangup, other_s_description}
 use Rattle.ipc_policy.proofs.Directories.Creating.{holds_is_held}
 use Rattle.ipc_terms.proofs.Lists.{eqb_swapped}
-use Rattle.ipc_policy.specs.History.{History, after_accepted, kept, there_is, gathered_below}
+use Rattle.ipc_policy.specs.History.{History, after_accepted, unless, is_some_and, gathered_below}
 use Rattle.ipc_policy.specs.Sessions.{hellos, user, live, cred, mask}
 use Rattle.ipc_policy.specs.Names.{Opening, is_bound, creations, bound}
 use Rattle.ipc_policy.specs.Objects.{object, facts, directory, directory_owner, directory_group, directory_mode, made_by, first_facts}
 use Rattle.ipc_policy.specs.Descriptions.{opens, held, holds, is_nonblock}
 use Rattle.ipc_policy.specs.Life.{named, bindings, alive}
 use Rattle.ipc_policy.specs.Queues.{Withdraws, queue, queue_after, maxmsg}
-use Rattle.ipc_policy.specs.Semaphores.{Cancels, semaphore, semaphore_after, with_first}
+use Rattle.ipc_policy.specs.Semaphores.{WithdrawsWait, semaphore, semaphore_after, with_first}
 use Rattle.ipc_terms.specs.declared.object.Object.{Object}
 use Rattle.ipc_policy.specs.Charges.{sets_limit, limit}
 use Rattle.ipc_policy.proofs.Directories.Bindings.{object_with_facts}
@@ -82,7 +82,7 @@ pub record Untouched (c : Config) (h k : History) : Type 0 where
   pub object' : (o : ℕ) → object c k o ≡ object c h o
   pub facts' : (o : ℕ) → facts c k o ≡ facts c h o
 
-untouched : (c : Config) (h : History) (e : Event) → GivesNothing e → ((o : ℕ) → named_after o e (is_bound h) (creations h) (named h o) ≡ kept (λ x. false) (named h o)) → ((d : ℕ) → held_after d e (opens h) (bound h) (creations h) (held h d) ≡ kept (λ x. false) (held h d)) → opens_after e (opens h) ≡ opens h → ((f : Family) → bindings_after f e (is_bound h) (creations h) (bindings h f) ≡ bindings h f) → creations_after e (is_bound h) (creations h) ≡ creations h → ((o : ℕ) → made_after o e (is_bound h) (creations h) (λ asked. option_map (made_by c asked) (cred c h asked.session.0)) (object c h o) ≡ object c h o) → ((o : ℕ) → made_after o e (is_bound h) (creations h) (λ asked. option_map (first_facts asked (mask h asked.session.0)) (cred c h asked.session.0)) (facts c h o) ≡ facts c h o) → Untouched c h (after_accepted h e)
+untouched : (c : Config) (h : History) (e : Event) → GivesNothing e → ((o : ℕ) → named_after o e (is_bound h) (creations h) (named h o) ≡ unless (λ x. false) (named h o)) → ((d : ℕ) → held_after d e (opens h) (bound h) (creations h) (held h d) ≡ unless (λ x. false) (held h d)) → opens_after e (opens h) ≡ opens h → ((f : Family) → bindings_after f e (is_bound h) (creations h) (bindings h f) ≡ bindings h f) → creations_after e (is_bound h) (creations h) ≡ creations h → ((o : ℕ) → made_after o e (is_bound h) (creations h) (λ asked. option_map (made_by c asked) (cred c h asked.session.0)) (object c h o) ≡ object c h o) → ((o : ℕ) → made_after o e (is_bound h) (creations h) (λ asked. option_map (first_facts asked (mask h asked.session.0)) (cred c h asked.session.0)) (facts c h o) ≡ facts c h o) → Untouched c h (after_accepted h e)
 untouched c h e p n d i b m o f =
     let g = grows c h e in
     record {
@@ -331,10 +331,10 @@ agrees_registered c h t sid desc o k here none =
     k.agrees)
 
 -- an accepted notify off
-unregisters_body : (x : Object) (desc : Desc) (m n : Inside) → n.queue ≡ m.queue → n.semaphore ≡ m.semaphore → n.registered ≡ kept (λ y. eqb desc.0 y.desc.0) m.registered → body_of x.kind n ≡ with_body (without_registration desc) (body_of x.kind m)
+unregisters_body : (x : Object) (desc : Desc) (m n : Inside) → n.queue ≡ m.queue → n.semaphore ≡ m.semaphore → n.registered ≡ unless (λ y. eqb desc.0 y.desc.0) m.registered → body_of x.kind n ≡ with_body (without_registration desc) (body_of x.kind m)
 unfolding without_registration
 unregisters_body x desc m n q u now = at x.kind where
-  left : (given : Attributes) (g : Option Registration) → QueueBody (tickets_of (kept (λ y. eqb desc.0 y.desc.0) g) m.queue given) ≡ QueueBody (without_registration desc (tickets_of g m.queue given))
+  left : (given : Attributes) (g : Option Registration) → QueueBody (tickets_of (unless (λ y. eqb desc.0 y.desc.0) g) m.queue given) ≡ QueueBody (without_registration desc (tickets_of g m.queue given))
   left given None = refl
   left given (Some y) = rw (eqb_swapped desc.0 y.desc.0) (by_test (eqb y.desc.0 desc.0)) where
     by_test : (b : Bool) → QueueBody (tickets_of (cond b None (Some y)) m.queue given) ≡ QueueBody (cond b (tickets_of None m.queue given) (tickets_of (Some y) m.queue given))
@@ -345,7 +345,7 @@ unregisters_body x desc m n q u now = at x.kind where
   at (QueueKind given) = rw (q, now) (left given m.registered)
   at (SemaphoreKind value) = ap (λ u. SemaphoreBody (counter_of u)) u
 
-kept_none : (p : Registration → Bool) (w : Option Registration) → ((x : Registration) → w ≡ Some x → p x ≡ false) → kept p w ≡ w
+kept_none : (p : Registration → Bool) (w : Option Registration) → ((x : Registration) → w ≡ Some x → p x ≡ false) → unless p w ≡ w
 kept_none p None none = refl
 kept_none p (Some x) none = ap (λ b. cond b None (Some x)) (none x refl)
 
@@ -382,9 +382,9 @@ unparked c h sid e s = at (eqb sid.0 s) refl where
 
 -- what stands in an object without the call of the session
 abbrev pub without_calls : Config → History → Sid → ℕ → Inside
-without_calls c h sid o = record { queue = queue_after (maxmsg c h o) (Withdraws sid.0) (queue c h o); registered = registered c h o; semaphore = semaphore_after (Cancels sid.0) (semaphore h o) }
+without_calls c h sid o = record { queue = queue_after (maxmsg c h o) (Withdraws sid.0) (queue c h o); registered = registered c h o; semaphore = semaphore_after (WithdrawsWait sid.0) (semaphore h o) }
 
-left_elsewhere : (c : Config) (h : History) (sid : Sid) (o : ℕ) → Legal c h → there_is (λ x. eqb x.object o) (parked c h sid.0) ≡ false → without_calls c h sid o ≡ inside c h o
+left_elsewhere : (c : Config) (h : History) (sid : Sid) (o : ℕ) → Legal c h → is_some_and (λ x. eqb x.object o) (parked c h sid.0) ≡ false → without_calls c h sid o ≡ inside c h o
 left_elsewhere c h sid o legal away = rw (withdrawn_elsewhere c h legal (maxmsg c h o) sid.0 o away, cancelled_elsewhere c h legal sid.0 o away) refl
 
 body_withdrawn : (c : Config) (h : History) (sid : Sid) (o : ℕ) (kind : Kind) → Legal c h → body_of kind (without_calls c h sid o) ≡ without_call sid (body_of kind (inside c h o))
@@ -396,7 +396,7 @@ withdrawn_at c h t sid q k made lt None e =
     let none : parked_on_at t.sessions sid.0 ≡ None = k.agrees.sessions.parks sid.0 ∙ ap (option_map (λ (p : Parked). p.object)) e in
     rw none (record {
       sessions = record { users = k.agrees.sessions.users; masks = k.agrees.sessions.masks; lives = k.agrees.sessions.lives; parks = λ s. k.agrees.sessions.parks s ∙ unparked c h sid e s; count = k.agrees.sessions.count };
-      rows = k.agrees.objects.rows ∙ rows_kept c h h q (inside c h) (λ o. refl) (λ o. refl) (λ o. refl) (λ o. made o ∙ left_elsewhere c h sid o k.legal (ap (there_is (λ x. eqb x.object o)) e)) refl;
+      rows = k.agrees.objects.rows ∙ rows_kept c h h q (inside c h) (λ o. refl) (λ o. refl) (λ o. refl) (λ o. made o ∙ left_elsewhere c h sid o k.legal (ap (is_some_and (λ x. eqb x.object o)) e)) refl;
       others = refl;
     })
 withdrawn_at c h t sid q k made lt (Some p) e =
@@ -404,7 +404,7 @@ withdrawn_at c h t sid q k made lt (Some p) e =
     rw some (record {
       sessions = columns_moved t.sessions (hellos h) (user h) (mask h) (live h) (parked_object c h) None sid.0 lt (columns_of c h t.sessions k.agrees.sessions);
       rows = rows_changed c h h q t.objects t.created p.object (without_call sid) (λ i. refl) (λ i. refl) (λ i. refl)
-          (λ i ne. made i ∙ left_elsewhere c h sid i k.legal (ap (there_is (λ x. eqb x.object i)) e ∙ ne_eqb p.object i (λ q. ne (sym q))))
+          (λ i ne. made i ∙ left_elsewhere c h sid i k.legal (ap (is_some_and (λ x. eqb x.object i)) e ∙ ne_eqb p.object i (λ q. ne (sym q))))
           (λ x is. ap (body_of x.kind) (made p.object) ∙ body_withdrawn c h sid p.object x.kind k.legal)
           refl k.agrees.objects;
       others = refl;
@@ -465,13 +465,13 @@ agrees_limited c h t sid uid bytes a =
     }
 
 -- a registration is left exactly if its description is held
-released_at : (c : Config) (h k : History) (d : Descriptions) (w : ℕ → Held → Bool) (v : ℕ → ℕ → Bool) (o : ℕ) (x : Registration) → DescriptionsAgree k d → ((i : ℕ) → held k i ≡ kept (w i) (held h i)) → ((i : ℕ) (y : Held) → w i y ≡ v y.session.0 i) → IsHeldFor h o x → cond (is_some (find (is_desc x.desc.0) d.rows)) (Some x) None ≡ cond (v x.session.0 x.desc.0) None (Some x)
+released_at : (c : Config) (h k : History) (d : Descriptions) (w : ℕ → Held → Bool) (v : ℕ → ℕ → Bool) (o : ℕ) (x : Registration) → DescriptionsAgree k d → ((i : ℕ) → held k i ≡ unless (w i) (held h i)) → ((i : ℕ) (y : Held) → w i y ≡ v y.session.0 i) → IsHeldFor h o x → cond (is_some (find (is_desc x.desc.0) d.rows)) (Some x) None ≡ cond (v x.session.0 x.desc.0) None (Some x)
 released_at c h k d w v o x a h' by_session known = ap (λ b. cond b (Some x) None) there ∙ at (v x.session.0 x.desc.0) where
   mine : known.x'.session.0 ≡ x.session.0
   mine = session_is x.session.0 known.x' (if_of_is x.session.0 x.desc.0 h known.x' known.held)
 
   now : held k x.desc.0 ≡ cond (v x.session.0 x.desc.0) None (Some known.x')
-  now = h' x.desc.0 ∙ ap (kept (w x.desc.0)) (holds_is_held h x.session.0 x.desc.0 known.x' known.held) ∙ ap (λ b. cond b None (Some known.x')) (by_session x.desc.0 known.x' ∙ ap (λ s. v s x.desc.0) mine)
+  now = h' x.desc.0 ∙ ap (unless (w x.desc.0)) (holds_is_held h x.session.0 x.desc.0 known.x' known.held) ∙ ap (λ b. cond b None (Some known.x')) (by_session x.desc.0 known.x' ∙ ap (λ s. v s x.desc.0) mine)
 
   counts : (u : Option Held) → is_some (option_map (row_held (is_nonblock k) x.desc.0) u) ≡ is_some u
   counts None = refl
@@ -484,17 +484,17 @@ released_at c h k d w v o x a h' by_session known = ap (λ b. cond b (Some x) No
   at true = refl
   at false = refl
 
-released_is : (c : Config) (h k : History) (d : Descriptions) (w : ℕ → Held → Bool) (v : ℕ → ℕ → Bool) (o : ℕ) → DescriptionsAgree k d → ((i : ℕ) → held k i ≡ kept (w i) (held h i)) → ((i : ℕ) (y : Held) → w i y ≡ v y.session.0 i) → registered c k o ≡ kept (λ x. v x.session.0 x.desc.0) (registered c h o) → registered c k o ≡ released d.rows (registered c h o)
+released_is : (c : Config) (h k : History) (d : Descriptions) (w : ℕ → Held → Bool) (v : ℕ → ℕ → Bool) (o : ℕ) → DescriptionsAgree k d → ((i : ℕ) → held k i ≡ unless (w i) (held h i)) → ((i : ℕ) (y : Held) → w i y ≡ v y.session.0 i) → registered c k o ≡ unless (λ x. v x.session.0 x.desc.0) (registered c h o) → registered c k o ≡ released d.rows (registered c h o)
 released_is c h k d w v o a h' by_session ends = ends ∙ at (registered c h o) refl where
-  at : (g : Option Registration) → registered c h o ≡ g → kept (λ x. v x.session.0 x.desc.0) g ≡ released d.rows g
+  at : (g : Option Registration) → registered c h o ≡ g → unless (λ x. v x.session.0 x.desc.0) g ≡ released d.rows g
   at None e = refl
   at (Some x) e = sym (released_at c h k d w v o x a h' by_session (registered_held c h o x e))
 
-left_is_so : (c : Config) (h k : History) (d : Descriptions) (w : ℕ → Held → Bool) (v : ℕ → ℕ → Bool) (q : Inside) (o : ℕ) → q.registered ≡ registered c h o → DescriptionsAgree k d → ((i : ℕ) → held k i ≡ kept (w i) (held h i)) → ((i : ℕ) (y : Held) → w i y ≡ v y.session.0 i) → registered c k o ≡ kept (λ x. v x.session.0 x.desc.0) (registered c h o) → record q { registered = registered c k o } ≡ left_in d.rows q
+left_is_so : (c : Config) (h k : History) (d : Descriptions) (w : ℕ → Held → Bool) (v : ℕ → ℕ → Bool) (q : Inside) (o : ℕ) → q.registered ≡ registered c h o → DescriptionsAgree k d → ((i : ℕ) → held k i ≡ unless (w i) (held h i)) → ((i : ℕ) (y : Held) → w i y ≡ v y.session.0 i) → registered c k o ≡ unless (λ x. v x.session.0 x.desc.0) (registered c h o) → record q { registered = registered c k o } ≡ left_in d.rows q
 left_is_so c h k d w v q o was a h' by_session ends = ap (λ (g : Option Registration). record q { registered = g }) (released_is c h k d w v o a h' by_session ends ∙ ap (released d.rows) (sym was))
 
 -- an event that creates nothing, after which objects may be gone
-pub gone : (c : Config) (h k : History) (e : Event) (t : TablesView) (ss : List Session) (xs : List ObjectRow) (queues' semaphores' : Directory) (d : Descriptions) (q : ℕ → Inside) (p : Opening → Bool) (w : ℕ → Held → Bool) → Grows c h k e → ((o : ℕ) → named k o ≡ kept p (named h o)) → ((i : ℕ) → held k i ≡ kept (w i) (held h i)) → opens k ≡ opens h → creations k ≡ creations h → ((o : ℕ) → object c k o ≡ object c h o) → ((o : ℕ) → facts c k o ≡ facts c h o) → ((o : ℕ) → inside c k o ≡ record (q o) { registered = registered c k o }) → ((o : ℕ) → (q o).registered ≡ registered c h o) → (v : ℕ → ℕ → Bool) → ((o : ℕ) → registered c k o ≡ kept (λ x. v x.session.0 x.desc.0) (registered c h o)) → ((i : ℕ) (y : Held) → w i y ≡ v y.session.0 i) → xs ≡ gathered_below (row_with c h q) (creations h) → Legal c h → ((u : Uid) → limit c k u ≡ limit c h u) → SessionsAgree c k ss → DirectoryAgrees k Mq queues' → DirectoryAgrees k Sem semaphores' → DescriptionsAgree k d → Agrees c h t → Agrees c k (record t { sessions = ss; queues = queues'; semaphores = semaphores'; objects = living queues' semaphores' d.rows xs; descriptions = d; charges = settled (is_kept queues' semaphores' d.rows) xs t.charges })
+pub gone : (c : Config) (h k : History) (e : Event) (t : TablesView) (ss : List Session) (xs : List ObjectRow) (queues' semaphores' : Directory) (d : Descriptions) (q : ℕ → Inside) (p : Opening → Bool) (w : ℕ → Held → Bool) → Grows c h k e → ((o : ℕ) → named k o ≡ unless p (named h o)) → ((i : ℕ) → held k i ≡ unless (w i) (held h i)) → opens k ≡ opens h → creations k ≡ creations h → ((o : ℕ) → object c k o ≡ object c h o) → ((o : ℕ) → facts c k o ≡ facts c h o) → ((o : ℕ) → inside c k o ≡ record (q o) { registered = registered c k o }) → ((o : ℕ) → (q o).registered ≡ registered c h o) → (v : ℕ → ℕ → Bool) → ((o : ℕ) → registered c k o ≡ unless (λ x. v x.session.0 x.desc.0) (registered c h o)) → ((i : ℕ) (y : Held) → w i y ≡ v y.session.0 i) → xs ≡ gathered_below (row_with c h q) (creations h) → Legal c h → ((u : Uid) → limit c k u ≡ limit c h u) → SessionsAgree c k ss → DirectoryAgrees k Mq queues' → DirectoryAgrees k Sem semaphores' → DescriptionsAgree k d → Agrees c h t → Agrees c k (record t { sessions = ss; queues = queues'; semaphores = semaphores'; objects = living queues' semaphores' d.rows xs; descriptions = d; charges = settled (is_kept queues' semaphores' d.rows) xs t.charges })
 gone c h k e t ss xs queues' semaphores' d q p w g n h' i m o f same was v ends by_session rows' legal limits sessions' mq sem descriptions' a =
     let left = objects_left c h k q queues' semaphores' d xs t.created mq sem descriptions' (λ j. alive_less h k j p w (n j) h' i) o f (λ j. same j ∙ left_is_so c h k d w v (q j) j (was j) descriptions' h' by_session (ends j)) m rows' a.objects.count in
     let made : HaveFacts c h = object_with_facts c h legal in

@@ -20,7 +20,7 @@ use Rattle.ipc_terms.specs.declared.record.Event.{Event}
 use Rattle.ipc_terms.specs.declared.record.Event.TheVariants.{Do}
 use Rattle.ipc_policy.specs.declared.config.Config.{Config}
 use Rattle.ipc_policy.specs.declared.config.Held.{Held}
-use Rattle.ipc_policy.specs.History.{History, after_accepted, kept, there_is, gathered_below}
+use Rattle.ipc_policy.specs.History.{History, after_accepted, unless, is_some_and, gathered_below}
 use Rattle.ipc_policy.specs.Names.{Opening, is_bound, creations, bound}
 use Rattle.ipc_policy.specs.Rules.{forbids, absent}
 use Rattle.ipc_policy.specs.Verdict.{verdict}
@@ -55,8 +55,8 @@ use Rattle.ipc_state.proofs.Opened.{sessions_apart}
 record Changes (e : Event) : Type 0 where
   ends : Ends e
   calm' : (c : Config) (h : History) (o : ℕ) → registered c (after_accepted h e) o ≡ registered c h o
-  named' : (o n : ℕ) (b : Family → List ℕ → Bool) (w : Option Opening) → named_after o e b n w ≡ kept (λ x. false) w
-  held' : (d i n : ℕ) (b : Family → List ℕ → Option ℕ) (w : Option Held) → held_after d e i b n w ≡ kept (λ x. false) w
+  named' : (o n : ℕ) (b : Family → List ℕ → Bool) (w : Option Opening) → named_after o e b n w ≡ unless (λ x. false) w
+  held' : (d i n : ℕ) (b : Family → List ℕ → Option ℕ) (w : Option Held) → held_after d e i b n w ≡ unless (λ x. false) w
   bindings' : (f : Family) (n : ℕ) (b : Family → List ℕ → Bool) (w : List Binding) → bindings_after f e b n w ≡ w
 
 changes_of : (sid : Sid) (call : Call) (target : Target) → changing call ≡ Some target → Changes (Do sid call)
@@ -172,11 +172,11 @@ in_object c h k t o x at l d was is others a = record {
   charges = l.charges;
 }
 
-meant_own : (h : History) (f : Family) (name : List ℕ) (o : ℕ) → bound h f name ≡ Some o → there_is (λ n. eqb n o) (bound h f name) ≡ true
-meant_own h f name o e = ap (there_is (λ n. eqb n o)) e ∙ eq-eqb o o refl
+meant_own : (h : History) (f : Family) (name : List ℕ) (o : ℕ) → bound h f name ≡ Some o → is_some_and (λ n. eqb n o) (bound h f name) ≡ true
+meant_own h f name o e = ap (is_some_and (λ n. eqb n o)) e ∙ eq-eqb o o refl
 
-meant_other : (h : History) (f : Family) (name : List ℕ) (o i : ℕ) → bound h f name ≡ Some o → (i ≡ o → ⊥) → there_is (λ n. eqb n i) (bound h f name) ≡ false
-meant_other h f name o i e ne = ap (there_is (λ n. eqb n i)) e ∙ ne_eqb o i (λ q. ne (sym q))
+meant_other : (h : History) (f : Family) (name : List ℕ) (o i : ℕ) → bound h f name ≡ Some o → (i ≡ o → ⊥) → is_some_and (λ n. eqb n i) (bound h f name) ≡ false
+meant_other h f name o i e ne = ap (is_some_and (λ n. eqb n i)) e ∙ ne_eqb o i (λ q. ne (sym q))
 
 given_if : {A : Type 0} (b : Bool) (w : Option A) → b ≡ false → cond b w None ≡ None
 given_if b w e = rw e refl
@@ -184,12 +184,12 @@ given_if b w e = rw e refl
 object_given : (c : Config) (h : History) (sid : Sid) (call : Call) (f : Family) (name : List ℕ) (o : ℕ) (at : Facts) → changing call ≡ Some (Name f name) → bound h f name ≡ Some o → facts c h o ≡ Some at → facts c (after_accepted h (Do sid call)) o ≡ Some (changed_by call at)
 object_given c h sid (Chmod mode target) f name o at k e is =
     let same : target ≡ Name f name = cc in
-    rw same (facts_given c h (Do sid (Chmod mode (Name f name))) refl o at is ∙ all (there_is (λ n. eqb n o) (bound h f name)) (meant_own h f name o e)) where
+    rw same (facts_given c h (Do sid (Chmod mode (Name f name))) refl o at is ∙ all (is_some_and (λ n. eqb n o) (bound h f name)) (meant_own h f name o e)) where
       all : (b : Bool) → b ≡ true → Some (record { owner = at.owner; group = at.group; mode = unwrap_or (option_map object_bits (cond b (Some mode) None)) at.mode }) ≡ Some (record at { mode = object_bits mode })
       all b e = rw e refl
 object_given c h sid (Chown owner group target) f name o at k e is =
     let same : target ≡ Name f name = cc in
-    rw same (facts_given c h (Do sid (Chown owner group (Name f name))) refl o at is ∙ all (there_is (λ n. eqb n o) (bound h f name)) (meant_own h f name o e)) where
+    rw same (facts_given c h (Do sid (Chown owner group (Name f name))) refl o at is ∙ all (is_some_and (λ n. eqb n o) (bound h f name)) (meant_own h f name o e)) where
       all : (b : Bool) → b ≡ true → Some (record { owner = unwrap_or (cond b owner None) at.owner; group = unwrap_or (cond b group None) at.group; mode = at.mode }) ≡ Some (record at { owner = unwrap_or owner at.owner; group = unwrap_or group at.group })
       all b e = rw e refl
 object_given c h sid call f name o at k e is = absurd cc

@@ -19,7 +19,7 @@ use Rattle.ipc_access.specs.declared.class.Cred.{Cred}
 use Rattle.ipc_access.specs.declared.users.User.{User}
 use Rattle.ipc_access.specs.Users.{cred_of}
 use Rattle.ipc_policy.specs.declared.config.Config.{Config}
-use Rattle.ipc_policy.specs.History.{History, after_accepted, newest, sum_below, gathered_below, there_is}
+use Rattle.ipc_policy.specs.History.{History, after_accepted, newest, sum_below, gathered_below, is_some_and}
 use Rattle.ipc_policy.specs.Names.{creations}
 use Rattle.ipc_policy.specs.Objects.{object, facts}
 use Rattle.ipc_policy.specs.Life.{alive}
@@ -163,7 +163,7 @@ charges_created c h k x charges l n live made lives is a u =
     ∙ ap (option_map (λ (most : ℕ). record { uid = u; limit = most; used = charged c k u })) (sym (l u))
 
 -- a creator that is not above its limit can afford what it creates
-affords_at : (c : Config) (h : History) (charges : List Charge) (who : Cred) (given : Attributes) (w : Option ℕ) → limit c h who.uid ≡ w → is_some w ≡ true → ChargesAgree c h charges → there_is (λ (most : ℕ). nat_lt most (charged c h who.uid + bytes_of given)) w ≡ false → Affords charges who.uid.0 (QueueKind given)
+affords_at : (c : Config) (h : History) (charges : List Charge) (who : Cred) (given : Attributes) (w : Option ℕ) → limit c h who.uid ≡ w → is_some w ≡ true → ChargesAgree c h charges → is_some_and (λ (most : ℕ). nat_lt most (charged c h who.uid + bytes_of given)) w ≡ false → Affords charges who.uid.0 (QueueKind given)
 unfolding bytes_of
 affords_at c h charges who given None e some a fits = absurd cc
 affords_at c h charges who given (Some most) e some a fits =
@@ -171,7 +171,7 @@ affords_at c h charges who given (Some most) e some a fits =
     let le : charged c h who.uid + bytes_of given ≤ most = grind (arith, nat_tests, fits) in
     rw found le
 
-pub affords_kind : (c : Config) (h : History) (charges : List Charge) (who : Cred) (kind : Kind) → is_some (limit c h who.uid) ≡ true → ChargesAgree c h charges → there_is (λ given. above_limit c h given who) (of_queue kind) ≡ false → Affords charges who.uid.0 kind
+pub affords_kind : (c : Config) (h : History) (charges : List Charge) (who : Cred) (kind : Kind) → is_some (limit c h who.uid) ≡ true → ChargesAgree c h charges → is_some_and (λ given. above_limit c h given who) (of_queue kind) ≡ false → Affords charges who.uid.0 kind
 affords_kind c h charges who (QueueKind given) some a fits = affords_at c h charges who given (limit c h who.uid) refl some a fits
 affords_kind c h charges who (SemaphoreKind value) some a fits = tt
 

@@ -25,7 +25,7 @@ use Rattle.ipc_policy.specs.Semaphores.{value}
 use Rattle.ipc_policy.specs.Registrations.{registered}
 use Rattle.ipc_policy.specs.Verdict.{Legal}
 use Rattle.ipc_policy.proofs.Histories.Known.{bound_iff}
-use Rattle.ipc_policy.specs.Rules.{there_is, object_held, is_full, is_empty}
+use Rattle.ipc_policy.specs.Rules.{is_some_and, object_held, is_full, is_empty}
 use Rattle.ipc_state.specs.Agrees.{IsCore, DescriptionsAgree, held_in, queue_meant}
 use Rattle.ipc_state.proofs.Lookups.{found_is, facts_found, directory_agrees}
 use Rattle.ipc_state.proofs.QueueLookups.{holds_is, number_is, object_is, queue_is, semaphore_is, held_full_is, held_empty_is, held_test_is, nonblock_is}
@@ -83,11 +83,11 @@ facts_meant_by_name c h t e a =
     ap (λ w. option_map (λ (r : ObjectRow). r.facts) (option_and_then (row_at t.objects) w)) (bound_meant c h t e a)
     ∙ facts_named c h t e a
 
-bound_there : (h : History) (w : Option Naming) → is_some (option_and_then (λ (x : Naming). bound h x.family x.name) w) ≡ there_is (λ (x : Naming). is_bound h x.family x.name) w
+bound_there : (h : History) (w : Option Naming) → is_some (option_and_then (λ (x : Naming). bound h x.family x.name) w) ≡ is_some_and (λ (x : Naming). is_bound h x.family x.name) w
 bound_there h None = refl
 bound_there h (Some x) = sym (bound_iff h x.family x.name)
 
-pub is_bound_meant : (c : Config) (h : History) (t : TablesView) (e : Event) → IsCore c h t → is_some (number_meant t e) ≡ there_is (λ (x : Naming). is_bound h x.family x.name) (naming e)
+pub is_bound_meant : (c : Config) (h : History) (t : TablesView) (e : Event) → IsCore c h t → is_some (number_meant t e) ≡ is_some_and (λ (x : Naming). is_bound h x.family x.name) (naming e)
 is_bound_meant c h t e a = ap is_some (bound_meant c h t e a) ∙ bound_there h (naming e)
 
 -- what stands in the object that a description gives
@@ -113,26 +113,26 @@ semaphore_given c h t e a = at (description e) where
       ∙ ap (option_and_then (semaphore_at t.objects)) (number_is c h t (caller e).0 x.desc.0 a.agrees)
       ∙ semaphore_is c h t (caller e).0 x.desc.0 a.legal a.agrees
 
-pub full_meant : (c : Config) (h : History) (e : Event) → there_is is_full_of (by_description (queue_held c h) e) ≡ there_is (λ (x : Held). is_full c h x.object) (by_description (holds h) e)
+pub full_meant : (c : Config) (h : History) (e : Event) → is_some_and is_full_of (by_description (queue_held c h) e) ≡ is_some_and (λ (x : Held). is_full c h x.object) (by_description (holds h) e)
 full_meant c h e = at (description e) where
-  at : (w : Option Described) → there_is is_full_of (option_and_then (λ (x : Described). queue_held c h (caller e).0 x.desc.0) w) ≡ there_is (λ (x : Held). is_full c h x.object) (option_and_then (λ (x : Described). holds h (caller e).0 x.desc.0) w)
+  at : (w : Option Described) → is_some_and is_full_of (option_and_then (λ (x : Described). queue_held c h (caller e).0 x.desc.0) w) ≡ is_some_and (λ (x : Held). is_full c h x.object) (option_and_then (λ (x : Described). holds h (caller e).0 x.desc.0) w)
   at None = refl
   at (Some x) = held_full_is c h (caller e).0 x.desc.0
 
-pub empty_meant : (c : Config) (h : History) (e : Event) → there_is (λ (q : Tickets). eqb (length q.tickets) 0) (by_description (queue_held c h) e) ≡ there_is (λ (x : Held). is_empty c h x.object) (by_description (holds h) e)
+pub empty_meant : (c : Config) (h : History) (e : Event) → is_some_and (λ (q : Tickets). eqb (length q.tickets) 0) (by_description (queue_held c h) e) ≡ is_some_and (λ (x : Held). is_empty c h x.object) (by_description (holds h) e)
 empty_meant c h e = at (description e) where
-  at : (w : Option Described) → there_is (λ (q : Tickets). eqb (length q.tickets) 0) (option_and_then (λ (x : Described). queue_held c h (caller e).0 x.desc.0) w) ≡ there_is (λ (x : Held). is_empty c h x.object) (option_and_then (λ (x : Described). holds h (caller e).0 x.desc.0) w)
+  at : (w : Option Described) → is_some_and (λ (q : Tickets). eqb (length q.tickets) 0) (option_and_then (λ (x : Described). queue_held c h (caller e).0 x.desc.0) w) ≡ is_some_and (λ (x : Held). is_empty c h x.object) (option_and_then (λ (x : Described). holds h (caller e).0 x.desc.0) w)
   at None = refl
   at (Some x) = held_empty_is c h (caller e).0 x.desc.0
 
-pub value_meant : (c : Config) (h : History) (e : Event) (test : ℕ → Bool) → Legal c h → there_is (λ (q : Counter). test q.value) (by_description (semaphore_held c h) e) ≡ there_is (λ (x : Held). there_is (λ first_value. test (value h x.object)) (as_semaphore (object c h x.object))) (by_description (holds h) e)
+pub value_meant : (c : Config) (h : History) (e : Event) (test : ℕ → Bool) → Legal c h → is_some_and (λ (q : Counter). test q.value) (by_description (semaphore_held c h) e) ≡ is_some_and (λ (x : Held). is_some_and (λ first_value. test (value h x.object)) (as_semaphore (object c h x.object))) (by_description (holds h) e)
 value_meant c h e test legal = at (description e) where
-  at : (w : Option Described) → there_is (λ (q : Counter). test q.value) (option_and_then (λ (x : Described). semaphore_held c h (caller e).0 x.desc.0) w) ≡ there_is (λ (x : Held). there_is (λ first_value. test (value h x.object)) (as_semaphore (object c h x.object))) (option_and_then (λ (x : Described). holds h (caller e).0 x.desc.0) w)
+  at : (w : Option Described) → is_some_and (λ (q : Counter). test q.value) (option_and_then (λ (x : Described). semaphore_held c h (caller e).0 x.desc.0) w) ≡ is_some_and (λ (x : Held). is_some_and (λ first_value. test (value h x.object)) (as_semaphore (object c h x.object))) (option_and_then (λ (x : Described). holds h (caller e).0 x.desc.0) w)
   at None = refl
   at (Some x) = held_test_is c h test (caller e).0 x.desc.0 legal
 
 -- registrations
-registered_is : (w : Option Tickets) → there_is (λ (q : Tickets). is_some q.registered) w ≡ is_some (option_and_then (λ (q : Tickets). q.registered) w)
+registered_is : (w : Option Tickets) → is_some_and (λ (q : Tickets). is_some q.registered) w ≡ is_some (option_and_then (λ (q : Tickets). q.registered) w)
 registered_is None = refl
 registered_is (Some q) = refl
 
@@ -140,23 +140,23 @@ mapped_there : {X Y : Type 0} (f : X → Y) (w : Option X) → is_some (option_m
 mapped_there f None = refl
 mapped_there f (Some x) = refl
 
-registered_held : (c : Config) (h : History) (w : Option Held) → Legal c h → there_is (λ (q : Tickets). is_some q.registered) (option_and_then (queue_meant c h) (option_map (λ (x : Held). x.object) w)) ≡ there_is (λ (x : Held). is_some (registered c h x.object)) w
+registered_held : (c : Config) (h : History) (w : Option Held) → Legal c h → is_some_and (λ (q : Tickets). is_some q.registered) (option_and_then (queue_meant c h) (option_map (λ (x : Held). x.object) w)) ≡ is_some_and (λ (x : Held). is_some (registered c h x.object)) w
 registered_held c h None legal = refl
 registered_held c h (Some x) legal =
     registered_is (queue_meant c h x.object)
     ∙ ap is_some (kept_desc c h x.object legal)
     ∙ mapped_there (λ (y : Registration). y.desc) (registered c h x.object)
 
-pub registered_meant : (c : Config) (h : History) (e : Event) → Legal c h → there_is (λ (q : Tickets). is_some q.registered) (by_description (queue_held c h) e) ≡ there_is (λ (x : Held). is_some (registered c h x.object)) (by_description (holds h) e)
+pub registered_meant : (c : Config) (h : History) (e : Event) → Legal c h → is_some_and (λ (q : Tickets). is_some q.registered) (by_description (queue_held c h) e) ≡ is_some_and (λ (x : Held). is_some (registered c h x.object)) (by_description (holds h) e)
 registered_meant c h e legal = at (description e) where
-  at : (w : Option Described) → there_is (λ (q : Tickets). is_some q.registered) (option_and_then (λ (x : Described). queue_held c h (caller e).0 x.desc.0) w) ≡ there_is (λ (x : Held). is_some (registered c h x.object)) (option_and_then (λ (x : Described). holds h (caller e).0 x.desc.0) w)
+  at : (w : Option Described) → is_some_and (λ (q : Tickets). is_some q.registered) (option_and_then (λ (x : Described). queue_held c h (caller e).0 x.desc.0) w) ≡ is_some_and (λ (x : Held). is_some (registered c h x.object)) (option_and_then (λ (x : Described). holds h (caller e).0 x.desc.0) w)
   at None = refl
   at (Some x) = registered_held c h (holds h (caller e).0 x.desc.0) legal
 
 -- NONBLOCK
-pub nonblock_meant : (c : Config) (h : History) (t : TablesView) (e : Event) → IsCore c h t → there_is (λ (r : Row). r.nonblock) (row_meant t.descriptions e) ≡ (is_some (by_description (holds h) e) && there_is (λ (x : Described). is_nonblock h (caller e).0 x.desc.0) (description e))
+pub nonblock_meant : (c : Config) (h : History) (t : TablesView) (e : Event) → IsCore c h t → is_some_and (λ (r : Row). r.nonblock) (row_meant t.descriptions e) ≡ (is_some (by_description (holds h) e) && is_some_and (λ (x : Described). is_nonblock h (caller e).0 x.desc.0) (description e))
 nonblock_meant c h t e a = at (description e) where
-  at : (w : Option Described) → there_is (λ (r : Row). r.nonblock) (option_and_then (λ (x : Described). row_of t.descriptions.rows (caller e).0 x.desc.0) w) ≡ (is_some (option_and_then (λ (x : Described). holds h (caller e).0 x.desc.0) w) && there_is (λ (x : Described). is_nonblock h (caller e).0 x.desc.0) w)
+  at : (w : Option Described) → is_some_and (λ (r : Row). r.nonblock) (option_and_then (λ (x : Described). row_of t.descriptions.rows (caller e).0 x.desc.0) w) ≡ (is_some (option_and_then (λ (x : Described). holds h (caller e).0 x.desc.0) w) && is_some_and (λ (x : Described). is_nonblock h (caller e).0 x.desc.0) w)
   at None = refl
   at (Some x) = nonblock_is c h t (caller e).0 x.desc.0 a.agrees
 

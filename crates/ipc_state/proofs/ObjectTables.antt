@@ -1,7 +1,7 @@
 -- What an accepted event does to the tables of names, objects and descriptions.
 use Rattle.std.proofs.Common.{◌≡◌, ℕ, zero, suc, map, find, ◌+◌, ◌<◌, Bool, true, false, not, ◌&&◌, ◌||◌, eqb, cond, List, [], ◌∷◌, ◌++◌, filter, Option, Some, None, is_some, refl, sym, ap, ◌∙◌}
 use Rattle.std.specs.Prelude.{option_and_then, if◌then◌else◌}
-use Rattle.std.specs.Option.{option_map}
+use Rattle.std.specs.Option.{option_map, option_to_list}
 use Rattle.std.proofs.lemmas.List.{map-append}
 use Rattle.std.proofs.lemmas.Bool.{eqb-true, eq-eqb, ne_eqb}
 use Rattle.ipc_terms.specs.declared.facts.Facts.{Facts}
@@ -11,7 +11,7 @@ use Rattle.ipc_names.specs.Directory.{Directory}
 use Rattle.ipc_policy.specs.declared.config.Config.{Config}
 use Rattle.ipc_policy.specs.declared.config.Held.{Held}
 use Rattle.ipc_terms.specs.declared.object.Object.{Object}
-use Rattle.ipc_policy.specs.History.{History, kept, listed, gathered_below, any_below}
+use Rattle.ipc_policy.specs.History.{History, unless, gathered_below, any_below}
 use Rattle.ipc_policy.specs.Names.{Opening, creations}
 use Rattle.ipc_policy.specs.Objects.{object, facts, directory}
 use Rattle.ipc_policy.specs.Descriptions.{opens, if_of, held, holds, is_nonblock}
@@ -62,14 +62,14 @@ alive_kept h k o n d m =
     ∙ ap (λ b. is_some (named h o) || b) (ap (any_below (λ i. gives_object o (held k i))) m ∙ any_below_same _ _ (opens h) (λ i lt. ap (gives_object o) (d i)))
 
 -- an event that creates nothing and opens nothing leaves no object alive that was not
-gives_kept : (o : ℕ) (p : Held → Bool) (w : Option Held) → gives_object o (kept p w) ≡ true → gives_object o w ≡ true
+gives_kept : (o : ℕ) (p : Held → Bool) (w : Option Held) → gives_object o (unless p w) ≡ true → gives_object o w ≡ true
 gives_kept o p None e = e
 gives_kept o p (Some x) e = at (p x) e where
   at : (b : Bool) → gives_object o (cond b None (Some x)) ≡ true → gives_object o (Some x) ≡ true
   at true k = absurd cc
   at false k = k
 
-pub alive_less : (h k : History) (o : ℕ) (p : Opening → Bool) (q : ℕ → Held → Bool) → named k o ≡ kept p (named h o) → ((d : ℕ) → held k d ≡ kept (q d) (held h d)) → opens k ≡ opens h → alive k o ≡ true → alive h o ≡ true
+pub alive_less : (h k : History) (o : ℕ) (p : Opening → Bool) (q : ℕ → Held → Bool) → named k o ≡ unless p (named h o) → ((d : ℕ) → held k d ≡ unless (q d) (held h d)) → opens k ≡ opens h → alive k o ≡ true → alive h o ≡ true
 unfolding alive
 alive_less h k o p q n d m e = more_at (is_some (named k o)) (any_below (λ i. gives_object o (held k i)) (opens k)) (is_some (named h o)) (any_below (λ i. gives_object o (held h i)) (opens h))
     (λ f. kept_some p (named h o) (sym (ap is_some n) ∙ f))
@@ -77,13 +77,13 @@ alive_less h k o p q n d m e = more_at (is_some (named k o)) (any_below (λ i. g
     e
 
 -- a list that is gathered, each changed
-map_listed : {X : Type 0} (f : X → X) (w : Option X) → map f (listed w) ≡ listed (option_map f w)
+map_listed : {X : Type 0} (f : X → X) (w : Option X) → map f (option_to_list w) ≡ option_to_list (option_map f w)
 map_listed f None = refl
 map_listed f (Some x) = refl
 
 gathered_map : {X : Type 0} (f : X → X) (g : ℕ → Option X) (n : ℕ) → map f (gathered_below g n) ≡ gathered_below (λ i. option_map f (g i)) n
 gathered_map f g zero = refl
-gathered_map f g (suc n) = map-append f (gathered_below g n) (listed (g n)) ∙ ap (λ l. l ++ map f (listed (g n))) (gathered_map f g n) ∙ ap (λ l. gathered_below (λ i. option_map f (g i)) n ++ l) (map_listed f (g n))
+gathered_map f g (suc n) = map-append f (gathered_below g n) (option_to_list (g n)) ∙ ap (λ l. l ++ map f (option_to_list (g n))) (gathered_map f g n) ∙ ap (λ l. gathered_below (λ i. option_map f (g i)) n ++ l) (map_listed f (g n))
 
 -- the objects that are still alive
 none_if : (d : Bool) → ◌≡◌ {A = Option ObjectRow} None (cond d None None)
@@ -143,7 +143,7 @@ pub objects_created : (c : Config) (h k : History) (xs : List ObjectRow) (create
 objects_created c h k xs created x y n l o f m lives made made' new a = record {
   rows = sym (
       gathered_more (row_with c k (inside c k)) (row_with c h (inside c h)) (creations k) (creations h) n (λ i lt. row_kept i (alive k i) (alive h i) (object c k i) (object c h i) (facts c k i) (facts c h i) (inside c k i) (inside c h i) (l i lt) (o i lt) (f i lt) (m i lt))
-      ∙ ap (λ w. gathered_below (row_with c h (inside c h)) (creations h) ++ listed w) (row_kept (creations h) (alive k (creations h)) true (object c k (creations h)) (Some x) (facts c k (creations h)) (Some y) (inside c k (creations h)) (inside c k (creations h)) lives made made' refl)
+      ∙ ap (λ w. gathered_below (row_with c h (inside c h)) (creations h) ++ option_to_list w) (row_kept (creations h) (alive k (creations h)) true (object c k (creations h)) (Some x) (facts c k (creations h)) (Some y) (inside c k (creations h)) (inside c k (creations h)) lives made made' refl)
       ∙ ap (λ b. gathered_below (row_with c h (inside c h)) (creations h) ++ record { number = creations h; object = x; facts = y; bytes = bytes_taken x.kind; body = b } ∷ []) new
       ∙ ap (λ i. gathered_below (row_with c h (inside c h)) (creations h) ++ new_row i x y ∷ []) (sym a.count)
       ∙ ap (λ l. l ++ new_row created x y ∷ []) (sym a.rows));
@@ -189,14 +189,14 @@ dropped_at : (b : ℕ → ℕ → Bool) (i : ℕ) (x : Held) (t : Bool) → cond
 dropped_at b i x true = refl
 dropped_at b i x false = refl
 
-dropped : (drop' : Row → Bool) (q : ℕ → Held → Bool) (b p : ℕ → ℕ → Bool) (i : ℕ) (w : Option Held) → ((d : ℕ) (x : Held) → drop' (row_held b d x) ≡ q d x) → ((s : ℕ) → p s i ≡ b s i) → passing (λ row. not (drop' row)) (option_map (row_held b i) w) ≡ option_map (row_held p i) (kept (q i) w)
+dropped : (drop' : Row → Bool) (q : ℕ → Held → Bool) (b p : ℕ → ℕ → Bool) (i : ℕ) (w : Option Held) → ((d : ℕ) (x : Held) → drop' (row_held b d x) ≡ q d x) → ((s : ℕ) → p s i ≡ b s i) → passing (λ row. not (drop' row)) (option_map (row_held b i) w) ≡ option_map (row_held p i) (unless (q i) w)
 dropped drop' q b p i None same e = refl
 dropped drop' q b p i (Some x) same e = ap (λ t. cond (not t) (Some (row_held b i x)) None) (same i x) ∙ dropped_at b i x (q i x) ∙ renamed (cond (q i x) None (Some x)) where
   renamed : (w : Option Held) → option_map (row_held b i) w ≡ option_map (row_held p i) w
   renamed None = refl
   renamed (Some y) = ap (λ nonblock. Some (record { desc = record { 0 = i }; session = y.session; object = y.object; access = y.access; nonblock = nonblock })) (sym (e y.session.0))
 
-pub descriptions_dropped : (h k : History) (t : Descriptions) (drop' : Row → Bool) (q : ℕ → Held → Bool) → ((d : ℕ) (x : Held) → drop' (row_held (is_nonblock h) d x) ≡ q d x) → ((d : ℕ) → held k d ≡ kept (q d) (held h d)) → ((s d : ℕ) → is_nonblock k s d ≡ is_nonblock h s d) → opens k ≡ opens h → DescriptionsAgree h t → DescriptionsAgree k (record t { rows = filter (λ row. not (drop' row)) t.rows })
+pub descriptions_dropped : (h k : History) (t : Descriptions) (drop' : Row → Bool) (q : ℕ → Held → Bool) → ((d : ℕ) (x : Held) → drop' (row_held (is_nonblock h) d x) ≡ q d x) → ((d : ℕ) → held k d ≡ unless (q d) (held h d)) → ((s d : ℕ) → is_nonblock k s d ≡ is_nonblock h s d) → opens k ≡ opens h → DescriptionsAgree h t → DescriptionsAgree k (record t { rows = filter (λ row. not (drop' row)) t.rows })
 descriptions_dropped h k t drop' q same d b n a = record {
   rows =
       ap (filter (λ row. not (drop' row))) a.rows

@@ -1,6 +1,6 @@
 -- What an open of either family, an unlink and a close do to names, objects and descriptions.
 use Rattle.std.proofs.Common.{◌≡◌, ℕ, ◌+◌, ◌<◌, Bool, true, false, not, ◌&&◌, ◌||◌, eqb, cond, List, [], ◌∷◌, ◌++◌, filter, Option, Some, None, is_some, refl, sym, ap, subst, ◌∙◌, arith, add-one}
-use Rattle.std.specs.Option.{option_or, option_map}
+use Rattle.std.specs.Option.{option_or, option_map, option_to_list}
 use Rattle.std.proofs.lemmas.Bool.{eq-eqb, ne_eqb}
 use Rattle.ipc_terms.specs.Names.{same_family, same_name}
 use Rattle.ipc_terms.specs.Objects.{family_of, value_asked}
@@ -20,7 +20,7 @@ use Rattle.ipc_policy.specs.declared.config.Held.{Held}
 use Rattle.ipc_policy.specs.declared.config.Registration.{Registration}
 use Rattle.ipc_policy.specs.Registrations.{registered}
 use Rattle.ipc_policy.proofs.Queues.RegisteredSteps.{registered_stays, registered_kept}
-use Rattle.ipc_policy.specs.History.{History, after_accepted, kept, listed, gathered_below, any_below}
+use Rattle.ipc_policy.specs.History.{History, after_accepted, unless, gathered_below, any_below}
 use Rattle.ipc_policy.specs.Names.{Opening, Naming, opening, unlinking, unlinks, queue_opening, semaphore_opening, nonblock_asked, is_bound, creations, bound}
 use Rattle.ipc_policy.specs.Objects.{kind_of}
 use Rattle.ipc_policy.specs.Descriptions.{opens, opened, opened_by, held_as, held, is_nonblock}
@@ -76,7 +76,7 @@ opens_of (Hangup sid) asked k = absurd cc
 pub record Ends (e : Event) : Type 0 where
   pub none : opening e ≡ None
   pub apart : Apart e
-  pub named' : (o n : ℕ) (b : Family → List ℕ → Bool) (w : Option Opening) → named_after o e b n w ≡ kept (λ asked. unlinks asked.family asked.name e) w
+  pub named' : (o n : ℕ) (b : Family → List ℕ → Bool) (w : Option Opening) → named_after o e b n w ≡ unless (λ asked. unlinks asked.family asked.name e) w
   pub opens' : (n : ℕ) → opens_after e n ≡ n
   pub nonblock' : (s d n : ℕ) (was : Bool) → nonblock_after s d e n was ≡ was
   pub creations' : (n : ℕ) (b : Family → List ℕ → Bool) → creations_after e b n ≡ n
@@ -85,9 +85,9 @@ pub record Ends (e : Event) : Type 0 where
 pub record Unlinks (e : Event) (what : Naming) : Type 0 where
   pub ends : Ends e
   pub gives : GivesNothing e
-  pub held' : (d i n : ℕ) (b : Family → List ℕ → Option ℕ) (w : Option Held) → held_after d e i b n w ≡ kept (λ x. false) w
+  pub held' : (d i n : ℕ) (b : Family → List ℕ → Option ℕ) (w : Option Held) → held_after d e i b n w ≡ unless (λ x. false) w
   pub bindings' : (f : Family) (n : ℕ) (b : Family → List ℕ → Bool) (w : List Binding) → bindings_after f e b n w ≡ filter (λ x. not (same_family what.family f && same_name x.name what.name)) w
-  pub registered' : (c : Config) (h : History) (o : ℕ) → registered c (after_accepted h e) o ≡ kept (λ x. false) (registered c h o)
+  pub registered' : (c : Config) (h : History) (o : ℕ) → registered c (after_accepted h e) o ≡ unless (λ x. false) (registered c h o)
 
 pub unlinks_of : (e : Event) (what : Naming) → unlinking e ≡ Some what → Unlinks e what
 unlinks_of (Do sid (MqUnlink name)) what k =
@@ -104,10 +104,10 @@ unlinks_of (Hangup sid) what k = absurd cc
 pub record Closes (e : Event) (sid : Sid) (desc : Desc) : Type 0 where
   pub ends : Ends e
   pub gives : GivesNothing e
-  pub held' : (d i n : ℕ) (b : Family → List ℕ → Option ℕ) (w : Option Held) → held_after d e i b n w ≡ kept (λ x. eqb sid.0 x.session.0 && eqb desc.0 d) w
+  pub held' : (d i n : ℕ) (b : Family → List ℕ → Option ℕ) (w : Option Held) → held_after d e i b n w ≡ unless (λ x. eqb sid.0 x.session.0 && eqb desc.0 d) w
   pub bindings' : (f : Family) (n : ℕ) (b : Family → List ℕ → Bool) (w : List Binding) → bindings_after f e b n w ≡ w
   pub unlinks' : (f : Family) (name : List ℕ) → unlinks f name e ≡ false
-  pub registered' : (c : Config) (h : History) (o : ℕ) → registered c (after_accepted h e) o ≡ kept (λ x. eqb sid.0 x.session.0 && eqb desc.0 x.desc.0) (registered c h o)
+  pub registered' : (c : Config) (h : History) (o : ℕ) → registered c (after_accepted h e) o ≡ unless (λ x. eqb sid.0 x.session.0 && eqb desc.0 x.desc.0) (registered c h o)
 
 or_off : (b : Bool) → (b || false) ≡ b
 or_off true = refl
@@ -166,7 +166,7 @@ pub descriptions_opened : (c : Config) (h k : History) (t : Descriptions) (e : E
 descriptions_opened c h k t e asked o g p a is = record {
   rows = sym (
       gathered_more (λ d. option_map (row_held (is_nonblock k) d) (held k d)) (λ d. option_map (row_held (is_nonblock h) d) (held h d)) (opens k) (opens h) (g.open_count ∙ p.opens' (opens h)) (λ d lt. other_row c h k e asked d g p lt)
-      ∙ ap (λ w. gathered_below (λ d. option_map (row_held (is_nonblock h) d) (held h d)) (opens h) ++ listed (option_map (row_held (is_nonblock k) (opens h)) w)) (held_new c h k e asked o g p is)
+      ∙ ap (λ w. gathered_below (λ d. option_map (row_held (is_nonblock h) d) (held h d)) (opens h) ++ option_to_list (option_map (row_held (is_nonblock k) (opens h)) w)) (held_new c h k e asked o g p is)
       ∙ ap (λ b. gathered_below (λ d. option_map (row_held (is_nonblock h) d) (held h d)) (opens h) ++ record { desc = record { 0 = opens h }; session = asked.session; object = o; access = asked.access; nonblock = b } ∷ []) (nonblock_new c h k e asked g p)
       ∙ ap (λ n. gathered_below (λ d. option_map (row_held (is_nonblock h) d) (held h d)) (opens h) ++ record { desc = record { 0 = n }; session = asked.session; object = o; access = asked.access; nonblock = nonblock_asked asked.kind asked.flags } ∷ []) (sym a.opened)
       ∙ ap (λ xs. xs ++ record { desc = record { 0 = t.opened }; session = asked.session; object = o; access = asked.access; nonblock = nonblock_asked asked.kind asked.flags } ∷ []) (sym a.rows));

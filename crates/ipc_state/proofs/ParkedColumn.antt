@@ -8,9 +8,9 @@ use Rattle.ipc_terms.specs.declared.call.Call.TheVariants.{MqSend, MqReceive, Se
 use Rattle.ipc_terms.specs.declared.record.Event.TheVariants.{Do, Hangup}
 use Rattle.ipc_policy.specs.declared.config.Config.{Config}
 use Rattle.ipc_policy.specs.declared.config.Held.{Held}
-use Rattle.ipc_policy.specs.History.{History, after_accepted, there_is}
+use Rattle.ipc_policy.specs.History.{History, after_accepted, is_some_and}
 use Rattle.ipc_policy.specs.Descriptions.{holds}
-use Rattle.ipc_policy.specs.Queues.{Send, Wait, senders, receivers, is_full, is_empty}
+use Rattle.ipc_policy.specs.Queues.{Send, Waiter, senders, receivers, is_full, is_empty}
 use Rattle.ipc_policy.specs.Semaphores.{waiters, is_zero}
 use Rattle.ipc_policy.specs.Parking.{Sending, Receiving, Waiting, Parked, parked}
 use Rattle.ipc_policy.specs.Verdict.{Legal}
@@ -32,7 +32,7 @@ none_of : (b : Bool) (w : Option Parked) → option_map (λ (p : Parked). p.obje
 none_of true w = refl
 none_of false w = refl
 
-column_is : (s sid o : ℕ) (served : Option ℕ) (b : Bool) (made : Parked) (was : ℕ → Option Parked) → made.object ≡ o → (b ≡ true → served ≡ None) → option_map (λ (p : Parked). p.object) (cond (eqb sid s && b) (Some made) (cond (there_is (λ i. eqb i s) served) None (was s))) ≡ column_after served b sid o (λ i. option_map (λ (p : Parked). p.object) (was i)) s
+column_is : (s sid o : ℕ) (served : Option ℕ) (b : Bool) (made : Parked) (was : ℕ → Option Parked) → made.object ≡ o → (b ≡ true → served ≡ None) → option_map (λ (p : Parked). p.object) (cond (eqb sid s && b) (Some made) (cond (is_some_and (λ i. eqb i s) served) None (was s))) ≡ column_after served b sid o (λ i. option_map (λ (p : Parked). p.object) (was i)) s
 column_is s sid o (Some i) true made was m excl = absurd (let none = excl refl in cc)
 column_is s sid o (Some i) false made was m excl = at (eqb sid s) where
   at : (d : Bool) → option_map (λ (p : Parked). p.object) (cond (d && false) (Some made) (cond (eqb i s) None (was s))) ≡ cond (eqb i s) None (option_map (λ (p : Parked). p.object) (was s))
@@ -47,15 +47,15 @@ column_is s sid o None false made was m excl = at (eqb sid s) where
   at true = refl
   at false = refl
 
-there_mapped : {A : Type 0} (f : A → ℕ) (s : ℕ) (w : Option A) → there_is (λ x. eqb (f x) s) w ≡ there_is (λ i. eqb i s) (option_map f w)
+there_mapped : {A : Type 0} (f : A → ℕ) (s : ℕ) (w : Option A) → is_some_and (λ x. eqb (f x) s) w ≡ is_some_and (λ i. eqb i s) (option_map f w)
 there_mapped f s None = refl
 there_mapped f s (Some x) = refl
 
-pub column_by_send : (c : Config) (h : History) (sid : Sid) (desc : Desc) (priority : ℕ) (bytes : List ℕ) (x : Held) (s : ℕ) → Legal c h → holds h sid.0 desc.0 ≡ Some x → (is_full c h x.object ≡ true → option_map (λ (w : Wait). w.session) (first (receivers c h x.object)) ≡ None) → parked_object c (after_accepted h (Do sid (MqSend desc priority bytes))) s ≡ column_after (option_map (λ (w : Wait). w.session) (first (receivers c h x.object))) (is_full c h x.object) sid.0 x.object (parked_object c h) s
+pub column_by_send : (c : Config) (h : History) (sid : Sid) (desc : Desc) (priority : ℕ) (bytes : List ℕ) (x : Held) (s : ℕ) → Legal c h → holds h sid.0 desc.0 ≡ Some x → (is_full c h x.object ≡ true → option_map (λ (w : Waiter). w.session) (first (receivers c h x.object)) ≡ None) → parked_object c (after_accepted h (Do sid (MqSend desc priority bytes))) s ≡ column_after (option_map (λ (w : Waiter). w.session) (first (receivers c h x.object))) (is_full c h x.object) sid.0 x.object (parked_object c h) s
 column_by_send c h sid desc priority bytes x s legal held excl =
     ap (option_map (λ (p : Parked). p.object)) (parked_by_send c h sid desc priority bytes x s legal held)
-    ∙ ap (λ b. option_map (λ (p : Parked). p.object) (cond (eqb sid.0 s && is_full c h x.object) (Some (record { object = x.object; place = length h; kind = Sending })) (cond b None (parked c h s)))) (there_mapped (λ (w : Wait). w.session) s (first (receivers c h x.object)))
-    ∙ column_is s sid.0 x.object (option_map (λ (w : Wait). w.session) (first (receivers c h x.object))) (is_full c h x.object) (record { object = x.object; place = length h; kind = Sending }) (parked c h) refl excl
+    ∙ ap (λ b. option_map (λ (p : Parked). p.object) (cond (eqb sid.0 s && is_full c h x.object) (Some (record { object = x.object; place = length h; kind = Sending })) (cond b None (parked c h s)))) (there_mapped (λ (w : Waiter). w.session) s (first (receivers c h x.object)))
+    ∙ column_is s sid.0 x.object (option_map (λ (w : Waiter). w.session) (first (receivers c h x.object))) (is_full c h x.object) (record { object = x.object; place = length h; kind = Sending }) (parked c h) refl excl
 
 pub column_by_receive : (c : Config) (h : History) (sid : Sid) (desc : Desc) (room : ℕ) (x : Held) (s : ℕ) → Legal c h → holds h sid.0 desc.0 ≡ Some x → (is_empty c h x.object ≡ true → option_map (λ (m : Send). m.session) (first (senders c h x.object)) ≡ None) → parked_object c (after_accepted h (Do sid (MqReceive desc room))) s ≡ column_after (option_map (λ (m : Send). m.session) (first (senders c h x.object))) (is_empty c h x.object) sid.0 x.object (parked_object c h) s
 column_by_receive c h sid desc room x s legal held excl =
@@ -63,11 +63,11 @@ column_by_receive c h sid desc room x s legal held excl =
     ∙ ap (λ b. option_map (λ (p : Parked). p.object) (cond (eqb sid.0 s && is_empty c h x.object) (Some (record { object = x.object; place = length h; kind = Receiving })) (cond b None (parked c h s)))) (there_mapped (λ (m : Send). m.session) s (first (senders c h x.object)))
     ∙ column_is s sid.0 x.object (option_map (λ (m : Send). m.session) (first (senders c h x.object))) (is_empty c h x.object) (record { object = x.object; place = length h; kind = Receiving }) (parked c h) refl excl
 
-pub column_by_post : (c : Config) (h : History) (sid : Sid) (desc : Desc) (x : Held) (s : ℕ) → Legal c h → holds h sid.0 desc.0 ≡ Some x → parked_object c (after_accepted h (Do sid (SemPost desc))) s ≡ column_after (option_map (λ (w : Wait). w.session) (first (waiters h x.object))) false sid.0 x.object (parked_object c h) s
+pub column_by_post : (c : Config) (h : History) (sid : Sid) (desc : Desc) (x : Held) (s : ℕ) → Legal c h → holds h sid.0 desc.0 ≡ Some x → parked_object c (after_accepted h (Do sid (SemPost desc))) s ≡ column_after (option_map (λ (w : Waiter). w.session) (first (waiters h x.object))) false sid.0 x.object (parked_object c h) s
 column_by_post c h sid desc x s legal held =
     ap (option_map (λ (p : Parked). p.object)) (parked_by_post c h sid desc x s legal held)
     ∙ served (first (waiters h x.object)) where
-      served : (w : Option Wait) → option_map (λ (p : Parked). p.object) (cond (there_is (λ (v : Wait). eqb v.session s) w) None (parked c h s)) ≡ column_after (option_map (λ (v : Wait). v.session) w) false sid.0 x.object (parked_object c h) s
+      served : (w : Option Waiter) → option_map (λ (p : Parked). p.object) (cond (is_some_and (λ (v : Waiter). eqb v.session s) w) None (parked c h s)) ≡ column_after (option_map (λ (v : Waiter). v.session) w) false sid.0 x.object (parked_object c h) s
       served None = refl
       served (Some w) = none_of (eqb w.session s) (parked c h s)
 

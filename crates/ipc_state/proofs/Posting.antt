@@ -14,13 +14,13 @@ use Rattle.ipc_sem.specs.declared.semaphore.WaitOutcome.TheVariants.{Passed, Par
 use Rattle.ipc_sem.specs.Counters.{Counter, has_no_waiter, overflows, posted, wait_outcome, waited, tried, withdrawn}
 use Rattle.ipc_policy.specs.declared.config.Config.{Config}
 use Rattle.ipc_policy.specs.declared.config.Held.{Held}
-use Rattle.ipc_policy.specs.History.{History, after_accepted, there_is}
+use Rattle.ipc_policy.specs.History.{History, after_accepted, is_some_and}
 use Rattle.ipc_policy.specs.Sessions.{hellos, user, live, mask}
 use Rattle.ipc_policy.specs.Objects.{object}
 use Rattle.ipc_policy.specs.Descriptions.{holds}
 use Rattle.ipc_policy.specs.Life.{alive}
-use Rattle.ipc_policy.specs.Queues.{Wait}
-use Rattle.ipc_policy.specs.Semaphores.{Posts, Waits, Tries, Cancels, Semaphore, semaphore, semaphore_after, waiters, is_zero, is_greatest}
+use Rattle.ipc_policy.specs.Queues.{Waiter}
+use Rattle.ipc_policy.specs.Semaphores.{Posts, Waits, Tries, WithdrawsWait, Semaphore, semaphore, semaphore_after, waiters, is_zero, is_greatest}
 use Rattle.ipc_policy.specs.Verdict.{verdict, Legal}
 use Rattle.ipc_policy.proofs.Lists.EachItem.{each_first, each_map}
 use Rattle.ipc_policy.proofs.Blocked.CallsListed.{calls_listed}
@@ -52,8 +52,8 @@ semaphore_stands c h t s d o legal a here = subst (λ (i : ℕ). is_some (semaph
 waiter_told : (c : Config) (h : History) (t : TablesView) (o first_value : ℕ) → Legal c h → Agrees c h t → alive h o ≡ true → as_semaphore (object c h o) ≡ Some first_value → waiter_at t.objects o ≡ option_map receiver_of (first (waiters h o))
 waiter_told c h t o first_value legal a lives e = ap (option_and_then (λ (q : Counter). first q.waiters)) (semaphore_there c h t o first_value legal a lives e) ∙ longest_mapped receiver_of (waiters h o)
 
-waiter_stands : (c : Config) (h : History) (xs : List Session) (o : ℕ) (w : Wait) → Legal c h → SessionsAgree c h xs → first (waiters h o) ≡ Some w → w.session < length xs
-waiter_stands c h xs o w legal a e = each_first (λ (v : Wait). v.session < length xs) (waiters h o) (each_map _ (λ (v : Wait). v.session < length xs) (waiters h o) (λ v is. parked_stands c h xs v.session _ a is) ((calls_listed c h legal).each_wait o)) w e
+waiter_stands : (c : Config) (h : History) (xs : List Session) (o : ℕ) (w : Waiter) → Legal c h → SessionsAgree c h xs → first (waiters h o) ≡ Some w → w.session < length xs
+waiter_stands c h xs o w legal a e = each_first (λ (v : Waiter). v.session < length xs) (waiters h o) (each_map _ (λ (v : Waiter). v.session < length xs) (waiters h o) (λ v is. parked_stands c h xs v.session _ a is) ((calls_listed c h legal).each_wait o)) w e
 
 -- what an accepted post raises has room for it
 no_overflow : (b d : Bool) → d ≡ false → (b && d) ≡ false
@@ -66,17 +66,17 @@ overflow_at q e = no_overflow (has_no_waiter (map receiver_of q.waiters)) (eqb q
 
 pub post_room : (c : Config) (h : History) (t : TablesView) (sid : Sid) (desc : Desc) (o : ℕ) → Legal c h → Agrees c h t → verdict c h (Do sid (SemPost desc)) ≡ None → IsHereSemaphore c h t sid.0 desc.0 o → option_map overflows (semaphore_at t.objects o) ≡ Some false
 post_room c h t sid desc o legal a accepted here =
-    let low : is_greatest c h here.x.object ≡ false = ap (there_is (λ (x : Held). is_greatest c h x.object)) (sym here.held) ∙ post_below_greatest c h sid desc accepted in
+    let low : is_greatest c h here.x.object ≡ false = ap (is_some_and (λ (x : Held). is_greatest c h x.object)) (sym here.held) ∙ post_below_greatest c h sid desc accepted in
     let below = sym (is_greatest-at c h here.x.object legal (ap is_some here.made)) ∙ low in
     subst (λ (i : ℕ). option_map overflows (semaphore_at t.objects i) ≡ Some false) here.same
     (ap (option_map overflows) (semaphore_there c h t here.x.object here.given legal a here.lives here.made) ∙ ap Some (overflow_at (semaphore h here.x.object) below))
 
 -- what a post and a wait do to the table of sessions
-posted_column : (c : Config) (h : History) (xs : List Session) (o : ℕ) (sid : Sid) → SessionsAgree c h xs → (r : Option Wait) → ((w : Wait) → r ≡ Some w → w.session < length xs) → Columns (parked_by_post (option_map receiver_of r) xs) (hellos h) (user h) (mask h) (live h) (column_after (option_map (λ (w : Wait). w.session) r) false sid.0 o (parked_object c h))
+posted_column : (c : Config) (h : History) (xs : List Session) (o : ℕ) (sid : Sid) → SessionsAgree c h xs → (r : Option Waiter) → ((w : Waiter) → r ≡ Some w → w.session < length xs) → Columns (parked_by_post (option_map receiver_of r) xs) (hellos h) (user h) (mask h) (live h) (column_after (option_map (λ (w : Waiter). w.session) r) false sid.0 o (parked_object c h))
 posted_column c h xs o sid a (Some w) there = columns_moved xs (hellos h) (user h) (mask h) (live h) (parked_object c h) None w.session (there w refl) (columns_of c h xs a)
 posted_column c h xs o sid a None there = columns_of c h xs a
 
-pub sessions_posted : (c : Config) (h : History) (t : TablesView) (o first_value : ℕ) (sid : Sid) → Legal c h → Agrees c h t → alive h o ≡ true → as_semaphore (object c h o) ≡ Some first_value → Columns (parked_by_post (waiter_at t.objects o) t.sessions) (hellos h) (user h) (mask h) (live h) (column_after (option_map (λ (w : Wait). w.session) (first (waiters h o))) false sid.0 o (parked_object c h))
+pub sessions_posted : (c : Config) (h : History) (t : TablesView) (o first_value : ℕ) (sid : Sid) → Legal c h → Agrees c h t → alive h o ≡ true → as_semaphore (object c h o) ≡ Some first_value → Columns (parked_by_post (waiter_at t.objects o) t.sessions) (hellos h) (user h) (mask h) (live h) (column_after (option_map (λ (w : Waiter). w.session) (first (waiters h o))) false sid.0 o (parked_object c h))
 sessions_posted c h t o first_value sid legal a lives e =
     rw (waiter_told c h t o first_value legal a lives e) (posted_column c h t.sessions o sid a.sessions (first (waiters h o)) (λ w is. waiter_stands c h t.sessions o w legal a.sessions is))
 
@@ -102,7 +102,7 @@ counter_posted h sid desc x held =
 
 pub counter_waited : (h : History) (sid : Sid) (desc : Desc) (x : Held) → holds h sid.0 desc.0 ≡ Some x → counter_of (semaphore (after_accepted h (Do sid (SemWait desc))) x.object) ≡ waited sid (counter_of (semaphore h x.object))
 counter_waited h sid desc x held =
-    let w : Wait = record { place = length h; session = sid.0; desc = desc.0 } in
+    let w : Waiter = record { place = length h; session = sid.0; desc = desc.0 } in
     ap counter_of (semaphore_by_wait h sid desc x x.object held ∙ ap (λ b. cond b (semaphore_after (Waits w) (semaphore h x.object)) (semaphore h x.object)) (eq-eqb x.object x.object refl))
     ∙ waited_is w (semaphore h x.object)
 
@@ -111,5 +111,5 @@ counter_tried h sid desc x held =
     ap counter_of (semaphore_by_try h sid desc x x.object held ∙ ap (λ b. cond b (semaphore_after Tries (semaphore h x.object)) (semaphore h x.object)) (eq-eqb x.object x.object refl))
     ∙ tried_is (semaphore h x.object)
 
-pub counter_cancelled : (c : Config) (h : History) (sid : Sid) (o : ℕ) → Legal c h → counter_of (semaphore_after (Cancels sid.0) (semaphore h o)) ≡ withdrawn sid (counter_of (semaphore h o))
+pub counter_cancelled : (c : Config) (h : History) (sid : Sid) (o : ℕ) → Legal c h → counter_of (semaphore_after (WithdrawsWait sid.0) (semaphore h o)) ≡ withdrawn sid (counter_of (semaphore h o))
 counter_cancelled c h sid o legal = cancelled_is sid (semaphore h o) (waiters_differ c h legal o)

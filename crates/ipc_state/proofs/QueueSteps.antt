@@ -1,7 +1,7 @@
 -- What a send, a receive and a withdrawal make of a queue of the policy is what they make of the queue that is kept.
 use Rattle.std.proofs.Common.{◌≡◌, ℕ, ◌+◌, ◌≤◌, Bool, true, false, not, ◌&&◌, ◌||◌, eqb, cond, List, [], ◌∷◌, ◌++◌, length, map, filter, Option, Some, None, refl, sym, ap, ◌∙◌, arith}
 use Rattle.std.specs.Prelude.{nat_le}
-use Rattle.std.specs.Option.{option_map}
+use Rattle.std.specs.Option.{option_map, option_to_list}
 use Rattle.std.proofs.lemmas.Bool.{eqb-true, eq-eqb, ne_eqb, leb-true}
 use Rattle.std.proofs.lemmas.List.{length-map, map_push}
 use Rattle.ipc_terms.specs.Lists.{first, Each}
@@ -11,8 +11,7 @@ use Rattle.ipc_terms.specs.Events.{is_session}
 use Rattle.ipc_terms.specs.Lists.{without_first}
 use Rattle.ipc_queue.specs.Tickets.{is_ticket, is_sender, is_full_of, next_ticket, without_next, sent_to, sent, received_by, received, withdrawn}
 use Rattle.ipc_terms.specs.declared.call.Attributes.{Attributes}
-use Rattle.ipc_policy.specs.History.{listed}
-use Rattle.ipc_policy.specs.Queues.{Send, Wait, Sends, Receives, Withdraws, Queue, next, others, behind, has_none, has_all, queue_after}
+use Rattle.ipc_policy.specs.Queues.{Send, Waiter, Sends, Receives, Withdraws, Queue, next, others, tail, has_none, is_filled, queue_after}
 use Rattle.ipc_policy.proofs.Lists.Counting.{count_at}
 use Rattle.ipc_policy.proofs.Lists.EntryOrder.{next_some}
 use Rattle.ipc_policy.proofs.Directories.Living.{append_none}
@@ -24,7 +23,7 @@ use Rattle.ipc_state.specs.Agrees.{ticket_of, sender_of, receiver_of, tickets_of
 use Rattle.ipc_state.proofs.Mapped.{first_of_mapped}
 
 -- whether it is full
-pub full_same : (g : Option Registration) (y : Attributes) (q : Queue) → is_full_of (tickets_of g q y) ≡ has_all y.maxmsg q.contents
+pub full_same : (g : Option Registration) (y : Attributes) (q : Queue) → is_full_of (tickets_of g q y) ≡ is_filled y.maxmsg q.contents
 full_same g y q = ap (nat_le y.maxmsg) (length-map q.contents ticket_of)
 
 -- the registration after a send: none where it fires
@@ -47,7 +46,7 @@ some_message n (m ∷ ms) least full = refl
 unfired_full : (g : Option Registration) (b : Bool) → b ≡ false → cond (b && true) None g ≡ g
 unfired_full g b e = rw e refl
 
-sent_at : (g : Option Registration) (y : Attributes) (m : Send) (cs ss : List Send) (rs : List Wait) (b : Bool) → 1 ≤ y.maxmsg → nat_le y.maxmsg (length cs) ≡ b → (has_none rs ≡ false → b ≡ false) → tickets_of (cond (has_none cs && has_none rs) None g) (record { contents = cond (b || not (has_none rs)) cs (cs ++ m ∷ []); senders = cond b (ss ++ m ∷ []) ss; receivers = behind rs }) y ≡ sent_to (ticket_of m) (record { 0 = m.session }) (tickets_of g (record { contents = cs; senders = ss; receivers = rs }) y) (map receiver_of rs)
+sent_at : (g : Option Registration) (y : Attributes) (m : Send) (cs ss : List Send) (rs : List Waiter) (b : Bool) → 1 ≤ y.maxmsg → nat_le y.maxmsg (length cs) ≡ b → (has_none rs ≡ false → b ≡ false) → tickets_of (cond (has_none cs && has_none rs) None g) (record { contents = cond (b || not (has_none rs)) cs (cs ++ m ∷ []); senders = cond b (ss ++ m ∷ []) ss; receivers = tail rs }) y ≡ sent_to (ticket_of m) (record { 0 = m.session }) (tickets_of g (record { contents = cs; senders = ss; receivers = rs }) y) (map receiver_of rs)
 sent_at g y m cs ss [] true least e excl =
     let full : nat_le y.maxmsg (length (map ticket_of cs)) ≡ true = ap (nat_le y.maxmsg) (length-map cs ticket_of) ∙ e in
     let stays = unfired_full g (has_none cs) (some_message y.maxmsg cs least e) in
@@ -59,15 +58,15 @@ sent_at g y m cs ss (w ∷ ws) true least e excl = absurd (let no' = excl refl i
 sent_at g y m cs ss (w ∷ ws) false least e excl = rw (unfired_while g (has_none cs)) refl
 
 -- where a receive is parked, the queue is not full
-not_full : (n : ℕ) (q : Queue) → 1 ≤ n → IsBounded n q → has_none q.receivers ≡ false → has_all n q.contents ≡ false
-not_full n q some known e = at (has_all n q.contents) refl where
-  at : (b : Bool) → has_all n q.contents ≡ b → b ≡ false
+not_full : (n : ℕ) (q : Queue) → 1 ≤ n → IsBounded n q → has_none q.receivers ≡ false → is_filled n q.contents ≡ false
+not_full n q some known e = at (is_filled n q.contents) refl where
+  at : (b : Bool) → is_filled n q.contents ≡ b → b ≡ false
   at true k = absurd (let least = leb-true _ _ k in let none : length q.contents ≡ 0 = ap length (known.receivers_wait e) in omega arith)
   at false k = refl
 
 pub sent_is : (g : Option Registration) (y : Attributes) (m : Send) (q : Queue) → 1 ≤ y.maxmsg → IsBounded y.maxmsg q → tickets_of (left_registered g q) (queue_after y.maxmsg (Sends m) q) y ≡ sent (ticket_of m) (record { 0 = m.session }) (tickets_of g q y)
 unfolding sent
-sent_is g y m q some known = sent_at g y m q.contents q.senders q.receivers (has_all y.maxmsg q.contents) some refl (not_full y.maxmsg q some known)
+sent_is g y m q some known = sent_at g y m q.contents q.senders q.receivers (is_filled y.maxmsg q.contents) some refl (not_full y.maxmsg q some known)
 
 -- the next message is no more: by its place, and by its ticket where it stands first
 none_of : (n : ℕ) (xs : List Send) → count_at n xs ≡ 0 → filter (λ m. not (eqb m.place n)) xs ≡ xs
@@ -96,13 +95,13 @@ without_at : (cs : List Send) (t : Send) → IsOnce cs → next cs ≡ Some t �
 without_at cs t once e = rw (next_same cs, e) (taken_at t cs (once.one t.place) (once.same t e))
 
 -- a receive
-took_at : (g : Option Registration) (y : Attributes) (w : Wait) (cs ss : List Send) (rs : List Wait) (t : Send) → IsOnce cs → next cs ≡ Some t → has_none cs ≡ false → tickets_of g (record { contents = others (next cs) cs ++ listed (first ss); senders = behind ss; receivers = cond (has_none cs) (rs ++ w ∷ []) rs }) y ≡ received_by (record { 0 = w.session }) (tickets_of g (record { contents = cs; senders = ss; receivers = rs }) y) (Some (ticket_of t))
+took_at : (g : Option Registration) (y : Attributes) (w : Waiter) (cs ss : List Send) (rs : List Waiter) (t : Send) → IsOnce cs → next cs ≡ Some t → has_none cs ≡ false → tickets_of g (record { contents = others (next cs) cs ++ option_to_list (first ss); senders = tail ss; receivers = cond (has_none cs) (rs ++ w ∷ []) rs }) y ≡ received_by (record { 0 = w.session }) (tickets_of g (record { contents = cs; senders = ss; receivers = rs }) y) (Some (ticket_of t))
 took_at g y w cs [] rs t once e some =
     rw (some, e) (ap (λ l. record { maxmsg = y.maxmsg; msgsize = y.msgsize; tickets = l; senders = []; receivers = map receiver_of rs; registered = option_map (λ (x : Registration). x.desc) g }) (ap (map ticket_of) (append_none (others (Some t) cs)) ∙ without_at cs t once e))
 took_at g y w cs (s ∷ ss) rs t once e some =
     rw (some, e) (ap (λ l. record { maxmsg = y.maxmsg; msgsize = y.msgsize; tickets = l; senders = map sender_of ss; receivers = map receiver_of rs; registered = option_map (λ (x : Registration). x.desc) g }) (map_push ticket_of (others (Some t) cs) s ∙ ap (λ l. l ++ ticket_of s ∷ []) (without_at cs t once e)))
 
-waits_at : (g : Option Registration) (y : Attributes) (w : Wait) (ss : List Send) (rs : List Wait) → ss ≡ [] → tickets_of g (record { contents = listed (first ss); senders = behind ss; receivers = rs ++ w ∷ [] }) y ≡ received_by (record { 0 = w.session }) (tickets_of g (record { contents = []; senders = ss; receivers = rs }) y) None
+waits_at : (g : Option Registration) (y : Attributes) (w : Waiter) (ss : List Send) (rs : List Waiter) → ss ≡ [] → tickets_of g (record { contents = option_to_list (first ss); senders = tail ss; receivers = rs ++ w ∷ [] }) y ≡ received_by (record { 0 = w.session }) (tickets_of g (record { contents = []; senders = ss; receivers = rs }) y) None
 waits_at g y w ss rs none = rw none (ap (λ l. record { maxmsg = y.maxmsg; msgsize = y.msgsize; tickets = []; senders = []; receivers = l; registered = option_map (λ (x : Registration). x.desc) g }) (map_push receiver_of rs w))
 
 -- where the queue is empty, no send is parked
@@ -115,13 +114,13 @@ no_senders n q some known e = at q.senders refl where
 next_there : (x : Send) (xs : List Send) → next (x ∷ xs) ≡ None → ⊥
 next_there x xs e = let none = next_some (x ∷ xs) e in cc
 
-received_at : (g : Option Registration) (y : Attributes) (w : Wait) (cs ss : List Send) (rs : List Wait) → IsOnce cs → (cs ≡ [] → ss ≡ []) → (v : Option Send) → next cs ≡ v → tickets_of g (record { contents = others (next cs) cs ++ listed (first ss); senders = behind ss; receivers = cond (has_none cs) (rs ++ w ∷ []) rs }) y ≡ received_by (record { 0 = w.session }) (tickets_of g (record { contents = cs; senders = ss; receivers = rs }) y) (option_map ticket_of v)
+received_at : (g : Option Registration) (y : Attributes) (w : Waiter) (cs ss : List Send) (rs : List Waiter) → IsOnce cs → (cs ≡ [] → ss ≡ []) → (v : Option Send) → next cs ≡ v → tickets_of g (record { contents = others (next cs) cs ++ option_to_list (first ss); senders = tail ss; receivers = cond (has_none cs) (rs ++ w ∷ []) rs }) y ≡ received_by (record { 0 = w.session }) (tickets_of g (record { contents = cs; senders = ss; receivers = rs }) y) (option_map ticket_of v)
 received_at g y w [] ss rs once none None e = waits_at g y w ss rs (none refl)
 received_at g y w [] ss rs once none (Some t) e = absurd cc
 received_at g y w (x ∷ xs) ss rs once none None e = absurd (next_there x xs e)
 received_at g y w (x ∷ xs) ss rs once none (Some t) e = took_at g y w (x ∷ xs) ss rs t once e refl
 
-pub received_is : (g : Option Registration) (y : Attributes) (w : Wait) (q : Queue) → 1 ≤ y.maxmsg → IsBounded y.maxmsg q → IsOnce q.contents → tickets_of g (queue_after y.maxmsg (Receives w) q) y ≡ received (record { 0 = w.session }) (tickets_of g q y)
+pub received_is : (g : Option Registration) (y : Attributes) (w : Waiter) (q : Queue) → 1 ≤ y.maxmsg → IsBounded y.maxmsg q → IsOnce q.contents → tickets_of g (queue_after y.maxmsg (Receives w) q) y ≡ received (record { 0 = w.session }) (tickets_of g q y)
 unfolding received
 received_is g y w q some known once =
     received_at g y w q.contents q.senders q.receivers once (no_senders y.maxmsg q some known) (next q.contents) refl
@@ -146,5 +145,5 @@ left_is {A = A} {B = B} f number s test same (x ∷ xs) d = at (eqb (number x) s
 pub withdrawn_is : (g : Option Registration) (y : Attributes) (sid : Sid) (q : Queue) → Different (λ m. m.session) q.senders → Different (λ w. w.session) q.receivers → tickets_of g (queue_after y.maxmsg (Withdraws sid.0) q) y ≡ withdrawn sid (tickets_of g q y)
 unfolding withdrawn
 withdrawn_is g y sid q one two =
-    ap (λ l. record { maxmsg = y.maxmsg; msgsize = y.msgsize; tickets = map ticket_of q.contents; senders = l; receivers = map receiver_of (filter (λ (w : Wait). not (eqb w.session sid.0)) q.receivers); registered = option_map (λ (x : Registration). x.desc) g }) (left_is sender_of (λ (m : Send). m.session) sid.0 (is_sender sid) (λ m. refl) q.senders one)
-    ∙ ap (λ l. record { maxmsg = y.maxmsg; msgsize = y.msgsize; tickets = map ticket_of q.contents; senders = without_first (is_sender sid) (map sender_of q.senders); receivers = l; registered = option_map (λ (x : Registration). x.desc) g }) (left_is receiver_of (λ (w : Wait). w.session) sid.0 (is_session sid) (λ w. refl) q.receivers two)
+    ap (λ l. record { maxmsg = y.maxmsg; msgsize = y.msgsize; tickets = map ticket_of q.contents; senders = l; receivers = map receiver_of (filter (λ (w : Waiter). not (eqb w.session sid.0)) q.receivers); registered = option_map (λ (x : Registration). x.desc) g }) (left_is sender_of (λ (m : Send). m.session) sid.0 (is_sender sid) (λ m. refl) q.senders one)
+    ∙ ap (λ l. record { maxmsg = y.maxmsg; msgsize = y.msgsize; tickets = map ticket_of q.contents; senders = without_first (is_sender sid) (map sender_of q.senders); receivers = l; registered = option_map (λ (x : Registration). x.desc) g }) (left_is receiver_of (λ (w : Waiter). w.session) sid.0 (is_session sid) (λ w. refl) q.receivers two)

@@ -16,7 +16,7 @@ use Rattle.ipc_terms.specs.declared.record.Event.TheVariants.{Hello, Do, Hangup}
 use Rattle.ipc_policy.specs.declared.config.Config.{Config}
 use Rattle.ipc_policy.specs.declared.config.Held.{Held}
 use Rattle.ipc_policy.specs.declared.config.Registration.{Registration}
-use Rattle.ipc_policy.specs.History.{History, after_accepted, kept, there_is}
+use Rattle.ipc_policy.specs.History.{History, after_accepted, unless, is_some_and}
 use Rattle.ipc_policy.specs.Names.{Opening, opening, is_bound, creations}
 use Rattle.ipc_policy.specs.Objects.{object}
 use Rattle.ipc_policy.specs.Descriptions.{held, holds, is_nonblock}
@@ -89,7 +89,7 @@ queue_next : (c : Config) (h : History) (o : ℕ) → ((x : Registration) → re
 unfolding registered object
 queue_next c h o known e (Some rule) legal x k = known x k
 queue_next c h o known e None legal x k = at (registers (holds h) o e) refl (sym (registered_grows c h e o) ∙ k) where
-  old : (w : Option Registration) → registered c h o ≡ w → kept (λ y. ends_registration y e (act o e h) (queue c h o)) w ≡ Some x → is_some (attributes c (after_accepted h e) o) ≡ true
+  old : (w : Option Registration) → registered c h o ≡ w → unless (λ y. ends_registration y e (act o e h) (queue c h o)) w ≡ Some x → is_some (attributes c (after_accepted h e) o) ≡ true
   old None q j = absurd cc
   old (Some y) q j = stays_queue c h o e (ap is_some q) (known y q)
 
@@ -98,7 +98,7 @@ queue_next c h o known e None legal x k = at (registers (holds h) o e) refl (sym
     made : is_some (attributes c h o) ≡ true → is_some (attributes c (after_accepted h e) o) ≡ true
     made is = ap (λ z. is_some (as_queue z)) (object_stays c h e o (object_below c h o (some_object (object c h o) is))) ∙ is
 
-  at : (w : Option Registration) → registers (holds h) o e ≡ w → option_or w (kept (λ y. ends_registration y e (act o e h) (queue c h o)) (registered c h o)) ≡ Some x → is_some (attributes c (after_accepted h e) o) ≡ true
+  at : (w : Option Registration) → registers (holds h) o e ≡ w → option_or w (unless (λ y. ends_registration y e (act o e h) (queue c h o)) (registered c h o)) ≡ Some x → is_some (attributes c (after_accepted h e) o) ≡ true
   at None q j = old (registered c h o) refl j
   at (Some y) q j = begun y q
 
@@ -124,7 +124,7 @@ kept_session c h t o x a k =
     ∙ ap (λ (n : ℕ). Some (record { 0 = n })) (session_is x.session.0 known.x' (if_of_is x.session.0 x.desc.0 h known.x' known.held))
 
 -- whether one is registered
-pub some_registered : (f : Held → Option Registration) (w : Option Held) → is_some (option_and_then f w) ≡ there_is (λ x. is_some (f x)) w
+pub some_registered : (f : Held → Option Registration) (w : Option Held) → is_some (option_and_then f w) ≡ is_some_and (λ x. is_some (f x)) w
 some_registered f None = refl
 some_registered f (Some x) = refl
 
@@ -136,7 +136,7 @@ none_of (Some x) e = absurd cc
 pub free_to_register : (c : Config) (h : History) (sid : Sid) (desc : Desc) (o : ℕ) → verdict c h (Do sid (MqNotify desc true)) ≡ None → option_map (λ (x : Held). x.object) (holds h sid.0 desc.0) ≡ Some o → registered c h o ≡ None
 unfolding forbids notify_taken
 free_to_register c h sid desc o accepted is = at (holds h sid.0 desc.0) (unforbidden c h (Do sid (MqNotify desc true)) accepted NotifyTaken) is where
-  at : (w : Option Held) → there_is (λ x. is_some (registered c h x.object)) w ≡ false → option_map (λ (x : Held). x.object) w ≡ Some o → registered c h o ≡ None
+  at : (w : Option Held) → is_some_and (λ x. is_some (registered c h x.object)) w ≡ false → option_map (λ (x : Held). x.object) w ≡ Some o → registered c h o ≡ None
   at None e j = absurd cc
   at (Some x) e j = let same : x.object ≡ o = cc in subst (λ (i : ℕ). registered c h i ≡ None) same (none_of (registered c h x.object) e)
 

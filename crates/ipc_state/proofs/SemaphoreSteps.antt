@@ -6,13 +6,13 @@ use Rattle.std.proofs.lemmas.List.{map_push}
 use Rattle.ipc_terms.specs.Events.{is_session}
 use Rattle.ipc_terms.specs.declared.ids.Sid.{Sid}
 use Rattle.ipc_sem.specs.Counters.{posted_to, posted, waited, tried, withdrawn}
-use Rattle.ipc_policy.specs.Queues.{Wait, behind, has_none}
-use Rattle.ipc_policy.specs.Semaphores.{Posts, Waits, Tries, Cancels, Semaphore, semaphore_after}
+use Rattle.ipc_policy.specs.Queues.{Waiter, tail, has_none}
+use Rattle.ipc_policy.specs.Semaphores.{Posts, Waits, Tries, WithdrawsWait, Semaphore, semaphore_after}
 use Rattle.ipc_policy.proofs.Blocked.ParkedSessions.{Different}
 use Rattle.ipc_state.specs.Agrees.{receiver_of, counter_of}
 use Rattle.ipc_state.proofs.QueueSteps.{left_is}
 
-posted_at : (n : ℕ) (ws : List Wait) → counter_of (record { value = cond (has_none ws) (n + 1) n; waiters = behind ws }) ≡ posted_to (record { value = n; waiters = map receiver_of ws }) (map receiver_of ws)
+posted_at : (n : ℕ) (ws : List Waiter) → counter_of (record { value = cond (has_none ws) (n + 1) n; waiters = tail ws }) ≡ posted_to (record { value = n; waiters = map receiver_of ws }) (map receiver_of ws)
 posted_at n [] = refl
 posted_at n (w ∷ ws) = refl
 
@@ -20,7 +20,7 @@ pub posted_is : (q : Semaphore) → counter_of (semaphore_after Posts q) ≡ pos
 unfolding posted
 posted_is q = posted_at q.value q.waiters
 
-pub waited_is : (w : Wait) (q : Semaphore) → counter_of (semaphore_after (Waits w) q) ≡ waited (record { 0 = w.session }) (counter_of q)
+pub waited_is : (w : Waiter) (q : Semaphore) → counter_of (semaphore_after (Waits w) q) ≡ waited (record { 0 = w.session }) (counter_of q)
 unfolding waited
 waited_is w q = at (eqb q.value 0) refl where
   at : (b : Bool) → eqb q.value 0 ≡ b → counter_of (record { value = q.value - 1; waiters = cond b (q.waiters ++ w ∷ []) q.waiters }) ≡ cond b (record { value = q.value; waiters = map receiver_of q.waiters ++ record { 0 = w.session } ∷ [] }) (record { value = q.value - 1; waiters = map receiver_of q.waiters })
@@ -34,6 +34,6 @@ pub tried_is : (q : Semaphore) → counter_of (semaphore_after Tries q) ≡ trie
 unfolding tried
 tried_is q = refl
 
-pub cancelled_is : (sid : Sid) (q : Semaphore) → Different (λ w. w.session) q.waiters → counter_of (semaphore_after (Cancels sid.0) q) ≡ withdrawn sid (counter_of q)
+pub cancelled_is : (sid : Sid) (q : Semaphore) → Different (λ w. w.session) q.waiters → counter_of (semaphore_after (WithdrawsWait sid.0) q) ≡ withdrawn sid (counter_of q)
 unfolding withdrawn
-cancelled_is sid q differ = ap (λ (l : List Sid). record { value = q.value; waiters = l }) (left_is receiver_of (λ (w : Wait). w.session) sid.0 (is_session sid) (λ w. refl) q.waiters differ)
+cancelled_is sid q differ = ap (λ (l : List Sid). record { value = q.value; waiters = l }) (left_is receiver_of (λ (w : Waiter). w.session) sid.0 (is_session sid) (λ w. refl) q.waiters differ)

@@ -20,14 +20,14 @@ use Rattle.ipc_terms.specs.declared.object.Object.{Object}
 use Rattle.ipc_terms.specs.declared.ids.Family.TheVariants.{Mq, Sem}
 use Rattle.ipc_terms.specs.Objects.{as_queue, as_semaphore}
 use Rattle.ipc_policy.specs.Objects.{object}
-use Rattle.ipc_policy.specs.History.{History, after_accepted, there_is}
+use Rattle.ipc_policy.specs.History.{History, after_accepted, is_some_and}
 use Rattle.ipc_policy.specs.Sessions.{hellos, user, live, mask}
 use Rattle.ipc_policy.specs.Descriptions.{holds}
 use Rattle.ipc_policy.specs.Life.{alive, gives_object}
 use Rattle.ipc_policy.specs.declared.config.Registration.{Registration}
 use Rattle.ipc_policy.specs.Registrations.{fires, registered}
 use Rattle.ipc_policy.proofs.Queues.RegisteredSteps.{registered_stays, registered_send}
-use Rattle.ipc_policy.specs.Queues.{Send, Wait, Sends, Receives, Withdraws, Rests, Queue, next, has_none, has_all, room, attributes, maxmsg, queue, queue_after, contents, senders, receivers, is_full, is_empty}
+use Rattle.ipc_policy.specs.Queues.{Send, Waiter, Sends, Receives, Withdraws, NoAct, Queue, next, has_none, is_filled, maxmsg_of, attributes, maxmsg, queue, queue_after, contents, senders, receivers, is_full, is_empty}
 use Rattle.ipc_policy.specs.Parking.{Parked, parked}
 use Rattle.ipc_policy.specs.Verdict.{Legal}
 use Rattle.ipc_policy.proofs.Lists.EachItem.{each_first, each_map}
@@ -65,7 +65,7 @@ pub is_open : (c : Config) (h : History) (t : TablesView) (o : ℕ) (y : Attribu
 is_open c h t o y k e =
     let limit = (limits_some c k.in_range).0 in
     let least : 1 ≤ c.limits.msg_max = omega arith in
-    let most : maxmsg c h o ≡ y.maxmsg = ap room e in
+    let most : maxmsg c h o ≡ y.maxmsg = ap maxmsg_of e in
     record {
       some = subst (λ (n : ℕ). 1 ≤ n) most (room_positive c h least k.legal o (ap is_some e));
       most = most;
@@ -99,8 +99,8 @@ parked_stands c h xs s p a e = at (slice_get xs s) refl (a.parks s ∙ ap (optio
   at None k f = absurd cc
   at (Some row) k f = slice_get_within xs s row k
 
-pub receiver_stands : (c : Config) (h : History) (xs : List Session) (o : ℕ) (w : Wait) → Legal c h → SessionsAgree c h xs → first (receivers c h o) ≡ Some w → w.session < length xs
-receiver_stands c h xs o w legal a e = each_first (λ (v : Wait). v.session < length xs) (receivers c h o) (each_map _ (λ (v : Wait). v.session < length xs) (receivers c h o) (λ v is. parked_stands c h xs v.session _ a is) ((calls_listed c h legal).each_receive o)) w e
+pub receiver_stands : (c : Config) (h : History) (xs : List Session) (o : ℕ) (w : Waiter) → Legal c h → SessionsAgree c h xs → first (receivers c h o) ≡ Some w → w.session < length xs
+receiver_stands c h xs o w legal a e = each_first (λ (v : Waiter). v.session < length xs) (receivers c h o) (each_map _ (λ (v : Waiter). v.session < length xs) (receivers c h o) (λ v is. parked_stands c h xs v.session _ a is) ((calls_listed c h legal).each_receive o)) w e
 
 pub sender_stands : (c : Config) (h : History) (xs : List Session) (o : ℕ) (m : Send) → Legal c h → SessionsAgree c h xs → first (senders c h o) ≡ Some m → m.session < length xs
 sender_stands c h xs o m legal a e = each_first (λ (v : Send). v.session < length xs) (senders c h o) (each_map _ (λ (v : Send). v.session < length xs) (senders c h o) (λ v is. parked_stands c h xs v.session _ a is) ((calls_listed c h legal).each_send o)) m e
@@ -114,27 +114,27 @@ send_told : (c : Config) (h : History) (o : ℕ) (y : Attributes) → attributes
 unfolding send_outcome
 send_told c h o y e =
     let q = tickets_of (registered c h o) (queue c h o) y in
-    ap (λ b. outcome_by_receiver b (fired q) (first (map receiver_of (receivers c h o)))) (full_same (registered c h o) y (queue c h o) ∙ sym (ap (there_is (λ x. has_all x.maxmsg (contents c h o))) e))
+    ap (λ b. outcome_by_receiver b (fired q) (first (map receiver_of (receivers c h o)))) (full_same (registered c h o) y (queue c h o) ∙ sym (ap (is_some_and (λ x. is_filled x.maxmsg (contents c h o))) e))
     ∙ ap (outcome_by_receiver (is_full c h o) (fired q)) (longest_mapped receiver_of (receivers c h o))
 
-sent_column : (c : Config) (h : History) (xs : List Session) (o : ℕ) (sid : Sid) → SessionsAgree c h xs → sid.0 < length xs → (r : Option Wait) → ((w : Wait) → r ≡ Some w → w.session < length xs) → (f : Bool) (g : Option Desc) → Columns (parked_by_send o sid (Some (outcome_by_receiver f g (option_map receiver_of r))) xs) (hellos h) (user h) (mask h) (live h) (column_after (option_map (λ (w : Wait). w.session) r) f sid.0 o (parked_object c h))
+sent_column : (c : Config) (h : History) (xs : List Session) (o : ℕ) (sid : Sid) → SessionsAgree c h xs → sid.0 < length xs → (r : Option Waiter) → ((w : Waiter) → r ≡ Some w → w.session < length xs) → (f : Bool) (g : Option Desc) → Columns (parked_by_send o sid (Some (outcome_by_receiver f g (option_map receiver_of r))) xs) (hellos h) (user h) (mask h) (live h) (column_after (option_map (λ (w : Waiter). w.session) r) f sid.0 o (parked_object c h))
 sent_column c h xs o sid a lt (Some w) there f g = columns_moved xs (hellos h) (user h) (mask h) (live h) (parked_object c h) None w.session (there w refl) (columns_of c h xs a)
 sent_column c h xs o sid a lt None there true g = columns_moved xs (hellos h) (user h) (mask h) (live h) (parked_object c h) (Some o) sid.0 lt (columns_of c h xs a)
 sent_column c h xs o sid a lt None there false None = columns_of c h xs a
 sent_column c h xs o sid a lt None there false (Some desc) = columns_of c h xs a
 
-pub sessions_sent : (c : Config) (h : History) (t : TablesView) (o : ℕ) (y : Attributes) (sid : Sid) → Legal c h → Agrees c h t → alive h o ≡ true → attributes c h o ≡ Some y → sid.0 < length t.sessions → Columns (parked_by_send o sid (option_map send_outcome (queue_at t.objects o)) t.sessions) (hellos h) (user h) (mask h) (live h) (column_after (option_map (λ (w : Wait). w.session) (first (receivers c h o))) (is_full c h o) sid.0 o (parked_object c h))
+pub sessions_sent : (c : Config) (h : History) (t : TablesView) (o : ℕ) (y : Attributes) (sid : Sid) → Legal c h → Agrees c h t → alive h o ≡ true → attributes c h o ≡ Some y → sid.0 < length t.sessions → Columns (parked_by_send o sid (option_map send_outcome (queue_at t.objects o)) t.sessions) (hellos h) (user h) (mask h) (live h) (column_after (option_map (λ (w : Waiter). w.session) (first (receivers c h o))) (is_full c h o) sid.0 o (parked_object c h))
 sessions_sent c h t o y sid legal a lives e lt =
     let told : option_map send_outcome (queue_at t.objects o) ≡ Some (outcome_by_receiver (is_full c h o) (fired (tickets_of (registered c h o) (queue c h o) y)) (option_map receiver_of (first (receivers c h o)))) = ap (option_map send_outcome) (queue_there c h t o y legal a lives e) ∙ ap Some (send_told c h o y e) in
     rw told (sent_column c h t.sessions o sid a.sessions lt (first (receivers c h o)) (λ w is. receiver_stands c h t.sessions o w legal a.sessions is) (is_full c h o) (fired (tickets_of (registered c h o) (queue c h o) y)))
 
 -- at a full queue no receive is parked
-pub none_receives : (c : Config) (h : History) (o : ℕ) (y : Attributes) → IsOpen c h o y → attributes c h o ≡ Some y → is_full c h o ≡ true → option_map (λ (w : Wait). w.session) (first (receivers c h o)) ≡ None
+pub none_receives : (c : Config) (h : History) (o : ℕ) (y : Attributes) → IsOpen c h o y → attributes c h o ≡ Some y → is_full c h o ≡ true → option_map (λ (w : Waiter). w.session) (first (receivers c h o)) ≡ None
 none_receives c h o y q e full = at (receivers c h o) refl where
   filled : y.maxmsg ≤ length (contents c h o)
-  filled = leb-true _ _ (sym (ap (there_is (λ x. has_all x.maxmsg (contents c h o))) e) ∙ full)
+  filled = leb-true _ _ (sym (ap (is_some_and (λ x. is_filled x.maxmsg (contents c h o))) e) ∙ full)
 
-  at : (rs : List Wait) → receivers c h o ≡ rs → option_map (λ (w : Wait). w.session) (first rs) ≡ None
+  at : (rs : List Waiter) → receivers c h o ≡ rs → option_map (λ (w : Waiter). w.session) (first rs) ≡ None
   at [] k = refl
   at (w ∷ ws) k = absurd (let none : length (contents c h o) ≡ 0 = ap length (q.bounds.receivers_wait (ap has_none k)) in let least = q.some in let more = filled in omega arith)
 
@@ -167,7 +167,7 @@ next_is cs e = at (next cs) refl where
   at (Some x) k = refl
 
 empty_at : (c : Config) (h : History) (o : ℕ) (y : Attributes) → attributes c h o ≡ Some y → is_empty c h o ≡ has_none (contents c h o)
-empty_at c h o y e = ap (there_is (λ x. has_none (contents c h o))) e
+empty_at c h o y e = ap (is_some_and (λ x. has_none (contents c h o))) e
 
 -- at an empty queue no send is parked
 pub none_sends : (c : Config) (h : History) (o : ℕ) (y : Attributes) → IsOpen c h o y → attributes c h o ≡ Some y → is_empty c h o ≡ true → option_map (λ (m : Send). m.session) (first (senders c h o)) ≡ None
@@ -185,7 +185,7 @@ sessions_received c h t o y sid legal a lives e q lt =
     rw told (received_column c h t.sessions o sid a.sessions lt (first (senders c h o)) (λ m is. sender_stands c h t.sessions o m legal a.sessions is) (is_empty c h o) (none_sends c h o y q e) (next (contents c h o)) (λ b. next_none (contents c h o) (sym (empty_at c h o y e) ∙ b)) (λ b. next_is (contents c h o) (sym (empty_at c h o y e) ∙ b)))
 
 -- what they do to the queue; a receive leaves its registration
-receive_calm : (b : Bool) (w : Wait) (q : Queue) → fires (cond b (Receives w) Rests) q ≡ false
+receive_calm : (b : Bool) (w : Waiter) (q : Queue) → fires (cond b (Receives w) NoAct) q ≡ false
 receive_calm true w q = refl
 receive_calm false w q = refl
 
@@ -202,7 +202,7 @@ queue_sent c h sid desc priority bytes x y q held =
 
 pub queue_received : (c : Config) (h : History) (sid : Sid) (desc : Desc) (length' : ℕ) (x : Held) (y : Attributes) → IsOpen c h x.object y → holds h sid.0 desc.0 ≡ Some x → tickets_of (registered c (after_accepted h (Do sid (MqReceive desc length'))) x.object) (queue c (after_accepted h (Do sid (MqReceive desc length'))) x.object) y ≡ received sid (tickets_of (registered c h x.object) (queue c h x.object) y)
 queue_received c h sid desc length' x y q held =
-    let w : Wait = record { place = length h; session = sid.0; desc = desc.0 } in
+    let w : Waiter = record { place = length h; session = sid.0; desc = desc.0 } in
     ap (λ g. tickets_of g (queue c (after_accepted h (Do sid (MqReceive desc length'))) x.object) y) (registered_receive c h sid desc length' x.object)
     ∙ ap (λ r. tickets_of (registered c h x.object) r y) (queue_by_receive c h sid desc length' x x.object held ∙ ap (λ b. cond b (queue_after (maxmsg c h x.object) (Receives w) (queue c h x.object)) (queue c h x.object)) (eq-eqb x.object x.object refl))
     ∙ ap (λ n. tickets_of (registered c h x.object) (queue_after n (Receives w) (queue c h x.object)) y) q.most

@@ -35,7 +35,7 @@ use Rattle.ipc_policy.specs.Sessions.{hellos, user, live, mask}
 use Rattle.ipc_policy.specs.Names.{creations}
 use Rattle.ipc_policy.specs.Objects.{object, facts, directory}
 use Rattle.ipc_policy.specs.Descriptions.{opens, held, is_nonblock}
-use Rattle.ipc_policy.specs.Queues.{Send, Wait, Queue, attributes, queue}
+use Rattle.ipc_policy.specs.Queues.{Send, Waiter, Queue, attributes, queue}
 use Rattle.ipc_policy.specs.Semaphores.{Semaphore, semaphore}
 use Rattle.ipc_policy.specs.Parking.{parked}
 use Rattle.ipc_policy.specs.Life.{bindings, alive}
@@ -65,7 +65,7 @@ abbrev pub sender_of : Send → ParkedSend
 sender_of m = record { ticket = ticket_of m; session = record { 0 = m.session } }
 
 -- the session of a parked receive or wait
-abbrev pub receiver_of : Wait → Sid
+abbrev pub receiver_of : Waiter → Sid
 receiver_of w = record { 0 = w.session }
 
 -- a queue of the policy with this registration and these attributes, as it is kept

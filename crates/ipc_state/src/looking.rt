@@ -5,7 +5,7 @@ ghost use Rattle.std.specs.Option.{option_map, option_copied};
 ghost use Rattle.ipc_queue.specs.Tickets.{is_full_of};
 ghost use Rattle.ipc_tables.specs.Objects.{row_at, queue_in, semaphore_in};
 ghost use Rattle.ipc_tables.specs.TablesView.{is_live_row};
-ghost use Rattle.ipc_policy.specs.History.{there_is};
+ghost use Rattle.ipc_policy.specs.History.{is_some_and};
 ghost use Rattle.ipc_state.specs.Agrees.{held_in};
 ghost use Rattle.ipc_state.specs.Rows.{user_in, row_meant, number_meant};
 
@@ -108,7 +108,7 @@ pub fn facts_in(row: Option<&ObjectRow>) -> Option<Facts>
 
 /// Whether calls by the description are refused where they would block.
 pub fn is_nonblock_in(row: Option<&Row>) -> bool
-    ensures { result ≡ there_is (λ row. row.nonblock) (option_copied row.entry) }
+    ensures { result ≡ is_some_and (λ row. row.nonblock) (option_copied row.entry) }
 {
     match row {
         Some(row) => row.nonblock,
@@ -136,7 +136,7 @@ pub fn semaphore_in(row: Option<&ObjectRow>) -> Option<&Sem>
 
 /// Whether there is a queue, and it has as many messages as it may.
 pub fn is_full_queue(queue: Option<&Queue>) -> bool
-    ensures { result ≡ there_is is_full_of (option_copied queue.entry) }
+    ensures { result ≡ is_some_and is_full_of (option_copied queue.entry) }
 {
     match queue {
         Some(queue) => queue.is_full(),
@@ -146,7 +146,7 @@ pub fn is_full_queue(queue: Option<&Queue>) -> bool
 
 /// Whether there is a queue, and it has no messages.
 pub fn is_empty_queue(queue: Option<&Queue>) -> bool
-    ensures { result ≡ there_is (λ q. length q.tickets == 0) (option_copied queue.entry) }
+    ensures { result ≡ is_some_and (λ q. length q.tickets == 0) (option_copied queue.entry) }
 {
     match queue {
         Some(queue) => queue.len() == 0,
@@ -156,7 +156,7 @@ pub fn is_empty_queue(queue: Option<&Queue>) -> bool
 
 /// Whether there is a queue, and a description is registered for its notice.
 pub fn has_registration(queue: Option<&Queue>) -> bool
-    ensures { result ≡ there_is (λ q. is_some q.registered) (option_copied queue.entry) }
+    ensures { result ≡ is_some_and (λ q. is_some q.registered) (option_copied queue.entry) }
 {
     match queue {
         Some(queue) => queue.registered().is_some(),
@@ -166,7 +166,7 @@ pub fn has_registration(queue: Option<&Queue>) -> bool
 
 /// Whether there is a semaphore, and this is its value.
 pub fn has_value(semaphore: Option<&Sem>, value: u32) -> bool
-    ensures { result ≡ there_is (λ q. q.value == value) (option_copied semaphore.entry) }
+    ensures { result ≡ is_some_and (λ q. q.value == value) (option_copied semaphore.entry) }
 {
     match semaphore {
         Some(semaphore) => semaphore.value() == value,

@@ -9,7 +9,7 @@ ghost use Rattle.ipc_policy.specs.Objects.{facts, directory};
 ghost use Rattle.ipc_policy.specs.Descriptions.{holds, is_nonblock};
 ghost use Rattle.ipc_policy.specs.Parking.{parked};
 ghost use Rattle.ipc_policy.specs.Registrations.{registered};
-ghost use Rattle.ipc_policy.specs.Rules.{there_is, object_held, is_full, is_empty, is_zero, is_greatest};
+ghost use Rattle.ipc_policy.specs.Rules.{is_some_and, object_held, is_full, is_empty, is_zero, is_greatest};
 ghost use Rattle.ipc_policy.specs.Verdict.{Legal};
 ghost use Rattle.ipc_state.specs.Agrees.{IsCore};
 ghost use Rattle.ipc_state.specs.Meetings.{description, by_description, by_name, object_by, object_bound, queue_held, semaphore_held, facts_asked};
@@ -180,7 +180,7 @@ impl<'a> Lookup<'a> {
 
     /// Whether the name that the event names is bound.
     pub fn is_bound(&self) -> bool
-        ensures { result ≡ there_is (λ x. is_bound self.now.history x.family x.name) (naming self.now.event) }
+        ensures { result ≡ is_some_and (λ x. is_bound self.now.history x.family x.name) (naming self.now.event) }
     {
         self.bound.is_some()
     }
@@ -194,7 +194,7 @@ impl<'a> Lookup<'a> {
 
     /// Whether the caller holds the description that the event names, and calls by it are refused where they would block.
     pub fn is_nonblock(&self) -> bool
-        ensures { result ≡ (is_some (by_description (holds self.now.history) self.now.event) && there_is (λ x. is_nonblock self.now.history (caller self.now.event).0 x.desc.0) (description self.now.event)) }
+        ensures { result ≡ (is_some (by_description (holds self.now.history) self.now.event) && is_some_and (λ x. is_nonblock self.now.history (caller self.now.event).0 x.desc.0) (description self.now.event)) }
     {
         is_nonblock_in(self.row)
     }
@@ -216,21 +216,21 @@ impl<'a> Lookup<'a> {
 
     /// Whether that queue has as many messages as it may.
     pub fn is_full(&self) -> bool
-        ensures { result ≡ there_is (λ x. is_full self.now.config self.now.history x.object) (by_description (holds self.now.history) self.now.event) }
+        ensures { result ≡ is_some_and (λ x. is_full self.now.config self.now.history x.object) (by_description (holds self.now.history) self.now.event) }
     {
         is_full_queue(self.queue())
     }
 
     /// Whether that queue has no messages.
     pub fn is_empty(&self) -> bool
-        ensures { result ≡ there_is (λ x. is_empty self.now.config self.now.history x.object) (by_description (holds self.now.history) self.now.event) }
+        ensures { result ≡ is_some_and (λ x. is_empty self.now.config self.now.history x.object) (by_description (holds self.now.history) self.now.event) }
     {
         is_empty_queue(self.queue())
     }
 
     /// Whether one is registered for the notice of that queue.
     pub fn is_registered(&self) -> bool
-        ensures { result ≡ there_is (λ x. is_some (registered self.now.config self.now.history x.object)) (by_description (holds self.now.history) self.now.event) }
+        ensures { result ≡ is_some_and (λ x. is_some (registered self.now.config self.now.history x.object)) (by_description (holds self.now.history) self.now.event) }
     {
         has_registration(queue_in(self.given))
     }
@@ -246,14 +246,14 @@ impl<'a> Lookup<'a> {
 
     /// Whether the value of that semaphore is 0.
     pub fn is_zero(&self) -> bool
-        ensures { result ≡ there_is (λ x. is_zero self.now.config self.now.history x.object) (by_description (holds self.now.history) self.now.event) }
+        ensures { result ≡ is_some_and (λ x. is_zero self.now.config self.now.history x.object) (by_description (holds self.now.history) self.now.event) }
     {
         has_value(semaphore_in(self.given), 0)
     }
 
     /// Whether the value of that semaphore is the greatest.
     pub fn is_greatest(&self) -> bool
-        ensures { result ≡ there_is (λ x. is_greatest self.now.config self.now.history x.object) (by_description (holds self.now.history) self.now.event) }
+        ensures { result ≡ is_some_and (λ x. is_greatest self.now.config self.now.history x.object) (by_description (holds self.now.history) self.now.event) }
     {
         has_value(semaphore_in(self.given), SEM_VALUE_MAX)
     }

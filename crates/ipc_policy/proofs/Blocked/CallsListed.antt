@@ -15,10 +15,10 @@ use Rattle.ipc_terms.specs.declared.record.Event.TheVariants.{Hello, Do, Hangup}
 use Rattle.ipc_policy.specs.declared.config.Config.{Config}
 use Rattle.ipc_policy.specs.declared.config.Held.{Held}
 use Rattle.ipc_terms.specs.declared.call.Attributes.{Attributes}
-use Rattle.ipc_policy.specs.History.{History, kept, there_is}
+use Rattle.ipc_policy.specs.History.{History, unless, is_some_and}
 use Rattle.ipc_policy.specs.Descriptions.{holds}
-use Rattle.ipc_policy.specs.Queues.{Send, Wait, Act, Sends, Receives, Withdraws, Rests, Queue, has_all, has_none, behind, senders_after, receivers_after, queue_after, act, queue, maxmsg, room, attributes, contents, senders, receivers, is_full, is_empty}
-use Rattle.ipc_policy.specs.Semaphores.{SemaphoreAct, Posts, Waits, Tries, Cancels, Idles, Semaphore, semaphore_act, semaphore_after, waiters_after, gives_value, semaphore, value, waiters, is_zero}
+use Rattle.ipc_policy.specs.Queues.{Send, Waiter, Act, Sends, Receives, Withdraws, NoAct, Queue, is_filled, has_none, tail, senders_after, receivers_after, queue_after, act, queue, maxmsg, maxmsg_of, attributes, contents, senders, receivers, is_full, is_empty}
+use Rattle.ipc_policy.specs.Semaphores.{SemaphoreAct, Posts, Waits, Tries, WithdrawsWait, NoSemaphoreAct, Semaphore, semaphore_act, semaphore_after, waiters_after, gives_value, semaphore, value, waiters, is_zero}
 use Rattle.ipc_policy.specs.Parking.{ParkedKind, Sending, Receiving, Waiting, Parked, withdraws, is_posted, parks, parked_on, ends_call, ends_parked, parked, stands_at}
 use Rattle.ipc_policy.specs.Readings.{ends_send, ends_receive}
 use Rattle.ipc_policy.specs.Rules.{forbids, in_call, is_interrupt}
@@ -66,15 +66,15 @@ unfolding parked
 gets_parked c h e s p k = rw k refl
 
 -- where there is a queue, a full one has all that it may, and an empty one has none
-full_is : (x : Option Attributes) (xs : List Send) → is_some x ≡ true → there_is (λ y. has_all y.maxmsg xs) x ≡ has_all (room x) xs
+full_is : (x : Option Attributes) (xs : List Send) → is_some x ≡ true → is_some_and (λ y. is_filled y.maxmsg xs) x ≡ is_filled (maxmsg_of x) xs
 full_is None xs e = absurd cc
 full_is (Some x) xs e = refl
 
-empty_is : (x : Option Attributes) (xs : List Send) → is_some x ≡ true → there_is (λ y. has_none xs) x ≡ has_none xs
+empty_is : (x : Option Attributes) (xs : List Send) → is_some x ≡ true → is_some_and (λ y. has_none xs) x ≡ has_none xs
 empty_is None xs e = absurd cc
 empty_is (Some x) xs e = refl
 
-pub is_full-at : (c : Config) (h : History) (o : ℕ) → is_some (attributes c h o) ≡ true → is_full c h o ≡ has_all (maxmsg c h o) (contents c h o)
+pub is_full-at : (c : Config) (h : History) (o : ℕ) → is_some (attributes c h o) ≡ true → is_full c h o ≡ is_filled (maxmsg c h o) (contents c h o)
 is_full-at c h o e = full_is (attributes c h o) (contents c h o) e
 
 pub is_empty-at : (c : Config) (h : History) (o : ℕ) → is_some (attributes c h o) ≡ true → is_empty c h o ≡ has_none (contents c h o)
@@ -90,12 +90,12 @@ parks_receive_of c h sid desc length' x k e = let here : eqb sid.0 sid.0 ≡ tru
 parks_wait_of : (c : Config) (h : History) (sid : Sid) (desc : Desc) (x : Held) → holds h sid.0 desc.0 ≡ Some x → is_zero c h x.object ≡ true → parks c sid.0 (Do sid (SemWait desc)) h ≡ Some (record { object = x.object; place = length h; kind = Waiting })
 parks_wait_of c h sid desc x k e = let here : eqb sid.0 sid.0 ≡ true = eq-eqb _ _ refl in rw (k, here, e) refl
 
-send_parks : (c : Config) (h : History) (o : ℕ) (e : Event) → None ≡ verdict c h e → (m : Send) → act o e h ≡ Sends m → has_all (maxmsg c h o) (contents c h o) ≡ true → parked c (record { event = e; rule = None } ∷ h) m.session ≡ Some (record { object = o; place = m.place; kind = Sending })
+send_parks : (c : Config) (h : History) (o : ℕ) (e : Event) → None ≡ verdict c h e → (m : Send) → act o e h ≡ Sends m → is_filled (maxmsg c h o) (contents c h o) ≡ true → parked c (record { event = e; rule = None } ∷ h) m.session ≡ Some (record { object = o; place = m.place; kind = Sending })
 send_parks c h o e legal m k f =
     let a = act_sends o e h m k in
     let legal' : None ≡ verdict c h (Do a.sid (MqSend a.desc m.priority m.bytes)) = rw a.event at legal in
     let there = held_queue c h a.sid (MqSend a.desc m.priority m.bytes) a.desc a.x legal' refl a.held in
-    let full : is_full c h a.x.object ≡ true = is_full-at c h a.x.object there ∙ subst (λ (n : ℕ). has_all (maxmsg c h n) (contents c h n) ≡ true) (sym a.object) f in
+    let full : is_full c h a.x.object ≡ true = is_full-at c h a.x.object there ∙ subst (λ (n : ℕ). is_filled (maxmsg c h n) (contents c h n) ≡ true) (sym a.object) f in
     let parks_now : parks c a.sid.0 e h ≡ Some (record { object = o; place = length h; kind = Sending }) =
     ap (λ (d : Event). parks c a.sid.0 d h) a.event
     ∙ parks_send_of c h a.sid a.desc m.priority m.bytes a.x a.held full
@@ -103,7 +103,7 @@ send_parks c h o e legal m k f =
     let now = gets_parked c h e a.sid.0 (record { object = o; place = length h; kind = Sending }) parks_now in
     ap (parked c (record { event = e; rule = None } ∷ h)) a.session ∙ now ∙ ap (λ (n : ℕ). Some (record { object = o; place = n; kind = Sending })) (sym a.place)
 
-receive_parks : (c : Config) (h : History) (o : ℕ) (e : Event) → None ≡ verdict c h e → (w : Wait) → act o e h ≡ Receives w → has_none (contents c h o) ≡ true → parked c (record { event = e; rule = None } ∷ h) w.session ≡ Some (record { object = o; place = w.place; kind = Receiving })
+receive_parks : (c : Config) (h : History) (o : ℕ) (e : Event) → None ≡ verdict c h e → (w : Waiter) → act o e h ≡ Receives w → has_none (contents c h o) ≡ true → parked c (record { event = e; rule = None } ∷ h) w.session ≡ Some (record { object = o; place = w.place; kind = Receiving })
 receive_parks c h o e legal w k f =
     let a = act_receives o e h w k in
     let legal' : None ≡ verdict c h (Do a.sid (MqReceive a.desc a.length')) = rw a.event at legal in
@@ -114,9 +114,9 @@ receive_parks c h o e legal w k f =
     ∙ parks_receive_of c h a.sid a.desc a.length' a.x a.held empty
     ∙ ap (λ (n : ℕ). Some (record { object = n; place = length h; kind = Receiving })) a.object in
     let now = gets_parked c h e a.sid.0 (record { object = o; place = length h; kind = Receiving }) parks_now in
-    subst (λ (v : Wait). parked c (record { event = e; rule = None } ∷ h) v.session ≡ Some (record { object = o; place = v.place; kind = Receiving })) (sym a.wait) now
+    subst (λ (v : Waiter). parked c (record { event = e; rule = None } ∷ h) v.session ≡ Some (record { object = o; place = v.place; kind = Receiving })) (sym a.wait) now
 
-wait_parks : (c : Config) (h : History) (o : ℕ) (e : Event) → ((i : ℕ) → value h i ≡ (semaphore h i).value) → None ≡ verdict c h e → (w : Wait) → semaphore_act o e h ≡ Waits w → eqb (semaphore h o).value 0 ≡ true → parked c (record { event = e; rule = None } ∷ h) w.session ≡ Some (record { object = o; place = w.place; kind = Waiting })
+wait_parks : (c : Config) (h : History) (o : ℕ) (e : Event) → ((i : ℕ) → value h i ≡ (semaphore h i).value) → None ≡ verdict c h e → (w : Waiter) → semaphore_act o e h ≡ Waits w → eqb (semaphore h o).value 0 ≡ true → parked c (record { event = e; rule = None } ∷ h) w.session ≡ Some (record { object = o; place = w.place; kind = Waiting })
 wait_parks c h o e counted legal w k f =
     let a = act_waits o e h w k in
     let legal' : None ≡ verdict c h (Do a.sid (SemWait a.desc)) = rw a.event at legal in
@@ -127,20 +127,20 @@ wait_parks c h o e counted legal w k f =
     ∙ parks_wait_of c h a.sid a.desc a.x a.held zero'
     ∙ ap (λ (n : ℕ). Some (record { object = n; place = length h; kind = Waiting })) a.object in
     let now = gets_parked c h e a.sid.0 (record { object = o; place = length h; kind = Waiting }) parks_now in
-    subst (λ (v : Wait). parked c (record { event = e; rule = None } ∷ h) v.session ≡ Some (record { object = o; place = v.place; kind = Waiting })) (sym a.wait) now
+    subst (λ (v : Waiter). parked c (record { event = e; rule = None } ∷ h) v.session ≡ Some (record { object = o; place = v.place; kind = Waiting })) (sym a.wait) now
 
 -- what does not end a listed call does not end its session's parked call
 not_ended_send : (o : ℕ) (m : Send) (a : Act) (q : Queue) → ends_send m a q ≡ false → ends_call m.session (record { object = o; place = m.place; kind = Sending }) a q ≡ false
 not_ended_send o m (Withdraws s) q e = rw e refl
 not_ended_send o m (Receives w) q e = e
 not_ended_send o m (Sends v) q e = refl
-not_ended_send o m Rests q e = refl
+not_ended_send o m NoAct q e = refl
 
-pub not_ended_receive : (o : ℕ) (w : Wait) (a : Act) (q : Queue) → ends_receive w a q ≡ false → ends_call w.session (record { object = o; place = w.place; kind = Receiving }) a q ≡ false
+pub not_ended_receive : (o : ℕ) (w : Waiter) (a : Act) (q : Queue) → ends_receive w a q ≡ false → ends_call w.session (record { object = o; place = w.place; kind = Receiving }) a q ≡ false
 not_ended_receive o w (Withdraws s) q e = rw e refl
 not_ended_receive o w (Receives v) q e = refl
 not_ended_receive o w (Sends m) q e = e
-not_ended_receive o w Rests q e = refl
+not_ended_receive o w NoAct q e = refl
 
 -- what a list has of a session
 abbrev place_of_session : {A : Type 0} → (A → ℕ) → (A → ℕ) → ℕ → List A → Option ℕ
@@ -157,7 +157,7 @@ place_added : {A : Type 0} (place session : A → ℕ) (s i : ℕ) (xs : List A)
 place_added place session s i xs m true e = place_stays place session s i xs m e
 place_added place session s i xs m false e = e
 
-place_behind : {A : Type 0} (place session : A → ℕ) (s i : ℕ) (xs : List A) → place_of_session place session s xs ≡ Some i → stands_at place i (first xs) ≡ false → place_of_session place session s (behind xs) ≡ Some i
+place_behind : {A : Type 0} (place session : A → ℕ) (s i : ℕ) (xs : List A) → place_of_session place session s xs ≡ Some i → stands_at place i (first xs) ≡ false → place_of_session place session s (tail xs) ≡ Some i
 place_behind place session s i [] e k = e
 place_behind place session s i (x ∷ xs) e k = at (eqb (session x) s) e where
   at : (b : Bool) → option_map place (cond b (Some x) (find (λ y. eqb (session y) s) xs)) ≡ Some i → place_of_session place session s xs ≡ Some i
@@ -169,28 +169,28 @@ place_filtered place session s t i xs other e = ap (option_map place) (find_kept
 
 -- what lists the call of a parked session lists it until it ends
 send_stays : (n : ℕ) (a : Act) (q : Queue) (s o i : ℕ) → place_of_session (λ (x : Send). x.place) (λ x. x.session) s q.senders ≡ Some i → ends_call s (record { object = o; place = i; kind = Sending }) a q ≡ false → place_of_session (λ (x : Send). x.place) (λ x. x.session) s (senders_after n a q) ≡ Some i
-send_stays n (Sends m) q s o i e k = place_added (λ (x : Send). x.place) (λ x. x.session) s i q.senders m (has_all n q.contents) e
+send_stays n (Sends m) q s o i e k = place_added (λ (x : Send). x.place) (λ x. x.session) s i q.senders m (is_filled n q.contents) e
 send_stays n (Receives w) q s o i e k = place_behind (λ (x : Send). x.place) (λ x. x.session) s i q.senders e k
 send_stays n (Withdraws t) q s o i e k = place_filtered (λ (x : Send). x.place) (λ x. x.session) s t i q.senders (or_left (eqb s t) _ k) e
-send_stays n Rests q s o i e k = e
+send_stays n NoAct q s o i e k = e
 
-receive_stays : (a : Act) (q : Queue) (s o i : ℕ) → place_of_session (λ (x : Wait). x.place) (λ x. x.session) s q.receivers ≡ Some i → ends_call s (record { object = o; place = i; kind = Receiving }) a q ≡ false → place_of_session (λ (x : Wait). x.place) (λ x. x.session) s (receivers_after a q) ≡ Some i
-receive_stays (Sends m) q s o i e k = place_behind (λ (x : Wait). x.place) (λ x. x.session) s i q.receivers e k
-receive_stays (Receives w) q s o i e k = place_added (λ (x : Wait). x.place) (λ x. x.session) s i q.receivers w (has_none q.contents) e
-receive_stays (Withdraws t) q s o i e k = place_filtered (λ (x : Wait). x.place) (λ x. x.session) s t i q.receivers (or_left (eqb s t) _ k) e
-receive_stays Rests q s o i e k = e
+receive_stays : (a : Act) (q : Queue) (s o i : ℕ) → place_of_session (λ (x : Waiter). x.place) (λ x. x.session) s q.receivers ≡ Some i → ends_call s (record { object = o; place = i; kind = Receiving }) a q ≡ false → place_of_session (λ (x : Waiter). x.place) (λ x. x.session) s (receivers_after a q) ≡ Some i
+receive_stays (Sends m) q s o i e k = place_behind (λ (x : Waiter). x.place) (λ x. x.session) s i q.receivers e k
+receive_stays (Receives w) q s o i e k = place_added (λ (x : Waiter). x.place) (λ x. x.session) s i q.receivers w (has_none q.contents) e
+receive_stays (Withdraws t) q s o i e k = place_filtered (λ (x : Waiter). x.place) (λ x. x.session) s t i q.receivers (or_left (eqb s t) _ k) e
+receive_stays NoAct q s o i e k = e
 
-wait_stays : (b : SemaphoreAct) (u : Semaphore) (a : Act) (q : Queue) (s o i : ℕ) → withdraws s a ≡ cancels s b → place_of_session (λ (x : Wait). x.place) (λ x. x.session) s u.waiters ≡ Some i → (is_posted b Waiting i u || ends_call s (record { object = o; place = i; kind = Waiting }) a q) ≡ false → place_of_session (λ (x : Wait). x.place) (λ x. x.session) s (waiters_after b u) ≡ Some i
-wait_stays Posts u a q s o i alike e k = place_behind (λ (x : Wait). x.place) (λ x. x.session) s i u.waiters e (or_left _ _ k)
-wait_stays (Waits w) u a q s o i alike e k = place_added (λ (x : Wait). x.place) (λ x. x.session) s i u.waiters w (eqb u.value 0) e
+wait_stays : (b : SemaphoreAct) (u : Semaphore) (a : Act) (q : Queue) (s o i : ℕ) → withdraws s a ≡ cancels s b → place_of_session (λ (x : Waiter). x.place) (λ x. x.session) s u.waiters ≡ Some i → (is_posted b Waiting i u || ends_call s (record { object = o; place = i; kind = Waiting }) a q) ≡ false → place_of_session (λ (x : Waiter). x.place) (λ x. x.session) s (waiters_after b u) ≡ Some i
+wait_stays Posts u a q s o i alike e k = place_behind (λ (x : Waiter). x.place) (λ x. x.session) s i u.waiters e (or_left _ _ k)
+wait_stays (Waits w) u a q s o i alike e k = place_added (λ (x : Waiter). x.place) (λ x. x.session) s i u.waiters w (eqb u.value 0) e
 wait_stays Tries u a q s o i alike e k = e
-wait_stays (Cancels t) u a q s o i alike e k = place_filtered (λ (x : Wait). x.place) (λ x. x.session) s t i u.waiters (sym alike ∙ or_left (withdraws s a) false k) e
-wait_stays Idles u a q s o i alike e k = e
+wait_stays (WithdrawsWait t) u a q s o i alike e k = place_filtered (λ (x : Waiter). x.place) (λ x. x.session) s t i u.waiters (sym alike ∙ or_left (withdraws s a) false k) e
+wait_stays NoSemaphoreAct u a q s o i alike e k = e
 
 listed_stays : (n : ℕ) (a : Act) (q : Queue) (b : SemaphoreAct) (u v : Semaphore) → v.waiters ≡ waiters_after b u → (s o i : ℕ) (kind : ParkedKind) → withdraws s a ≡ cancels s b → place_listed kind s q u ≡ Some i → (is_posted b kind i u || ends_call s (record { object = o; place = i; kind = kind }) a q) ≡ false → place_listed kind s (queue_after n a q) v ≡ Some i
 listed_stays n a q b u v now s o i Sending alike e k = send_stays n a q s o i e (or_right _ _ k)
 listed_stays n a q b u v now s o i Receiving alike e k = receive_stays a q s o i e (or_right _ _ k)
-listed_stays n a q b u v now s o i Waiting alike e k = ap (place_of_session (λ (x : Wait). x.place) (λ x. x.session) s) now ∙ wait_stays b u a q s o i alike e k
+listed_stays n a q b u v now s o i Waiting alike e k = ap (place_of_session (λ (x : Waiter). x.place) (λ x. x.session) s) now ∙ wait_stays b u a q s o i alike e k
 
 -- a session that is not parked is not listed, and so is listed by the call that comes
 place_new : {A : Type 0} (place session : A → ℕ) (f : ℕ → Option Parked) (call : A → Parked) (s : ℕ) (xs : List A) (m : A) → Each (λ x. f (session x) ≡ Some (call x)) xs → f s ≡ None → session m ≡ s → place_of_session place session s (xs ++ m ∷ []) ≡ Some (place m)
@@ -206,7 +206,7 @@ new_send c h sid desc priority bytes s x known legal none same held full =
     let q : Queue = queue c h x.object in
     let acts : act x.object (Do sid (MqSend desc priority bytes)) h ≡ Sends (record { place = length h; session = sid.0; desc = desc.0; priority = priority; bytes = bytes }) = (let self : eqb x.object x.object ≡ true = eq-eqb _ _ refl in rw (held, self) refl) in
     let there = held_queue c h sid (MqSend desc priority bytes) desc x legal refl held in
-    let all : has_all (maxmsg c h x.object) (contents c h x.object) ≡ true = sym (is_full-at c h x.object there) ∙ full in
+    let all : is_filled (maxmsg c h x.object) (contents c h x.object) ≡ true = sym (is_full-at c h x.object there) ∙ full in
     ap (λ a. place_of_session (λ (y : Send). y.place) (λ y. y.session) s (senders_after (maxmsg c h x.object) a q)) acts
     ∙ ap (λ b. place_of_session (λ (y : Send). y.place) (λ y. y.session) s (cond b (q.senders ++ m ∷ []) q.senders)) all
     ∙ place_new (λ (y : Send). y.place) (λ y. y.session) (parked c h) (λ y. record { object = x.object; place = y.place; kind = Sending }) s q.senders m (known.each_send x.object) none same
@@ -214,27 +214,27 @@ new_send c h sid desc priority bytes s x known legal none same held full =
 new_receive : (c : Config) (h : History) (sid : Sid) (desc : Desc) (length' : ℕ) (s : ℕ) (x : Held) → IsListed c h → None ≡ verdict c h (Do sid (MqReceive desc length')) → parked c h s ≡ None → sid.0 ≡ s → holds h sid.0 desc.0 ≡ Some x → is_empty c h x.object ≡ true → place_listed Receiving s (queue c (record { event = Do sid (MqReceive desc length'); rule = None } ∷ h) x.object) (semaphore (record { event = Do sid (MqReceive desc length'); rule = None } ∷ h) x.object) ≡ Some (length h)
 unfolding queue
 new_receive c h sid desc length' s x known legal none same held empty =
-    let w : Wait = record { place = length h; session = sid.0; desc = desc.0 } in
+    let w : Waiter = record { place = length h; session = sid.0; desc = desc.0 } in
     let q : Queue = queue c h x.object in
     let acts : act x.object (Do sid (MqReceive desc length')) h ≡ Receives (record { place = length h; session = sid.0; desc = desc.0 }) = (let self : eqb x.object x.object ≡ true = eq-eqb _ _ refl in rw (held, self) refl) in
     let there = held_queue c h sid (MqReceive desc length') desc x legal refl held in
     let nothing : has_none (contents c h x.object) ≡ true = sym (is_empty-at c h x.object there) ∙ empty in
-    ap (λ a. place_of_session (λ (y : Wait). y.place) (λ y. y.session) s (receivers_after a q)) acts
-    ∙ ap (λ b. place_of_session (λ (y : Wait). y.place) (λ y. y.session) s (cond b (q.receivers ++ w ∷ []) q.receivers)) nothing
-    ∙ place_new (λ (y : Wait). y.place) (λ y. y.session) (parked c h) (λ y. record { object = x.object; place = y.place; kind = Receiving }) s q.receivers w (known.each_receive x.object) none same
+    ap (λ a. place_of_session (λ (y : Waiter). y.place) (λ y. y.session) s (receivers_after a q)) acts
+    ∙ ap (λ b. place_of_session (λ (y : Waiter). y.place) (λ y. y.session) s (cond b (q.receivers ++ w ∷ []) q.receivers)) nothing
+    ∙ place_new (λ (y : Waiter). y.place) (λ y. y.session) (parked c h) (λ y. record { object = x.object; place = y.place; kind = Receiving }) s q.receivers w (known.each_receive x.object) none same
 
 new_wait : (c : Config) (h : History) (sid : Sid) (desc : Desc) (s : ℕ) (x : Held) → IsListed c h → ((i : ℕ) → value h i ≡ (semaphore h i).value) → None ≡ verdict c h (Do sid (SemWait desc)) → parked c h s ≡ None → sid.0 ≡ s → holds h sid.0 desc.0 ≡ Some x → is_zero c h x.object ≡ true → place_listed Waiting s (queue c (record { event = Do sid (SemWait desc); rule = None } ∷ h) x.object) (semaphore (record { event = Do sid (SemWait desc); rule = None } ∷ h) x.object) ≡ Some (length h)
 unfolding semaphore
 new_wait c h sid desc s x known counted legal none same held at_zero =
-    let w : Wait = record { place = length h; session = sid.0; desc = desc.0 } in
+    let w : Waiter = record { place = length h; session = sid.0; desc = desc.0 } in
     let u : Semaphore = semaphore h x.object in
     let acts : semaphore_act x.object (Do sid (SemWait desc)) h ≡ Waits (record { place = length h; session = sid.0; desc = desc.0 }) = (let self : eqb x.object x.object ≡ true = eq-eqb _ _ refl in rw (held, self) refl) in
     let there = held_semaphore c h sid (SemWait desc) desc x legal refl held in
     let nothing : eqb (semaphore h x.object).value 0 ≡ true = sym (zero_at c h x.object (counted x.object) there) ∙ at_zero in
-    ap (place_of_session (λ (y : Wait). y.place) (λ y. y.session) s) (first_keeps (gives_value x.object (Do sid (SemWait desc)) h) (semaphore_after (semaphore_act x.object (Do sid (SemWait desc)) h) u))
-    ∙ ap (λ a. place_of_session (λ (y : Wait). y.place) (λ y. y.session) s (waiters_after a u)) acts
-    ∙ ap (λ b. place_of_session (λ (y : Wait). y.place) (λ y. y.session) s (cond b (u.waiters ++ w ∷ []) u.waiters)) nothing
-    ∙ place_new (λ (y : Wait). y.place) (λ y. y.session) (parked c h) (λ y. record { object = x.object; place = y.place; kind = Waiting }) s u.waiters w (known.each_wait x.object) none same
+    ap (place_of_session (λ (y : Waiter). y.place) (λ y. y.session) s) (first_keeps (gives_value x.object (Do sid (SemWait desc)) h) (semaphore_after (semaphore_act x.object (Do sid (SemWait desc)) h) u))
+    ∙ ap (λ a. place_of_session (λ (y : Waiter). y.place) (λ y. y.session) s (waiters_after a u)) acts
+    ∙ ap (λ b. place_of_session (λ (y : Waiter). y.place) (λ y. y.session) s (cond b (u.waiters ++ w ∷ []) u.waiters)) nothing
+    ∙ place_new (λ (y : Waiter). y.place) (λ y. y.session) (parked c h) (λ y. record { object = x.object; place = y.place; kind = Waiting }) s u.waiters w (known.each_wait x.object) none same
 
 -- the call that parks is listed
 listed_new : (c : Config) (h : History) (e : Event) (s : ℕ) (p : Parked) → IsListed c h → ((i : ℕ) → value h i ≡ (semaphore h i).value) → None ≡ verdict c h e → parked c h s ≡ None → parks c s e h ≡ Some p → place_listed p.kind s (queue c (record { event = e; rule = None } ∷ h) p.object) (semaphore (record { event = e; rule = None } ∷ h) p.object) ≡ Some p.place
@@ -276,7 +276,7 @@ listed_new c h (Hello found) s p known counted legal none k = absurd cc
 listed_new c h (Hangup sid) s p known counted legal none k = absurd cc
 
 -- a session that is parked after an event parks by it, or was parked and is not ended
-kept_parts : (f : Parked → Bool) (o : Option Parked) (p : Parked) → kept f o ≡ Some p → (o ≡ Some p) × (f p ≡ false)
+kept_parts : (f : Parked → Bool) (o : Option Parked) (p : Parked) → unless f o ≡ Some p → (o ≡ Some p) × (f p ≡ false)
 kept_parts f None p e = absurd cc
 kept_parts f (Some y) p e = at (f y) refl e where
   at : (b : Bool) → f y ≡ b → cond b None (Some y) ≡ Some p → (Some y ≡ Some p) × (f p ≡ false)
@@ -286,7 +286,7 @@ kept_parts f (Some y) p e = at (f y) refl e where
 pub parked_cases : (c : Config) (h : History) (e : Event) (s : ℕ) (p : Parked) → parked c (record { event = e; rule = None } ∷ h) s ≡ Some p → (parks c s e h ≡ Some p) ⊎ ((parked c h s ≡ Some p) × (ends_parked c s p e h ≡ false))
 unfolding parked
 parked_cases c h e s p k = at (parks c s e h) k where
-  at : (o : Option Parked) → option_or o (kept (λ x. ends_parked c s x e h) (parked c h s)) ≡ Some p → (o ≡ Some p) ⊎ ((parked c h s ≡ Some p) × (ends_parked c s p e h ≡ false))
+  at : (o : Option Parked) → option_or o (unless (λ x. ends_parked c s x e h) (parked c h s)) ≡ Some p → (o ≡ Some p) ⊎ ((parked c h s ≡ Some p) × (ends_parked c s p e h ≡ false))
   at None j = inr (kept_parts (λ x. ends_parked c s x e h) (parked c h s) p j)
   at (Some x) j = inl j
 
@@ -299,19 +299,19 @@ listed_more : (c : Config) (h : History) → IsListed c h → ((i : ℕ) → val
 unfolding queue semaphore
 listed_more c h known counted e (Some rule) legal = record {
   each_send = λ o. each_map (λ (m : Send). parked c h m.session ≡ Some (record { object = o; place = m.place; kind = Sending })) (λ m. parked c (record { event = e; rule = Some rule } ∷ h) m.session ≡ Some (record { object = o; place = m.place; kind = Sending })) (senders c h o) (λ m p. refused_parked c h e rule m.session ∙ p) (known.each_send o);
-  each_receive = λ o. each_map (λ (w : Wait). parked c h w.session ≡ Some (record { object = o; place = w.place; kind = Receiving })) (λ w. parked c (record { event = e; rule = Some rule } ∷ h) w.session ≡ Some (record { object = o; place = w.place; kind = Receiving })) (receivers c h o) (λ w p. refused_parked c h e rule w.session ∙ p) (known.each_receive o);
-  each_wait = λ o. each_map (λ (w : Wait). parked c h w.session ≡ Some (record { object = o; place = w.place; kind = Waiting })) (λ w. parked c (record { event = e; rule = Some rule } ∷ h) w.session ≡ Some (record { object = o; place = w.place; kind = Waiting })) (waiters h o) (λ w p. refused_parked c h e rule w.session ∙ p) (known.each_wait o);
+  each_receive = λ o. each_map (λ (w : Waiter). parked c h w.session ≡ Some (record { object = o; place = w.place; kind = Receiving })) (λ w. parked c (record { event = e; rule = Some rule } ∷ h) w.session ≡ Some (record { object = o; place = w.place; kind = Receiving })) (receivers c h o) (λ w p. refused_parked c h e rule w.session ∙ p) (known.each_receive o);
+  each_wait = λ o. each_map (λ (w : Waiter). parked c h w.session ≡ Some (record { object = o; place = w.place; kind = Waiting })) (λ w. parked c (record { event = e; rule = Some rule } ∷ h) w.session ≡ Some (record { object = o; place = w.place; kind = Waiting })) (waiters h o) (λ w p. refused_parked c h e rule w.session ∙ p) (known.each_wait o);
   each_parked = λ s p k. known.each_parked s p (sym (refused_parked c h e rule s) ∙ k);
 }
 listed_more c h known counted e None legal = record {
   each_send = λ o. each_parked_sender (λ (m : Send). parked c h m.session ≡ Some (record { object = o; place = m.place; kind = Sending })) (λ m. parked c (record { event = e; rule = None } ∷ h) m.session ≡ Some (record { object = o; place = m.place; kind = Sending })) (maxmsg c h o) (act o e h) (queue c h o) (length h) (parked_by_place c h o).sends_rise
       (λ m p keeps. stays_parked c h e m.session (record { object = o; place = m.place; kind = Sending }) p (parks_no_other c h e m.session legal (ap is_some p)) (or_neither _ _ (posts_no_send (semaphore_act o e h) m.place (semaphore h o)) (not_ended_send o m (act o e h) (queue c h o) keeps)))
       (send_parks c h o e legal) (known.each_send o);
-  each_receive = λ o. each_parked_receiver (λ (w : Wait). parked c h w.session ≡ Some (record { object = o; place = w.place; kind = Receiving })) (λ w. parked c (record { event = e; rule = None } ∷ h) w.session ≡ Some (record { object = o; place = w.place; kind = Receiving })) (act o e h) (queue c h o) (length h) (parked_by_place c h o).receives_rise
+  each_receive = λ o. each_parked_receiver (λ (w : Waiter). parked c h w.session ≡ Some (record { object = o; place = w.place; kind = Receiving })) (λ w. parked c (record { event = e; rule = None } ∷ h) w.session ≡ Some (record { object = o; place = w.place; kind = Receiving })) (act o e h) (queue c h o) (length h) (parked_by_place c h o).receives_rise
       (λ w p keeps. stays_parked c h e w.session (record { object = o; place = w.place; kind = Receiving }) p (parks_no_other c h e w.session legal (ap is_some p)) (or_neither _ _ (posts_no_receive (semaphore_act o e h) w.place (semaphore h o)) (not_ended_receive o w (act o e h) (queue c h o) keeps)))
       (receive_parks c h o e legal) (known.each_receive o);
-  each_wait = λ o. subst (Each (λ (w : Wait). parked c (record { event = e; rule = None } ∷ h) w.session ≡ Some (record { object = o; place = w.place; kind = Waiting }))) (sym (first_keeps (gives_value o e h) (semaphore_after (semaphore_act o e h) (semaphore h o))))
-      (each_parked_waiter (λ (w : Wait). parked c h w.session ≡ Some (record { object = o; place = w.place; kind = Waiting })) (λ w. parked c (record { event = e; rule = None } ∷ h) w.session ≡ Some (record { object = o; place = w.place; kind = Waiting })) (semaphore_act o e h) (semaphore h o) (length h) (parked_by_place c h o).waits_rise
+  each_wait = λ o. subst (Each (λ (w : Waiter). parked c (record { event = e; rule = None } ∷ h) w.session ≡ Some (record { object = o; place = w.place; kind = Waiting }))) (sym (first_keeps (gives_value o e h) (semaphore_after (semaphore_act o e h) (semaphore h o))))
+      (each_parked_waiter (λ (w : Waiter). parked c h w.session ≡ Some (record { object = o; place = w.place; kind = Waiting })) (λ w. parked c (record { event = e; rule = None } ∷ h) w.session ≡ Some (record { object = o; place = w.place; kind = Waiting })) (semaphore_act o e h) (semaphore h o) (length h) (parked_by_place c h o).waits_rise
       (λ w p keeps. stays_parked c h e w.session (record { object = o; place = w.place; kind = Waiting }) p (parks_no_other c h e w.session legal (ap is_some p)) (not_ended_wait o w (semaphore_act o e h) (semaphore h o) (act o e h) (queue c h o) (withdraws_alike o e h w.session) keeps))
       (wait_parks c h o e counted legal) (known.each_wait o));
   each_parked = λ s p k. listed_after c h e s p known counted legal (parked_cases c h e s p k);

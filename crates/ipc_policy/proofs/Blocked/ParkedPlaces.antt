@@ -8,12 +8,13 @@ use Rattle.ipc_terms.specs.declared.record.Event.{Event}
 use Rattle.ipc_terms.specs.declared.record.Event.TheVariants.{Hello, Do, Hangup}
 use Rattle.ipc_terms.specs.declared.call.Call.TheVariants.{MqSend, MqReceive, SemPost, SemWait, SemTryWait, Interrupt}
 use Rattle.ipc_policy.specs.declared.config.Config.{Config}
-use Rattle.ipc_policy.specs.History.{History, kept}
+use Rattle.ipc_policy.specs.History.{History, unless}
 use Rattle.ipc_policy.specs.Descriptions.{holds}
 use Rattle.ipc_policy.specs.Life.{gives_object}
-use Rattle.ipc_policy.specs.Queues.{Send, Wait, Act, Sends, Receives, Withdraws, Rests, Queue, has_all, has_none, behind, senders_after, receivers_after, act, queue, maxmsg, senders, receivers}
-use Rattle.ipc_policy.specs.Semaphores.{SemaphoreAct, Posts, Waits, Tries, Cancels, Idles, Semaphore, semaphore_act, semaphore_after, waiters_after, with_first, gives_value, semaphore, waiters}
+use Rattle.ipc_policy.specs.Queues.{Send, Waiter, Act, Sends, Receives, Withdraws, NoAct, Queue, is_filled, has_none, tail, senders_after, receivers_after, act, queue, maxmsg, senders, receivers}
+use Rattle.ipc_policy.specs.Semaphores.{SemaphoreAct, Posts, Waits, Tries, WithdrawsWait, NoSemaphoreAct, Semaphore, semaphore_act, semaphore_after, waiters_after, with_first, gives_value, semaphore, waiters}
 use Rattle.ipc_policy.specs.Readings.{of_place, Rising, parks_send, ends_send, parks_receive, ends_receive, parks_wait, ends_wait, ParkedByPlace, EachParkedByPlace}
+use Rattle.ipc_policy.proofs.Holdings.Holding.{kept_all}
 use Rattle.ipc_policy.proofs.Lists.PlaceLists.{rising_higher, rising_append, rising_behind, rising_filter, found_above, found_append, found_behind, found_filter}
 
 -- what an act brings has this place
@@ -22,7 +23,7 @@ HasPlace n (Sends m) = m.place ≡ n
 HasPlace n (Receives w) = w.place ≡ n
 HasPlace n _ = Unit {0}
 
-pub cond_place : (n : ℕ) (b : Bool) (a : Act) → HasPlace n a → HasPlace n (cond b a Rests)
+pub cond_place : (n : ℕ) (b : Bool) (a : Act) → HasPlace n a → HasPlace n (cond b a NoAct)
 cond_place n true a h = h
 cond_place n false a h = tt
 
@@ -39,7 +40,7 @@ abbrev pub WaitHasPlace : ℕ → SemaphoreAct → Type 0
 WaitHasPlace n (Waits w) = w.place ≡ n
 WaitHasPlace n _ = Unit {0}
 
-cond_wait_place : (n : ℕ) (b : Bool) (a : SemaphoreAct) → WaitHasPlace n a → WaitHasPlace n (cond b a Idles)
+cond_wait_place : (n : ℕ) (b : Bool) (a : SemaphoreAct) → WaitHasPlace n a → WaitHasPlace n (cond b a NoSemaphoreAct)
 cond_wait_place n true a h = h
 cond_wait_place n false a h = tt
 
@@ -57,10 +58,6 @@ pub first_keeps : (v : Option ℕ) (q : Semaphore) → (with_first v q).waiters 
 first_keeps None q = refl
 first_keeps (Some n) q = refl
 
-pub kept_false : {A : Type 0} (x : Option A) → kept (λ y. false) x ≡ x
-kept_false None = refl
-kept_false (Some x) = refl
-
 -- where nothing is found, what comes at the end is what is found
 or_none : {A : Type 0} (o : Option A) (b d : Bool) (m : A) → (b ≡ true → d ≡ true → o ≡ None) → option_or o (cond (b && d) (Some m) None) ≡ option_or (cond (b && d) (Some m) None) o
 or_none None true true m h = refl
@@ -75,24 +72,24 @@ added place n i xs m true e h = found_append place i xs m ∙ or_none (of_place 
 added place n i xs m false e h = refl
 
 -- what is parked after one act
-sends_step : (maxmsg n i : ℕ) (a : Act) (q : Queue) → HasPlace n a → Rising (λ (m : Send). m.place) 0 q.senders n → of_place (λ (m : Send). m.place) i (senders_after maxmsg a q) ≡ option_or (parks_send maxmsg i a q) (kept (λ m. ends_send m a q) (of_place (λ (m : Send). m.place) i q.senders))
-sends_step maxmsg n i (Sends m) q p r = added (λ (m : Send). m.place) n i q.senders m (has_all maxmsg q.contents) p r ∙ ap (option_or (cond (has_all maxmsg q.contents && eqb m.place i) (Some m) None)) (sym (kept_false (of_place (λ (m : Send). m.place) i q.senders)))
+sends_step : (maxmsg n i : ℕ) (a : Act) (q : Queue) → HasPlace n a → Rising (λ (m : Send). m.place) 0 q.senders n → of_place (λ (m : Send). m.place) i (senders_after maxmsg a q) ≡ option_or (parks_send maxmsg i a q) (unless (λ m. ends_send m a q) (of_place (λ (m : Send). m.place) i q.senders))
+sends_step maxmsg n i (Sends m) q p r = added (λ (m : Send). m.place) n i q.senders m (is_filled maxmsg q.contents) p r ∙ ap (option_or (cond (is_filled maxmsg q.contents && eqb m.place i) (Some m) None)) (sym (kept_all (of_place (λ (m : Send). m.place) i q.senders)))
 sends_step maxmsg n i (Receives w) q p r = found_behind (λ (m : Send). m.place) 0 i q.senders n r
 sends_step maxmsg n i (Withdraws s) q p r = found_filter (λ (m : Send). m.place) (λ m. eqb m.session s) 0 i q.senders n r
-sends_step maxmsg n i Rests q p r = sym (kept_false (of_place (λ (m : Send). m.place) i q.senders))
+sends_step maxmsg n i NoAct q p r = sym (kept_all (of_place (λ (m : Send). m.place) i q.senders))
 
-receives_step : (n i : ℕ) (a : Act) (q : Queue) → HasPlace n a → Rising (λ (w : Wait). w.place) 0 q.receivers n → of_place (λ (w : Wait). w.place) i (receivers_after a q) ≡ option_or (parks_receive i a q) (kept (λ w. ends_receive w a q) (of_place (λ (w : Wait). w.place) i q.receivers))
-receives_step n i (Receives w) q p r = added (λ (w : Wait). w.place) n i q.receivers w (has_none q.contents) p r ∙ ap (option_or (cond (has_none q.contents && eqb w.place i) (Some w) None)) (sym (kept_false (of_place (λ (w : Wait). w.place) i q.receivers)))
-receives_step n i (Sends m) q p r = found_behind (λ (w : Wait). w.place) 0 i q.receivers n r
-receives_step n i (Withdraws s) q p r = found_filter (λ (w : Wait). w.place) (λ w. eqb w.session s) 0 i q.receivers n r
-receives_step n i Rests q p r = sym (kept_false (of_place (λ (w : Wait). w.place) i q.receivers))
+receives_step : (n i : ℕ) (a : Act) (q : Queue) → HasPlace n a → Rising (λ (w : Waiter). w.place) 0 q.receivers n → of_place (λ (w : Waiter). w.place) i (receivers_after a q) ≡ option_or (parks_receive i a q) (unless (λ w. ends_receive w a q) (of_place (λ (w : Waiter). w.place) i q.receivers))
+receives_step n i (Receives w) q p r = added (λ (w : Waiter). w.place) n i q.receivers w (has_none q.contents) p r ∙ ap (option_or (cond (has_none q.contents && eqb w.place i) (Some w) None)) (sym (kept_all (of_place (λ (w : Waiter). w.place) i q.receivers)))
+receives_step n i (Sends m) q p r = found_behind (λ (w : Waiter). w.place) 0 i q.receivers n r
+receives_step n i (Withdraws s) q p r = found_filter (λ (w : Waiter). w.place) (λ w. eqb w.session s) 0 i q.receivers n r
+receives_step n i NoAct q p r = sym (kept_all (of_place (λ (w : Waiter). w.place) i q.receivers))
 
-waits_step : (n i : ℕ) (a : SemaphoreAct) (q : Semaphore) → WaitHasPlace n a → Rising (λ (w : Wait). w.place) 0 q.waiters n → of_place (λ (w : Wait). w.place) i (waiters_after a q) ≡ option_or (parks_wait i a q) (kept (λ w. ends_wait w a q) (of_place (λ (w : Wait). w.place) i q.waiters))
-waits_step n i (Waits w) q p r = added (λ (w : Wait). w.place) n i q.waiters w (eqb q.value 0) p r ∙ ap (option_or (cond (eqb q.value 0 && eqb w.place i) (Some w) None)) (sym (kept_false (of_place (λ (w : Wait). w.place) i q.waiters)))
-waits_step n i Posts q p r = found_behind (λ (w : Wait). w.place) 0 i q.waiters n r
-waits_step n i (Cancels s) q p r = found_filter (λ (w : Wait). w.place) (λ w. eqb w.session s) 0 i q.waiters n r
-waits_step n i Tries q p r = sym (kept_false (of_place (λ (w : Wait). w.place) i q.waiters))
-waits_step n i Idles q p r = sym (kept_false (of_place (λ (w : Wait). w.place) i q.waiters))
+waits_step : (n i : ℕ) (a : SemaphoreAct) (q : Semaphore) → WaitHasPlace n a → Rising (λ (w : Waiter). w.place) 0 q.waiters n → of_place (λ (w : Waiter). w.place) i (waiters_after a q) ≡ option_or (parks_wait i a q) (unless (λ w. ends_wait w a q) (of_place (λ (w : Waiter). w.place) i q.waiters))
+waits_step n i (Waits w) q p r = added (λ (w : Waiter). w.place) n i q.waiters w (eqb q.value 0) p r ∙ ap (option_or (cond (eqb q.value 0 && eqb w.place i) (Some w) None)) (sym (kept_all (of_place (λ (w : Waiter). w.place) i q.waiters)))
+waits_step n i Posts q p r = found_behind (λ (w : Waiter). w.place) 0 i q.waiters n r
+waits_step n i (WithdrawsWait s) q p r = found_filter (λ (w : Waiter). w.place) (λ w. eqb w.session s) 0 i q.waiters n r
+waits_step n i Tries q p r = sym (kept_all (of_place (λ (w : Waiter). w.place) i q.waiters))
+waits_step n i NoSemaphoreAct q p r = sym (kept_all (of_place (λ (w : Waiter). w.place) i q.waiters))
 
 -- the places rise
 cond_rising : {A : Type 0} (place : A → ℕ) (n : ℕ) (xs : List A) (m : A) (b : Bool) → place m ≡ n → Rising place 0 xs n → Rising place 0 (cond b (xs ++ m ∷ []) xs) (n + 1)
@@ -100,23 +97,23 @@ cond_rising place n xs m true e h = rising_append place 0 xs n m e h
 cond_rising place n xs m false e h = rising_higher place 0 xs n (n + 1) (omega arith) h
 
 sends_rise : (maxmsg n : ℕ) (a : Act) (q : Queue) → HasPlace n a → Rising (λ (m : Send). m.place) 0 q.senders n → Rising (λ (m : Send). m.place) 0 (senders_after maxmsg a q) (n + 1)
-sends_rise maxmsg n (Sends m) q p r = cond_rising (λ (m : Send). m.place) n q.senders m (has_all maxmsg q.contents) p r
-sends_rise maxmsg n (Receives w) q p r = rising_higher (λ (m : Send). m.place) 0 (behind q.senders) n (n + 1) (omega arith) (rising_behind (λ (m : Send). m.place) 0 q.senders n r)
+sends_rise maxmsg n (Sends m) q p r = cond_rising (λ (m : Send). m.place) n q.senders m (is_filled maxmsg q.contents) p r
+sends_rise maxmsg n (Receives w) q p r = rising_higher (λ (m : Send). m.place) 0 (tail q.senders) n (n + 1) (omega arith) (rising_behind (λ (m : Send). m.place) 0 q.senders n r)
 sends_rise maxmsg n (Withdraws s) q p r = rising_higher (λ (m : Send). m.place) 0 (filter (λ m. not (eqb m.session s)) q.senders) n (n + 1) (omega arith) (rising_filter (λ (m : Send). m.place) (λ m. not (eqb m.session s)) 0 q.senders n r)
-sends_rise maxmsg n Rests q p r = rising_higher (λ (m : Send). m.place) 0 q.senders n (n + 1) (omega arith) r
+sends_rise maxmsg n NoAct q p r = rising_higher (λ (m : Send). m.place) 0 q.senders n (n + 1) (omega arith) r
 
-receives_rise : (n : ℕ) (a : Act) (q : Queue) → HasPlace n a → Rising (λ (w : Wait). w.place) 0 q.receivers n → Rising (λ (w : Wait). w.place) 0 (receivers_after a q) (n + 1)
-receives_rise n (Receives w) q p r = cond_rising (λ (w : Wait). w.place) n q.receivers w (has_none q.contents) p r
-receives_rise n (Sends m) q p r = rising_higher (λ (w : Wait). w.place) 0 (behind q.receivers) n (n + 1) (omega arith) (rising_behind (λ (w : Wait). w.place) 0 q.receivers n r)
-receives_rise n (Withdraws s) q p r = rising_higher (λ (w : Wait). w.place) 0 (filter (λ w. not (eqb w.session s)) q.receivers) n (n + 1) (omega arith) (rising_filter (λ (w : Wait). w.place) (λ w. not (eqb w.session s)) 0 q.receivers n r)
-receives_rise n Rests q p r = rising_higher (λ (w : Wait). w.place) 0 q.receivers n (n + 1) (omega arith) r
+receives_rise : (n : ℕ) (a : Act) (q : Queue) → HasPlace n a → Rising (λ (w : Waiter). w.place) 0 q.receivers n → Rising (λ (w : Waiter). w.place) 0 (receivers_after a q) (n + 1)
+receives_rise n (Receives w) q p r = cond_rising (λ (w : Waiter). w.place) n q.receivers w (has_none q.contents) p r
+receives_rise n (Sends m) q p r = rising_higher (λ (w : Waiter). w.place) 0 (tail q.receivers) n (n + 1) (omega arith) (rising_behind (λ (w : Waiter). w.place) 0 q.receivers n r)
+receives_rise n (Withdraws s) q p r = rising_higher (λ (w : Waiter). w.place) 0 (filter (λ w. not (eqb w.session s)) q.receivers) n (n + 1) (omega arith) (rising_filter (λ (w : Waiter). w.place) (λ w. not (eqb w.session s)) 0 q.receivers n r)
+receives_rise n NoAct q p r = rising_higher (λ (w : Waiter). w.place) 0 q.receivers n (n + 1) (omega arith) r
 
-waits_rise : (n : ℕ) (a : SemaphoreAct) (q : Semaphore) → WaitHasPlace n a → Rising (λ (w : Wait). w.place) 0 q.waiters n → Rising (λ (w : Wait). w.place) 0 (waiters_after a q) (n + 1)
-waits_rise n (Waits w) q p r = cond_rising (λ (w : Wait). w.place) n q.waiters w (eqb q.value 0) p r
-waits_rise n Posts q p r = rising_higher (λ (w : Wait). w.place) 0 (behind q.waiters) n (n + 1) (omega arith) (rising_behind (λ (w : Wait). w.place) 0 q.waiters n r)
-waits_rise n (Cancels s) q p r = rising_higher (λ (w : Wait). w.place) 0 (filter (λ w. not (eqb w.session s)) q.waiters) n (n + 1) (omega arith) (rising_filter (λ (w : Wait). w.place) (λ w. not (eqb w.session s)) 0 q.waiters n r)
-waits_rise n Tries q p r = rising_higher (λ (w : Wait). w.place) 0 q.waiters n (n + 1) (omega arith) r
-waits_rise n Idles q p r = rising_higher (λ (w : Wait). w.place) 0 q.waiters n (n + 1) (omega arith) r
+waits_rise : (n : ℕ) (a : SemaphoreAct) (q : Semaphore) → WaitHasPlace n a → Rising (λ (w : Waiter). w.place) 0 q.waiters n → Rising (λ (w : Waiter). w.place) 0 (waiters_after a q) (n + 1)
+waits_rise n (Waits w) q p r = cond_rising (λ (w : Waiter). w.place) n q.waiters w (eqb q.value 0) p r
+waits_rise n Posts q p r = rising_higher (λ (w : Waiter). w.place) 0 (tail q.waiters) n (n + 1) (omega arith) (rising_behind (λ (w : Waiter). w.place) 0 q.waiters n r)
+waits_rise n (WithdrawsWait s) q p r = rising_higher (λ (w : Waiter). w.place) 0 (filter (λ w. not (eqb w.session s)) q.waiters) n (n + 1) (omega arith) (rising_filter (λ (w : Waiter). w.place) (λ w. not (eqb w.session s)) 0 q.waiters n r)
+waits_rise n Tries q p r = rising_higher (λ (w : Waiter). w.place) 0 q.waiters n (n + 1) (omega arith) r
+waits_rise n NoSemaphoreAct q p r = rising_higher (λ (w : Waiter). w.place) 0 q.waiters n (n + 1) (omega arith) r
 
 parked_more : (c : Config) (h : History) (o : ℕ) → ParkedByPlace c h o → (e : Event) (r : Option Rule) → ParkedByPlace c (record { event = e; rule = r } ∷ h) o
 unfolding queue semaphore
@@ -125,16 +122,16 @@ parked_more c h o known e (Some rule) = record {
   receives = known.receives;
   waits = known.waits;
   sends_rise = rising_higher (λ (m : Send). m.place) 0 (senders c h o) (length h) (suc (length h)) (omega arith) known.sends_rise;
-  receives_rise = rising_higher (λ (w : Wait). w.place) 0 (receivers c h o) (length h) (suc (length h)) (omega arith) known.receives_rise;
-  waits_rise = rising_higher (λ (w : Wait). w.place) 0 (waiters h o) (length h) (suc (length h)) (omega arith) known.waits_rise;
+  receives_rise = rising_higher (λ (w : Waiter). w.place) 0 (receivers c h o) (length h) (suc (length h)) (omega arith) known.receives_rise;
+  waits_rise = rising_higher (λ (w : Waiter). w.place) 0 (waiters h o) (length h) (suc (length h)) (omega arith) known.waits_rise;
 }
 parked_more c h o known e None = record {
-  sends = λ i. sends_step (maxmsg c h o) (length h) i (act o e h) (queue c h o) (act_place o e h) known.sends_rise ∙ ap (λ x. option_or (parks_send (maxmsg c h o) i (act o e h) (queue c h o)) (kept (λ m. ends_send m (act o e h) (queue c h o)) x)) (known.sends i);
-  receives = λ i. receives_step (length h) i (act o e h) (queue c h o) (act_place o e h) known.receives_rise ∙ ap (λ x. option_or (parks_receive i (act o e h) (queue c h o)) (kept (λ w. ends_receive w (act o e h) (queue c h o)) x)) (known.receives i);
-  waits = λ i. ap (of_place (λ (w : Wait). w.place) i) (first_keeps (gives_value o e h) (semaphore_after (semaphore_act o e h) (semaphore h o))) ∙ waits_step (length h) i (semaphore_act o e h) (semaphore h o) (wait_place o e h) known.waits_rise ∙ ap (λ x. option_or (parks_wait i (semaphore_act o e h) (semaphore h o)) (kept (λ w. ends_wait w (semaphore_act o e h) (semaphore h o)) x)) (known.waits i);
+  sends = λ i. sends_step (maxmsg c h o) (length h) i (act o e h) (queue c h o) (act_place o e h) known.sends_rise ∙ ap (λ x. option_or (parks_send (maxmsg c h o) i (act o e h) (queue c h o)) (unless (λ m. ends_send m (act o e h) (queue c h o)) x)) (known.sends i);
+  receives = λ i. receives_step (length h) i (act o e h) (queue c h o) (act_place o e h) known.receives_rise ∙ ap (λ x. option_or (parks_receive i (act o e h) (queue c h o)) (unless (λ w. ends_receive w (act o e h) (queue c h o)) x)) (known.receives i);
+  waits = λ i. ap (of_place (λ (w : Waiter). w.place) i) (first_keeps (gives_value o e h) (semaphore_after (semaphore_act o e h) (semaphore h o))) ∙ waits_step (length h) i (semaphore_act o e h) (semaphore h o) (wait_place o e h) known.waits_rise ∙ ap (λ x. option_or (parks_wait i (semaphore_act o e h) (semaphore h o)) (unless (λ w. ends_wait w (semaphore_act o e h) (semaphore h o)) x)) (known.waits i);
   sends_rise = rw (← add-one) (sends_rise (maxmsg c h o) (length h) (act o e h) (queue c h o) (act_place o e h) known.sends_rise);
   receives_rise = rw (← add-one) (receives_rise (length h) (act o e h) (queue c h o) (act_place o e h) known.receives_rise);
-  waits_rise = subst (λ (ws : List Wait). Rising (λ (w : Wait). w.place) 0 ws (suc (length h))) (sym (first_keeps (gives_value o e h) (semaphore_after (semaphore_act o e h) (semaphore h o)))) (rw (← add-one) (waits_rise (length h) (semaphore_act o e h) (semaphore h o) (wait_place o e h) known.waits_rise));
+  waits_rise = subst (λ (ws : List Waiter). Rising (λ (w : Waiter). w.place) 0 ws (suc (length h))) (sym (first_keeps (gives_value o e h) (semaphore_after (semaphore_act o e h) (semaphore h o)))) (rw (← add-one) (waits_rise (length h) (semaphore_act o e h) (semaphore h o) (wait_place o e h) known.waits_rise));
 }
 
 pub parked_by_place : EachParkedByPlace

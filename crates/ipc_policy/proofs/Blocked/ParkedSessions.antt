@@ -14,15 +14,15 @@ use Rattle.ipc_terms.specs.declared.record.Event.TheVariants.{Hello, Do, Hangup}
 use Rattle.ipc_policy.specs.declared.config.Config.{Config}
 use Rattle.ipc_policy.specs.declared.config.Held.{Held}
 use Rattle.ipc_terms.specs.declared.object.Object.{Object}
-use Rattle.ipc_policy.specs.History.{History, kept, there_is, any_below}
+use Rattle.ipc_policy.specs.History.{History, unless, is_some_and, any_below}
 use Rattle.ipc_policy.specs.Sessions.{hellos, live}
 use Rattle.ipc_policy.specs.Names.{queue_opening, semaphore_opening, is_bound, creations, bound}
 use Rattle.ipc_policy.specs.Objects.{object, made_by}
 use Rattle.ipc_policy.specs.Sessions.{cred}
 use Rattle.ipc_policy.specs.Descriptions.{opens, if_of, held, holds, ends_held}
 use Rattle.ipc_policy.specs.Life.{named, alive, gives_object}
-use Rattle.ipc_policy.specs.Queues.{Send, Wait, Withdraws, Queue, queue_after, queue, senders, receivers, is_full, is_empty}
-use Rattle.ipc_policy.specs.Semaphores.{Cancels, semaphore, semaphore_after, waiters, is_zero}
+use Rattle.ipc_policy.specs.Queues.{Send, Waiter, Withdraws, Queue, queue_after, queue, senders, receivers, is_full, is_empty}
+use Rattle.ipc_policy.specs.Semaphores.{WithdrawsWait, semaphore, semaphore_after, waiters, is_zero}
 use Rattle.ipc_policy.specs.Parking.{ParkedKind, Sending, Receiving, Waiting, Parked, parks, parked_on, serves, is_longest, ends_call, ends_parked, parked}
 use Rattle.ipc_terms.specs.Lists.{Each}
 use Rattle.ipc_policy.specs.Readings.{Rising}
@@ -120,7 +120,7 @@ session_is s x e = at (eqb x.session.0 s) refl e where
   at true q k = eqb-true _ _ q
   at false q k = absurd cc
 
-kept_one : (p : Held → Bool) (x : Held) → p x ≡ false → kept p (Some x) ≡ Some x
+kept_one : (p : Held → Bool) (x : Held) → p x ≡ false → unless p (Some x) ≡ Some x
 kept_one p x e = rw e refl
 
 -- what is held is held on, unless the event ends it
@@ -133,9 +133,9 @@ held_on h d x (Do sid (SemOpen asked)) now keeps =
     let below : d < opens h = held_below h d (ap is_some now) in
     let other : eqb (opens h) d ≡ false = ne_eqb _ _ (λ (q : opens h ≡ d). absurd (omega arith)) in
     rw (other, now) refl
-held_on h d x (Do sid call) now keeps = ap (kept (λ y. ends_held d y (Do sid call))) now ∙ kept_one (λ y. ends_held d y (Do sid call)) x keeps
-held_on h d x (Hello found) now keeps = ap (kept (λ y. ends_held d y (Hello found))) now ∙ kept_one (λ y. ends_held d y (Hello found)) x keeps
-held_on h d x (Hangup sid) now keeps = ap (kept (λ y. ends_held d y (Hangup sid))) now ∙ kept_one (λ y. ends_held d y (Hangup sid)) x keeps
+held_on h d x (Do sid call) now keeps = ap (unless (λ y. ends_held d y (Do sid call))) now ∙ kept_one (λ y. ends_held d y (Do sid call)) x keeps
+held_on h d x (Hello found) now keeps = ap (unless (λ y. ends_held d y (Hello found))) now ∙ kept_one (λ y. ends_held d y (Hello found)) x keeps
+held_on h d x (Hangup sid) now keeps = ap (unless (λ y. ends_held d y (Hangup sid))) now ∙ kept_one (λ y. ends_held d y (Hangup sid)) x keeps
 
 pub holds_on : (h : History) (s d : ℕ) (x : Held) (e : Event) → holds h s d ≡ Some x → ends_held d x e ≡ false → holds (record { event = e; rule = None } ∷ h) s d ≡ Some x
 unfolding holds
@@ -246,13 +246,13 @@ dead_has_no_senders c h legal o dead = at (senders c h o) ((calls_listed c h leg
 
 pub dead_has_no_receivers : (c : Config) (h : History) → Legal c h → (o : ℕ) → alive h o ≡ false → receivers c h o ≡ []
 dead_has_no_receivers c h legal o dead = at (receivers c h o) ((calls_listed c h legal).each_receive o) where
-  at : (ws : List Wait) → Each (λ w. parked c h w.session ≡ Some (record { object = o; place = w.place; kind = Receiving })) ws → ws ≡ []
+  at : (ws : List Waiter) → Each (λ w. parked c h w.session ≡ Some (record { object = o; place = w.place; kind = Receiving })) ws → ws ≡ []
   at [] all = refl
   at (w ∷ ws) all = absurd (let lives = parked_alive c h legal w.session (record { object = o; place = w.place; kind = Receiving }) all.0 in let wrong : true ≡ false = sym lives ∙ dead in cc)
 
 pub dead_has_no_waiters : (c : Config) (h : History) → Legal c h → (o : ℕ) → alive h o ≡ false → waiters h o ≡ []
 dead_has_no_waiters c h legal o dead = at (waiters h o) ((calls_listed c h legal).each_wait o) where
-  at : (ws : List Wait) → Each (λ w. parked c h w.session ≡ Some (record { object = o; place = w.place; kind = Waiting })) ws → ws ≡ []
+  at : (ws : List Waiter) → Each (λ w. parked c h w.session ≡ Some (record { object = o; place = w.place; kind = Waiting })) ws → ws ≡ []
   at [] all = refl
   at (w ∷ ws) all = absurd (let lives = parked_alive c h legal w.session (record { object = o; place = w.place; kind = Waiting }) all.0 in let wrong : true ≡ false = sym lives ∙ dead in cc)
 
@@ -282,36 +282,36 @@ pub senders_differ : (c : Config) (h : History) → Legal c h → (o : ℕ) → 
 senders_differ c h legal o = all_differ (λ (m : Send). m.place) (λ m. m.session) (parked c h) (λ m. record { object = o; place = m.place; kind = Sending }) (λ m. refl) 0 (senders c h o) (length h) (parked_by_place c h o).sends_rise ((calls_listed c h legal).each_send o)
 
 pub receivers_differ : (c : Config) (h : History) → Legal c h → (o : ℕ) → Different (λ w. w.session) (receivers c h o)
-receivers_differ c h legal o = all_differ (λ (w : Wait). w.place) (λ w. w.session) (parked c h) (λ w. record { object = o; place = w.place; kind = Receiving }) (λ w. refl) 0 (receivers c h o) (length h) (parked_by_place c h o).receives_rise ((calls_listed c h legal).each_receive o)
+receivers_differ c h legal o = all_differ (λ (w : Waiter). w.place) (λ w. w.session) (parked c h) (λ w. record { object = o; place = w.place; kind = Receiving }) (λ w. refl) 0 (receivers c h o) (length h) (parked_by_place c h o).receives_rise ((calls_listed c h legal).each_receive o)
 
 pub waiters_differ : (c : Config) (h : History) → Legal c h → (o : ℕ) → Different (λ w. w.session) (waiters h o)
-waiters_differ c h legal o = all_differ (λ (w : Wait). w.place) (λ w. w.session) (parked c h) (λ w. record { object = o; place = w.place; kind = Waiting }) (λ w. refl) 0 (waiters h o) (length h) (parked_by_place c h o).waits_rise ((calls_listed c h legal).each_wait o)
+waiters_differ c h legal o = all_differ (λ (w : Waiter). w.place) (λ w. w.session) (parked c h) (λ w. record { object = o; place = w.place; kind = Waiting }) (λ w. refl) 0 (waiters h o) (length h) (parked_by_place c h o).waits_rise ((calls_listed c h legal).each_wait o)
 
 -- and only in the lists of the object on which it is parked
 filter_others : {A : Type 0} (session : A → ℕ) (s : ℕ) (xs : List A) → Each (λ x. eqb (session x) s ≡ false) xs → filter (λ x. not (eqb (session x) s)) xs ≡ xs
 filter_others session s [] all = refl
 filter_others session s (x ∷ xs) all = let other = all.0 in rw other (ap (λ l. x ∷ l) (filter_others session s xs all.1))
 
-not_on : (f : ℕ → Option Parked) (s t o : ℕ) (p : Parked) → f t ≡ Some p → p.object ≡ o → there_is (λ x. eqb x.object o) (f s) ≡ false → eqb t s ≡ false
+not_on : (f : ℕ → Option Parked) (s t o : ℕ) (p : Parked) → f t ≡ Some p → p.object ≡ o → is_some_and (λ x. eqb x.object o) (f s) ≡ false → eqb t s ≡ false
 not_on f s t o p here on away = ne_eqb _ _ (λ (e : t ≡ s).
     let now : f s ≡ Some p = ap f (sym e) ∙ here in
     let away' : eqb p.object o ≡ false = rw now at away in
     eqb-false _ _ away' on)
 
 -- so a withdrawal changes no other object
-pub withdrawn_elsewhere : (c : Config) (h : History) → Legal c h → (n s o : ℕ) → there_is (λ x. eqb x.object o) (parked c h s) ≡ false → queue_after n (Withdraws s) (queue c h o) ≡ queue c h o
+pub withdrawn_elsewhere : (c : Config) (h : History) → Legal c h → (n s o : ℕ) → is_some_and (λ x. eqb x.object o) (parked c h s) ≡ false → queue_after n (Withdraws s) (queue c h o) ≡ queue c h o
 withdrawn_elsewhere c h legal n s o away =
     let known = calls_listed c h legal in
     let sending : filter (λ m. not (eqb m.session s)) (senders c h o) ≡ senders c h o =
     filter_others (λ (m : Send). m.session) s (senders c h o) (each_map (λ (m : Send). parked c h m.session ≡ Some (record { object = o; place = m.place; kind = Sending })) (λ m. eqb m.session s ≡ false) (senders c h o) (λ m k. not_on (parked c h) s m.session o (record { object = o; place = m.place; kind = Sending }) k refl away) (known.each_send o)) in
     let receiving : filter (λ w. not (eqb w.session s)) (receivers c h o) ≡ receivers c h o =
-    filter_others (λ (w : Wait). w.session) s (receivers c h o) (each_map (λ (w : Wait). parked c h w.session ≡ Some (record { object = o; place = w.place; kind = Receiving })) (λ w. eqb w.session s ≡ false) (receivers c h o) (λ w k. not_on (parked c h) s w.session o (record { object = o; place = w.place; kind = Receiving }) k refl away) (known.each_receive o)) in
-    ap (λ ms. record { contents = (queue c h o).contents; senders = ms; receivers = filter (λ (w : Wait). not (eqb w.session s)) (receivers c h o) }) sending
+    filter_others (λ (w : Waiter). w.session) s (receivers c h o) (each_map (λ (w : Waiter). parked c h w.session ≡ Some (record { object = o; place = w.place; kind = Receiving })) (λ w. eqb w.session s ≡ false) (receivers c h o) (λ w k. not_on (parked c h) s w.session o (record { object = o; place = w.place; kind = Receiving }) k refl away) (known.each_receive o)) in
+    ap (λ ms. record { contents = (queue c h o).contents; senders = ms; receivers = filter (λ (w : Waiter). not (eqb w.session s)) (receivers c h o) }) sending
     ∙ ap (λ ws. record { contents = (queue c h o).contents; senders = senders c h o; receivers = ws }) receiving
 
-pub cancelled_elsewhere : (c : Config) (h : History) → Legal c h → (s o : ℕ) → there_is (λ x. eqb x.object o) (parked c h s) ≡ false → semaphore_after (Cancels s) (semaphore h o) ≡ semaphore h o
+pub cancelled_elsewhere : (c : Config) (h : History) → Legal c h → (s o : ℕ) → is_some_and (λ x. eqb x.object o) (parked c h s) ≡ false → semaphore_after (WithdrawsWait s) (semaphore h o) ≡ semaphore h o
 cancelled_elsewhere c h legal s o away =
     let known = calls_listed c h legal in
     let waiting : filter (λ w. not (eqb w.session s)) (waiters h o) ≡ waiters h o =
-    filter_others (λ (w : Wait). w.session) s (waiters h o) (each_map (λ (w : Wait). parked c h w.session ≡ Some (record { object = o; place = w.place; kind = Waiting })) (λ w. eqb w.session s ≡ false) (waiters h o) (λ w k. not_on (parked c h) s w.session o (record { object = o; place = w.place; kind = Waiting }) k refl away) (known.each_wait o)) in
+    filter_others (λ (w : Waiter). w.session) s (waiters h o) (each_map (λ (w : Waiter). parked c h w.session ≡ Some (record { object = o; place = w.place; kind = Waiting })) (λ w. eqb w.session s ≡ false) (waiters h o) (λ w k. not_on (parked c h) s w.session o (record { object = o; place = w.place; kind = Waiting }) k refl away) (known.each_wait o)) in
     ap (λ ws. record { value = (semaphore h o).value; waiters = ws }) waiting

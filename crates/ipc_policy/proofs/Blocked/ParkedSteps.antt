@@ -11,10 +11,10 @@ use Rattle.ipc_terms.specs.declared.record.Event.{Event}
 use Rattle.ipc_terms.specs.declared.record.Event.TheVariants.{Hello, Do, Hangup}
 use Rattle.ipc_policy.specs.declared.config.Config.{Config}
 use Rattle.ipc_policy.specs.declared.config.Held.{Held}
-use Rattle.ipc_policy.specs.History.{History, kept, there_is}
+use Rattle.ipc_policy.specs.History.{History, unless, is_some_and}
 use Rattle.ipc_policy.specs.Descriptions.{holds}
 use Rattle.ipc_policy.specs.Life.{gives_object}
-use Rattle.ipc_policy.specs.Queues.{Send, Wait, Act, Sends, Receives, Withdraws, Rests, Queue, queue_after, maxmsg, queue, senders, receivers, is_full, is_empty}
+use Rattle.ipc_policy.specs.Queues.{Send, Waiter, Act, Sends, Receives, Withdraws, NoAct, Queue, queue_after, maxmsg, queue, senders, receivers, is_full, is_empty}
 use Rattle.ipc_policy.specs.Semaphores.{semaphore}
 use Rattle.ipc_policy.specs.Parking.{ParkedKind, Sending, Receiving, Waiting, Parked, stands_at, serves, is_longest, ends_call, parked, parked_on}
 use Rattle.ipc_policy.specs.Readings.{Rising}
@@ -23,19 +23,19 @@ use Rattle.ipc_policy.specs.Laws.{IsListed, place_listed}
 use Rattle.ipc_policy.proofs.Blocked.ParkedPlaces.{parked_by_place}
 use Rattle.ipc_policy.proofs.Blocked.CallsListed.{calls_listed}
 
-pub kept_same : {A : Type 0} (p : A → Bool) (w : Option A) → ((x : A) → w ≡ Some x → p x ≡ false) → kept p w ≡ w
+pub kept_same : {A : Type 0} (p : A → Bool) (w : Option A) → ((x : A) → w ≡ Some x → p x ≡ false) → unless p w ≡ w
 kept_same p None h = refl
 kept_same p (Some x) h = rw (h x refl) refl
 
-pub kept_if : {A : Type 0} (p : A → Bool) (w : Option A) (b : Bool) → ((x : A) → w ≡ Some x → p x ≡ b) → kept p w ≡ cond b None w
+pub kept_if : {A : Type 0} (p : A → Bool) (w : Option A) (b : Bool) → ((x : A) → w ≡ Some x → p x ≡ b) → unless p w ≡ cond b None w
 kept_if p None true h = refl
 kept_if p None false h = refl
 kept_if p (Some x) b h = ap (λ d. cond d None (Some x)) (h x refl)
 
 -- what rests ends nothing
-pub rests_end : (s : ℕ) (p : Parked) (q : Queue) → ends_call s p Rests q ≡ false
+pub rests_end : (s : ℕ) (p : Parked) (q : Queue) → ends_call s p NoAct q ≡ false
 rests_end s p q = at p.kind where
-  at : (kind : ParkedKind) → ends_call s (record { object = p.object; place = p.place; kind = kind }) Rests q ≡ false
+  at : (kind : ParkedKind) → ends_call s (record { object = p.object; place = p.place; kind = kind }) NoAct q ≡ false
   at Sending = refl
   at Receiving = refl
   at Waiting = refl
@@ -52,7 +52,7 @@ withdrawal_ends s t p q = at p.kind (eqb s t) where
   at Waiting false = refl
 
 -- the longest parked of a list is found by its session exactly where it is found by its place
-pub longest_is : {A : Type 0} (place session : A → ℕ) (f : ℕ → Option Parked) (call : A → Parked) → ((y : A) → (call y).place ≡ place y) → (s : ℕ) (p : Parked) → f s ≡ Some p → (xs : List A) (hi : ℕ) → Rising place 0 xs hi → Each (λ y. f (session y) ≡ Some (call y)) xs → option_map place (find (λ y. eqb (session y) s) xs) ≡ Some p.place → stands_at place p.place (first xs) ≡ there_is (λ y. eqb (session y) s) (first xs)
+pub longest_is : {A : Type 0} (place session : A → ℕ) (f : ℕ → Option Parked) (call : A → Parked) → ((y : A) → (call y).place ≡ place y) → (s : ℕ) (p : Parked) → f s ≡ Some p → (xs : List A) (hi : ℕ) → Rising place 0 xs hi → Each (λ y. f (session y) ≡ Some (call y)) xs → option_map place (find (λ y. eqb (session y) s) xs) ≡ Some p.place → stands_at place p.place (first xs) ≡ is_some_and (λ y. eqb (session y) s) (first xs)
 longest_is place session f call placed s p here [] hi r all listed = refl
 longest_is {A = A} place session f call placed s p here (x ∷ xs) hi r all listed = at (eqb (session x) s) refl listed where
   below : (lo : ℕ) (ys : List A) → place x < lo → Rising place lo ys hi → option_map place (find (λ y. eqb (session y) s) ys) ≡ Some p.place → place x < p.place
@@ -67,7 +67,7 @@ longest_is {A = A} place session f call placed s p here (x ∷ xs) hi r all list
   at false e k = ne_eqb _ _ (λ (q : place x ≡ p.place). let less = below (place x + 1) xs (omega arith) r.1 k in absurd (omega arith)) ∙ sym e
 
 -- the longest parked receive on an object is not of a session that is parked elsewhere or otherwise
-pub not_first : {A : Type 0} (session : A → ℕ) (f : ℕ → Option Parked) (call : A → Parked) (s : ℕ) (p : Parked) → f s ≡ Some p → (xs : List A) → Each (λ y. f (session y) ≡ Some (call y)) xs → ((y : A) → call y ≡ p → ⊥) → there_is (λ y. eqb (session y) s) (first xs) ≡ false
+pub not_first : {A : Type 0} (session : A → ℕ) (f : ℕ → Option Parked) (call : A → Parked) (s : ℕ) (p : Parked) → f s ≡ Some p → (xs : List A) → Each (λ y. f (session y) ≡ Some (call y)) xs → ((y : A) → call y ≡ p → ⊥) → is_some_and (λ y. eqb (session y) s) (first xs) ≡ false
 not_first session f call s p here [] all other = refl
 not_first session f call s p here (x ∷ xs) all other = ne_eqb _ _ (λ (e : session x ≡ s).
     let both : Some (call x) ≡ Some p = sym all.0 ∙ ap f e ∙ here in
@@ -75,44 +75,44 @@ not_first session f call s p here (x ∷ xs) all other = ne_eqb _ _ (λ (e : ses
     other x same)
 
 -- a send ends the call of the session whose receive is the longest parked, and no other
-send_ends : (c : Config) (h : History) (o s : ℕ) (m : Send) (p : Parked) → Legal c h → parked c h s ≡ Some p → ends_call s p (cond (eqb o p.object) (Sends m) Rests) (queue c h p.object) ≡ there_is (λ w. eqb w.session s) (first (receivers c h o))
+send_ends : (c : Config) (h : History) (o s : ℕ) (m : Send) (p : Parked) → Legal c h → parked c h s ≡ Some p → ends_call s p (cond (eqb o p.object) (Sends m) NoAct) (queue c h p.object) ≡ is_some_and (λ w. eqb w.session s) (first (receivers c h o))
 send_ends c h o s m p legal k = at (eqb o p.object) refl where
   known : IsListed c h
   known = calls_listed c h legal
 
-  away : ((w : Wait) → record { object = o; place = w.place; kind = Receiving } ≡ p → ⊥) → there_is (λ w. eqb w.session s) (first (receivers c h o)) ≡ false
-  away other = not_first (λ (w : Wait). w.session) (parked c h) (λ w. record { object = o; place = w.place; kind = Receiving }) s p k (receivers c h o) (known.each_receive o) other
+  away : ((w : Waiter) → record { object = o; place = w.place; kind = Receiving } ≡ p → ⊥) → is_some_and (λ w. eqb w.session s) (first (receivers c h o)) ≡ false
+  away other = not_first (λ (w : Waiter). w.session) (parked c h) (λ w. record { object = o; place = w.place; kind = Receiving }) s p k (receivers c h o) (known.each_receive o) other
 
-  same_object : (kind : ParkedKind) → p.kind ≡ kind → o ≡ p.object → ends_call s (record { object = p.object; place = p.place; kind = kind }) (Sends m) (queue c h p.object) ≡ there_is (λ w. eqb w.session s) (first (receivers c h o))
+  same_object : (kind : ParkedKind) → p.kind ≡ kind → o ≡ p.object → ends_call s (record { object = p.object; place = p.place; kind = kind }) (Sends m) (queue c h p.object) ≡ is_some_and (λ w. eqb w.session s) (first (receivers c h o))
   same_object Sending e on = sym (away (λ w q. let wrong : Receiving ≡ Sending = ap (λ (y : Parked). y.kind) q ∙ e in cc))
   same_object Waiting e on = sym (away (λ w q. let wrong : Receiving ≡ Waiting = ap (λ (y : Parked). y.kind) q ∙ e in cc))
   same_object Receiving e on =
-      subst (λ (n : ℕ). stands_at (λ (w : Wait). w.place) p.place (first (receivers c h p.object)) ≡ there_is (λ (w : Wait). eqb w.session s) (first (receivers c h n))) (sym on)
-      (longest_is (λ (w : Wait). w.place) (λ w. w.session) (parked c h) (λ w. record { object = p.object; place = w.place; kind = Receiving }) (λ w. refl) s p k (receivers c h p.object) (length h) (parked_by_place c h p.object).receives_rise (known.each_receive p.object)
+      subst (λ (n : ℕ). stands_at (λ (w : Waiter). w.place) p.place (first (receivers c h p.object)) ≡ is_some_and (λ (w : Waiter). eqb w.session s) (first (receivers c h n))) (sym on)
+      (longest_is (λ (w : Waiter). w.place) (λ w. w.session) (parked c h) (λ w. record { object = p.object; place = w.place; kind = Receiving }) (λ w. refl) s p k (receivers c h p.object) (length h) (parked_by_place c h p.object).receives_rise (known.each_receive p.object)
       (subst (λ (z : ParkedKind). place_listed z s (queue c h p.object) (semaphore h p.object) ≡ Some p.place) e (known.each_parked s p k)))
 
-  at : (b : Bool) → eqb o p.object ≡ b → ends_call s p (cond b (Sends m) Rests) (queue c h p.object) ≡ there_is (λ w. eqb w.session s) (first (receivers c h o))
+  at : (b : Bool) → eqb o p.object ≡ b → ends_call s p (cond b (Sends m) NoAct) (queue c h p.object) ≡ is_some_and (λ w. eqb w.session s) (first (receivers c h o))
   at true e = same_object p.kind refl (eqb-true _ _ e)
   at false e = rests_end s p (queue c h p.object) ∙ sym (away (λ w q. eqb-false _ _ e (ap (λ (y : Parked). y.object) q)))
 
 -- a receive ends the call of the session whose send is the longest parked, and no other
-receive_ends : (c : Config) (h : History) (o s : ℕ) (w : Wait) (p : Parked) → Legal c h → parked c h s ≡ Some p → ends_call s p (cond (eqb o p.object) (Receives w) Rests) (queue c h p.object) ≡ there_is (λ m. eqb m.session s) (first (senders c h o))
+receive_ends : (c : Config) (h : History) (o s : ℕ) (w : Waiter) (p : Parked) → Legal c h → parked c h s ≡ Some p → ends_call s p (cond (eqb o p.object) (Receives w) NoAct) (queue c h p.object) ≡ is_some_and (λ m. eqb m.session s) (first (senders c h o))
 receive_ends c h o s w p legal k = at (eqb o p.object) refl where
   known : IsListed c h
   known = calls_listed c h legal
 
-  away : ((m : Send) → record { object = o; place = m.place; kind = Sending } ≡ p → ⊥) → there_is (λ m. eqb m.session s) (first (senders c h o)) ≡ false
+  away : ((m : Send) → record { object = o; place = m.place; kind = Sending } ≡ p → ⊥) → is_some_and (λ m. eqb m.session s) (first (senders c h o)) ≡ false
   away other = not_first (λ (m : Send). m.session) (parked c h) (λ m. record { object = o; place = m.place; kind = Sending }) s p k (senders c h o) (known.each_send o) other
 
-  same_object : (kind : ParkedKind) → p.kind ≡ kind → o ≡ p.object → ends_call s (record { object = p.object; place = p.place; kind = kind }) (Receives w) (queue c h p.object) ≡ there_is (λ m. eqb m.session s) (first (senders c h o))
+  same_object : (kind : ParkedKind) → p.kind ≡ kind → o ≡ p.object → ends_call s (record { object = p.object; place = p.place; kind = kind }) (Receives w) (queue c h p.object) ≡ is_some_and (λ m. eqb m.session s) (first (senders c h o))
   same_object Receiving e on = sym (away (λ m q. let wrong : Sending ≡ Receiving = ap (λ (y : Parked). y.kind) q ∙ e in cc))
   same_object Waiting e on = sym (away (λ m q. let wrong : Sending ≡ Waiting = ap (λ (y : Parked). y.kind) q ∙ e in cc))
   same_object Sending e on =
-      subst (λ (n : ℕ). stands_at (λ (m : Send). m.place) p.place (first (senders c h p.object)) ≡ there_is (λ (m : Send). eqb m.session s) (first (senders c h n))) (sym on)
+      subst (λ (n : ℕ). stands_at (λ (m : Send). m.place) p.place (first (senders c h p.object)) ≡ is_some_and (λ (m : Send). eqb m.session s) (first (senders c h n))) (sym on)
       (longest_is (λ (m : Send). m.place) (λ m. m.session) (parked c h) (λ m. record { object = p.object; place = m.place; kind = Sending }) (λ m. refl) s p k (senders c h p.object) (length h) (parked_by_place c h p.object).sends_rise (known.each_send p.object)
       (subst (λ (z : ParkedKind). place_listed z s (queue c h p.object) (semaphore h p.object) ≡ Some p.place) e (known.each_parked s p k)))
 
-  at : (b : Bool) → eqb o p.object ≡ b → ends_call s p (cond b (Receives w) Rests) (queue c h p.object) ≡ there_is (λ m. eqb m.session s) (first (senders c h o))
+  at : (b : Bool) → eqb o p.object ≡ b → ends_call s p (cond b (Receives w) NoAct) (queue c h p.object) ≡ is_some_and (λ m. eqb m.session s) (first (senders c h o))
   at true e = same_object p.kind refl (eqb-true _ _ e)
   at false e = rests_end s p (queue c h p.object) ∙ sym (away (λ m q. eqb-false _ _ e (ap (λ (y : Parked). y.object) q)))
 
@@ -122,24 +122,24 @@ or_here true false p w = refl
 or_here false f p w = refl
 
 -- a send parks its session if the queue is full, and ends the longest parked receive
-pub parked_by_send : (c : Config) (h : History) (sid : Sid) (desc : Desc) (priority : ℕ) (bytes : List ℕ) (x : Held) (s : ℕ) → Legal c h → holds h sid.0 desc.0 ≡ Some x → parked c (record { event = Do sid (MqSend desc priority bytes); rule = None } ∷ h) s ≡ cond (eqb sid.0 s && is_full c h x.object) (Some (record { object = x.object; place = length h; kind = Sending })) (cond (there_is (λ w. eqb w.session s) (first (receivers c h x.object))) None (parked c h s))
+pub parked_by_send : (c : Config) (h : History) (sid : Sid) (desc : Desc) (priority : ℕ) (bytes : List ℕ) (x : Held) (s : ℕ) → Legal c h → holds h sid.0 desc.0 ≡ Some x → parked c (record { event = Do sid (MqSend desc priority bytes); rule = None } ∷ h) s ≡ cond (eqb sid.0 s && is_full c h x.object) (Some (record { object = x.object; place = length h; kind = Sending })) (cond (is_some_and (λ w. eqb w.session s) (first (receivers c h x.object))) None (parked c h s))
 unfolding parked
 parked_by_send c h sid desc priority bytes x s legal k =
-    ap (λ y. option_or (cond (eqb sid.0 s) (option_and_then (parked_on (is_full c h) Sending (length h)) y) None) (kept (λ p. ends_call s p (cond (gives_object p.object y) (Sends (record { place = length h; session = sid.0; desc = desc.0; priority = priority; bytes = bytes })) Rests) (queue c h p.object)) (parked c h s))) k
+    ap (λ y. option_or (cond (eqb sid.0 s) (option_and_then (parked_on (is_full c h) Sending (length h)) y) None) (unless (λ p. ends_call s p (cond (gives_object p.object y) (Sends (record { place = length h; session = sid.0; desc = desc.0; priority = priority; bytes = bytes })) NoAct) (queue c h p.object)) (parked c h s))) k
     ∙ ap (option_or (cond (eqb sid.0 s) (cond (is_full c h x.object) (Some (record { object = x.object; place = length h; kind = Sending })) None) None))
-    (kept_if (λ p. ends_call s p (cond (eqb x.object p.object) (Sends (record { place = length h; session = sid.0; desc = desc.0; priority = priority; bytes = bytes })) Rests) (queue c h p.object)) (parked c h s) (there_is (λ w. eqb w.session s) (first (receivers c h x.object)))
+    (kept_if (λ p. ends_call s p (cond (eqb x.object p.object) (Sends (record { place = length h; session = sid.0; desc = desc.0; priority = priority; bytes = bytes })) NoAct) (queue c h p.object)) (parked c h s) (is_some_and (λ w. eqb w.session s) (first (receivers c h x.object)))
     (λ p is. send_ends c h x.object s (record { place = length h; session = sid.0; desc = desc.0; priority = priority; bytes = bytes }) p legal is))
-    ∙ or_here (eqb sid.0 s) (is_full c h x.object) (record { object = x.object; place = length h; kind = Sending }) (cond (there_is (λ w. eqb w.session s) (first (receivers c h x.object))) None (parked c h s))
+    ∙ or_here (eqb sid.0 s) (is_full c h x.object) (record { object = x.object; place = length h; kind = Sending }) (cond (is_some_and (λ w. eqb w.session s) (first (receivers c h x.object))) None (parked c h s))
 
 -- a receive parks its session if the queue is empty, and ends the longest parked send
-pub parked_by_receive : (c : Config) (h : History) (sid : Sid) (desc : Desc) (length' : ℕ) (x : Held) (s : ℕ) → Legal c h → holds h sid.0 desc.0 ≡ Some x → parked c (record { event = Do sid (MqReceive desc length'); rule = None } ∷ h) s ≡ cond (eqb sid.0 s && is_empty c h x.object) (Some (record { object = x.object; place = length h; kind = Receiving })) (cond (there_is (λ m. eqb m.session s) (first (senders c h x.object))) None (parked c h s))
+pub parked_by_receive : (c : Config) (h : History) (sid : Sid) (desc : Desc) (length' : ℕ) (x : Held) (s : ℕ) → Legal c h → holds h sid.0 desc.0 ≡ Some x → parked c (record { event = Do sid (MqReceive desc length'); rule = None } ∷ h) s ≡ cond (eqb sid.0 s && is_empty c h x.object) (Some (record { object = x.object; place = length h; kind = Receiving })) (cond (is_some_and (λ m. eqb m.session s) (first (senders c h x.object))) None (parked c h s))
 unfolding parked
 parked_by_receive c h sid desc length' x s legal k =
-    ap (λ y. option_or (cond (eqb sid.0 s) (option_and_then (parked_on (is_empty c h) Receiving (length h)) y) None) (kept (λ p. ends_call s p (cond (gives_object p.object y) (Receives (record { place = length h; session = sid.0; desc = desc.0 })) Rests) (queue c h p.object)) (parked c h s))) k
+    ap (λ y. option_or (cond (eqb sid.0 s) (option_and_then (parked_on (is_empty c h) Receiving (length h)) y) None) (unless (λ p. ends_call s p (cond (gives_object p.object y) (Receives (record { place = length h; session = sid.0; desc = desc.0 })) NoAct) (queue c h p.object)) (parked c h s))) k
     ∙ ap (option_or (cond (eqb sid.0 s) (cond (is_empty c h x.object) (Some (record { object = x.object; place = length h; kind = Receiving })) None) None))
-    (kept_if (λ p. ends_call s p (cond (eqb x.object p.object) (Receives (record { place = length h; session = sid.0; desc = desc.0 })) Rests) (queue c h p.object)) (parked c h s) (there_is (λ m. eqb m.session s) (first (senders c h x.object)))
+    (kept_if (λ p. ends_call s p (cond (eqb x.object p.object) (Receives (record { place = length h; session = sid.0; desc = desc.0 })) NoAct) (queue c h p.object)) (parked c h s) (is_some_and (λ m. eqb m.session s) (first (senders c h x.object)))
     (λ p is. receive_ends c h x.object s (record { place = length h; session = sid.0; desc = desc.0 }) p legal is))
-    ∙ or_here (eqb sid.0 s) (is_empty c h x.object) (record { object = x.object; place = length h; kind = Receiving }) (cond (there_is (λ m. eqb m.session s) (first (senders c h x.object))) None (parked c h s))
+    ∙ or_here (eqb sid.0 s) (is_empty c h x.object) (record { object = x.object; place = length h; kind = Receiving }) (cond (is_some_and (λ m. eqb m.session s) (first (senders c h x.object))) None (parked c h s))
 
 -- an interrupt and a hang-up end the call of their session alone
 pub parked_by_interrupt : (c : Config) (h : History) (sid : Sid) (s : ℕ) → parked c (record { event = Do sid Interrupt; rule = None } ∷ h) s ≡ cond (eqb s sid.0) None (parked c h s)
@@ -171,8 +171,8 @@ parked_by_others c h (Do sid (SemWait desc)) s still = absurd cc
 parked_by_others c h (Do sid (SemTryWait desc)) s still = absurd cc
 parked_by_others c h (Do sid Interrupt) s still = absurd cc
 parked_by_others c h (Hangup sid) s still = absurd cc
-parked_by_others c h (Do sid call) s still = kept_same (λ p. ends_call s p Rests (queue c h p.object)) (parked c h s) (λ p is. rests_end s p (queue c h p.object))
-parked_by_others c h (Hello found) s still = kept_same (λ p. ends_call s p Rests (queue c h p.object)) (parked c h s) (λ p is. rests_end s p (queue c h p.object))
+parked_by_others c h (Do sid call) s still = kept_same (λ p. ends_call s p NoAct (queue c h p.object)) (parked c h s) (λ p is. rests_end s p (queue c h p.object))
+parked_by_others c h (Hello found) s still = kept_same (λ p. ends_call s p NoAct (queue c h p.object)) (parked c h s) (λ p is. rests_end s p (queue c h p.object))
 
 pub queue_by_others : (c : Config) (h : History) (e : Event) (o : ℕ) → moves e ≡ false → queue c (record { event = e; rule = None } ∷ h) o ≡ queue c h o
 unfolding queue
@@ -186,7 +186,7 @@ queue_by_others c h (Hangup sid) o still = absurd cc
 queue_by_others c h (Do sid call) o still = refl
 queue_by_others c h (Hello found) o still = refl
 
-acted : (n : ℕ) (a : Act) (q : Queue) (b : Bool) → queue_after n (cond b a Rests) q ≡ cond b (queue_after n a q) q
+acted : (n : ℕ) (a : Act) (q : Queue) (b : Bool) → queue_after n (cond b a NoAct) q ≡ cond b (queue_after n a q) q
 acted n a q true = refl
 acted n a q false = refl
 
@@ -194,13 +194,13 @@ acted n a q false = refl
 pub queue_by_send : (c : Config) (h : History) (sid : Sid) (desc : Desc) (priority : ℕ) (bytes : List ℕ) (x : Held) (o : ℕ) → holds h sid.0 desc.0 ≡ Some x → queue c (record { event = Do sid (MqSend desc priority bytes); rule = None } ∷ h) o ≡ cond (eqb x.object o) (queue_after (maxmsg c h o) (Sends (record { place = length h; session = sid.0; desc = desc.0; priority = priority; bytes = bytes })) (queue c h o)) (queue c h o)
 unfolding queue
 queue_by_send c h sid desc priority bytes x o k =
-    ap (λ y. queue_after (maxmsg c h o) (cond (gives_object o y) (Sends (record { place = length h; session = sid.0; desc = desc.0; priority = priority; bytes = bytes })) Rests) (queue c h o)) k
+    ap (λ y. queue_after (maxmsg c h o) (cond (gives_object o y) (Sends (record { place = length h; session = sid.0; desc = desc.0; priority = priority; bytes = bytes })) NoAct) (queue c h o)) k
     ∙ acted (maxmsg c h o) (Sends (record { place = length h; session = sid.0; desc = desc.0; priority = priority; bytes = bytes })) (queue c h o) (eqb x.object o)
 
 pub queue_by_receive : (c : Config) (h : History) (sid : Sid) (desc : Desc) (length' : ℕ) (x : Held) (o : ℕ) → holds h sid.0 desc.0 ≡ Some x → queue c (record { event = Do sid (MqReceive desc length'); rule = None } ∷ h) o ≡ cond (eqb x.object o) (queue_after (maxmsg c h o) (Receives (record { place = length h; session = sid.0; desc = desc.0 })) (queue c h o)) (queue c h o)
 unfolding queue
 queue_by_receive c h sid desc length' x o k =
-    ap (λ y. queue_after (maxmsg c h o) (cond (gives_object o y) (Receives (record { place = length h; session = sid.0; desc = desc.0 })) Rests) (queue c h o)) k
+    ap (λ y. queue_after (maxmsg c h o) (cond (gives_object o y) (Receives (record { place = length h; session = sid.0; desc = desc.0 })) NoAct) (queue c h o)) k
     ∙ acted (maxmsg c h o) (Receives (record { place = length h; session = sid.0; desc = desc.0 })) (queue c h o) (eqb x.object o)
 
 -- an interrupt and a hang-up withdraw the calls of their session

@@ -12,12 +12,12 @@ use Rattle.ipc_terms.specs.declared.record.Event.{Event}
 use Rattle.ipc_terms.specs.declared.record.Event.TheVariants.{Hello, Do, Hangup}
 use Rattle.ipc_policy.specs.declared.config.Config.{Config}
 use Rattle.ipc_policy.specs.declared.config.Held.{Held}
-use Rattle.ipc_policy.specs.History.{History, kept, there_is}
+use Rattle.ipc_policy.specs.History.{History, unless, is_some_and}
 use Rattle.ipc_policy.specs.Names.{is_bound, creations}
 use Rattle.ipc_policy.specs.Descriptions.{holds}
 use Rattle.ipc_policy.specs.Life.{gives_object}
-use Rattle.ipc_policy.specs.Queues.{Wait, Rests, Queue, queue}
-use Rattle.ipc_policy.specs.Semaphores.{SemaphoreAct, Posts, Waits, Tries, Cancels, Idles, Semaphore, semaphore_act_by, semaphore_after, with_first, semaphore, waiters, is_zero}
+use Rattle.ipc_policy.specs.Queues.{Waiter, NoAct, Queue, queue}
+use Rattle.ipc_policy.specs.Semaphores.{SemaphoreAct, Posts, Waits, Tries, WithdrawsWait, NoSemaphoreAct, Semaphore, semaphore_act_by, semaphore_after, with_first, semaphore, waiters, is_zero}
 use Rattle.ipc_policy.specs.Parking.{ParkedKind, Sending, Receiving, Waiting, Parked, parked_on, stands_at, is_posted, ends_call, parked}
 use Rattle.ipc_policy.specs.Grow.{first_value}
 use Rattle.ipc_policy.specs.Verdict.{Legal}
@@ -28,7 +28,7 @@ use Rattle.ipc_policy.proofs.Blocked.CallsListed.{calls_listed}
 use Rattle.ipc_policy.proofs.Blocked.ParkedSteps.{moves, kept_same, kept_if, longest_is, not_first, or_here, rests_end}
 
 -- an event that moves nothing does nothing to a semaphore but give it its first value
-idles : (place : ℕ) (holds' : ℕ → ℕ → Option Held) (o : ℕ) (e : Event) → moves e ≡ false → semaphore_act_by place holds' o e ≡ Idles
+idles : (place : ℕ) (holds' : ℕ → ℕ → Option Held) (o : ℕ) (e : Event) → moves e ≡ false → semaphore_act_by place holds' o e ≡ NoSemaphoreAct
 idles place holds' o (Do sid (MqSend desc priority bytes)) still = refl
 idles place holds' o (Do sid (MqReceive desc length')) still = refl
 idles place holds' o (Do sid (SemPost desc)) still = absurd cc
@@ -50,26 +50,26 @@ pub semaphore_by_receive : (h : History) (sid : Sid) (desc : Desc) (length' : �
 semaphore_by_receive h sid desc length' o = semaphore_grows h (Do sid (MqReceive desc length')) o
 
 -- a post, a wait and a trywait change the semaphore that their description gives, and no other, and no queue
-acted : (a : SemaphoreAct) (q : Semaphore) (b : Bool) → semaphore_after (cond b a Idles) q ≡ cond b (semaphore_after a q) q
+acted : (a : SemaphoreAct) (q : Semaphore) (b : Bool) → semaphore_after (cond b a NoSemaphoreAct) q ≡ cond b (semaphore_after a q) q
 acted a q true = refl
 acted a q false = refl
 
 pub semaphore_by_post : (h : History) (sid : Sid) (desc : Desc) (x : Held) (o : ℕ) → holds h sid.0 desc.0 ≡ Some x → semaphore (record { event = Do sid (SemPost desc); rule = None } ∷ h) o ≡ cond (eqb x.object o) (semaphore_after Posts (semaphore h o)) (semaphore h o)
 semaphore_by_post h sid desc x o k =
     semaphore_grows h (Do sid (SemPost desc)) o
-    ∙ ap (λ y. semaphore_after (cond (gives_object o y) Posts Idles) (semaphore h o)) k
+    ∙ ap (λ y. semaphore_after (cond (gives_object o y) Posts NoSemaphoreAct) (semaphore h o)) k
     ∙ acted Posts (semaphore h o) (eqb x.object o)
 
 pub semaphore_by_wait : (h : History) (sid : Sid) (desc : Desc) (x : Held) (o : ℕ) → holds h sid.0 desc.0 ≡ Some x → semaphore (record { event = Do sid (SemWait desc); rule = None } ∷ h) o ≡ cond (eqb x.object o) (semaphore_after (Waits (record { place = length h; session = sid.0; desc = desc.0 })) (semaphore h o)) (semaphore h o)
 semaphore_by_wait h sid desc x o k =
     semaphore_grows h (Do sid (SemWait desc)) o
-    ∙ ap (λ y. semaphore_after (cond (gives_object o y) (Waits (record { place = length h; session = sid.0; desc = desc.0 })) Idles) (semaphore h o)) k
+    ∙ ap (λ y. semaphore_after (cond (gives_object o y) (Waits (record { place = length h; session = sid.0; desc = desc.0 })) NoSemaphoreAct) (semaphore h o)) k
     ∙ acted (Waits (record { place = length h; session = sid.0; desc = desc.0 })) (semaphore h o) (eqb x.object o)
 
 pub semaphore_by_try : (h : History) (sid : Sid) (desc : Desc) (x : Held) (o : ℕ) → holds h sid.0 desc.0 ≡ Some x → semaphore (record { event = Do sid (SemTryWait desc); rule = None } ∷ h) o ≡ cond (eqb x.object o) (semaphore_after Tries (semaphore h o)) (semaphore h o)
 semaphore_by_try h sid desc x o k =
     semaphore_grows h (Do sid (SemTryWait desc)) o
-    ∙ ap (λ y. semaphore_after (cond (gives_object o y) Tries Idles) (semaphore h o)) k
+    ∙ ap (λ y. semaphore_after (cond (gives_object o y) Tries NoSemaphoreAct) (semaphore h o)) k
     ∙ acted Tries (semaphore h o) (eqb x.object o)
 
 pub queue_by_post : (c : Config) (h : History) (sid : Sid) (desc : Desc) (o : ℕ) → queue c (record { event = Do sid (SemPost desc); rule = None } ∷ h) o ≡ queue c h o
@@ -85,60 +85,60 @@ unfolding queue
 queue_by_try c h sid desc o = refl
 
 -- an interrupt and a hang-up cancel the waits of their session
-pub semaphore_by_interrupt : (h : History) (sid : Sid) (o : ℕ) → semaphore (record { event = Do sid Interrupt; rule = None } ∷ h) o ≡ semaphore_after (Cancels sid.0) (semaphore h o)
+pub semaphore_by_interrupt : (h : History) (sid : Sid) (o : ℕ) → semaphore (record { event = Do sid Interrupt; rule = None } ∷ h) o ≡ semaphore_after (WithdrawsWait sid.0) (semaphore h o)
 semaphore_by_interrupt h sid o = semaphore_grows h (Do sid Interrupt) o
 
-pub semaphore_by_hangup : (h : History) (sid : Sid) (o : ℕ) → semaphore (record { event = Hangup sid; rule = None } ∷ h) o ≡ semaphore_after (Cancels sid.0) (semaphore h o)
+pub semaphore_by_hangup : (h : History) (sid : Sid) (o : ℕ) → semaphore (record { event = Hangup sid; rule = None } ∷ h) o ≡ semaphore_after (WithdrawsWait sid.0) (semaphore h o)
 semaphore_by_hangup h sid o = semaphore_grows h (Hangup sid) o
 
 -- what neither posts nor acts on a queue ends no parked call
-not_posted : (b : Bool) (a : SemaphoreAct) → ((kind : ParkedKind) (i : ℕ) (u : Semaphore) → is_posted a kind i u ≡ false) → (s : ℕ) (p : Parked) (u : Semaphore) (q : Queue) → (is_posted (cond b a Idles) p.kind p.place u || ends_call s p Rests q) ≡ false
+not_posted : (b : Bool) (a : SemaphoreAct) → ((kind : ParkedKind) (i : ℕ) (u : Semaphore) → is_posted a kind i u ≡ false) → (s : ℕ) (p : Parked) (u : Semaphore) (q : Queue) → (is_posted (cond b a NoSemaphoreAct) p.kind p.place u || ends_call s p NoAct q) ≡ false
 not_posted b a none s p u q = rw (rests_end s p q) (at b) where
-  at : (d : Bool) → (is_posted (cond d a Idles) p.kind p.place u || false) ≡ false
+  at : (d : Bool) → (is_posted (cond d a NoSemaphoreAct) p.kind p.place u || false) ≡ false
   at true = rw (none p.kind p.place u) refl
   at false = refl
 
 -- a post ends the call of the session whose wait is the longest parked, and no other
-or_rests : (b : Bool) (s : ℕ) (p : Parked) (q : Queue) → (b || ends_call s p Rests q) ≡ b
+or_rests : (b : Bool) (s : ℕ) (p : Parked) (q : Queue) → (b || ends_call s p NoAct q) ≡ b
 or_rests b s p q = rw (rests_end s p q) (at b) where
   at : (d : Bool) → (d || false) ≡ d
   at true = refl
   at false = refl
 
-post_ends : (c : Config) (h : History) (o s : ℕ) (p : Parked) → Legal c h → parked c h s ≡ Some p → is_posted (cond (eqb o p.object) Posts Idles) p.kind p.place (semaphore h p.object) ≡ there_is (λ w. eqb w.session s) (first (waiters h o))
+post_ends : (c : Config) (h : History) (o s : ℕ) (p : Parked) → Legal c h → parked c h s ≡ Some p → is_posted (cond (eqb o p.object) Posts NoSemaphoreAct) p.kind p.place (semaphore h p.object) ≡ is_some_and (λ w. eqb w.session s) (first (waiters h o))
 post_ends c h o s p legal k = at (eqb o p.object) refl where
   known : IsListed c h
   known = calls_listed c h legal
 
-  away : ((w : Wait) → record { object = o; place = w.place; kind = Waiting } ≡ p → ⊥) → there_is (λ w. eqb w.session s) (first (waiters h o)) ≡ false
-  away other = not_first (λ (w : Wait). w.session) (parked c h) (λ w. record { object = o; place = w.place; kind = Waiting }) s p k (waiters h o) (known.each_wait o) other
+  away : ((w : Waiter) → record { object = o; place = w.place; kind = Waiting } ≡ p → ⊥) → is_some_and (λ w. eqb w.session s) (first (waiters h o)) ≡ false
+  away other = not_first (λ (w : Waiter). w.session) (parked c h) (λ w. record { object = o; place = w.place; kind = Waiting }) s p k (waiters h o) (known.each_wait o) other
 
-  same_object : (kind : ParkedKind) → p.kind ≡ kind → o ≡ p.object → is_posted Posts kind p.place (semaphore h p.object) ≡ there_is (λ w. eqb w.session s) (first (waiters h o))
+  same_object : (kind : ParkedKind) → p.kind ≡ kind → o ≡ p.object → is_posted Posts kind p.place (semaphore h p.object) ≡ is_some_and (λ w. eqb w.session s) (first (waiters h o))
   same_object Sending e on = sym (away (λ w q. let wrong : Waiting ≡ Sending = ap (λ (y : Parked). y.kind) q ∙ e in cc))
   same_object Receiving e on = sym (away (λ w q. let wrong : Waiting ≡ Receiving = ap (λ (y : Parked). y.kind) q ∙ e in cc))
   same_object Waiting e on =
-      subst (λ (n : ℕ). stands_at (λ (w : Wait). w.place) p.place (first (waiters h p.object)) ≡ there_is (λ (w : Wait). eqb w.session s) (first (waiters h n))) (sym on)
-      (longest_is (λ (w : Wait). w.place) (λ w. w.session) (parked c h) (λ w. record { object = p.object; place = w.place; kind = Waiting }) (λ w. refl) s p k (waiters h p.object) (length h) (parked_by_place c h p.object).waits_rise (known.each_wait p.object)
+      subst (λ (n : ℕ). stands_at (λ (w : Waiter). w.place) p.place (first (waiters h p.object)) ≡ is_some_and (λ (w : Waiter). eqb w.session s) (first (waiters h n))) (sym on)
+      (longest_is (λ (w : Waiter). w.place) (λ w. w.session) (parked c h) (λ w. record { object = p.object; place = w.place; kind = Waiting }) (λ w. refl) s p k (waiters h p.object) (length h) (parked_by_place c h p.object).waits_rise (known.each_wait p.object)
       (subst (λ (z : ParkedKind). place_listed z s (queue c h p.object) (semaphore h p.object) ≡ Some p.place) e (known.each_parked s p k)))
 
-  at : (b : Bool) → eqb o p.object ≡ b → is_posted (cond b Posts Idles) p.kind p.place (semaphore h p.object) ≡ there_is (λ w. eqb w.session s) (first (waiters h o))
+  at : (b : Bool) → eqb o p.object ≡ b → is_posted (cond b Posts NoSemaphoreAct) p.kind p.place (semaphore h p.object) ≡ is_some_and (λ w. eqb w.session s) (first (waiters h o))
   at true e = same_object p.kind refl (eqb-true _ _ e)
   at false e = sym (away (λ w q. eqb-false _ _ e (ap (λ (y : Parked). y.object) q)))
 
-pub parked_by_post : (c : Config) (h : History) (sid : Sid) (desc : Desc) (x : Held) (s : ℕ) → Legal c h → holds h sid.0 desc.0 ≡ Some x → parked c (record { event = Do sid (SemPost desc); rule = None } ∷ h) s ≡ cond (there_is (λ w. eqb w.session s) (first (waiters h x.object))) None (parked c h s)
+pub parked_by_post : (c : Config) (h : History) (sid : Sid) (desc : Desc) (x : Held) (s : ℕ) → Legal c h → holds h sid.0 desc.0 ≡ Some x → parked c (record { event = Do sid (SemPost desc); rule = None } ∷ h) s ≡ cond (is_some_and (λ w. eqb w.session s) (first (waiters h x.object))) None (parked c h s)
 unfolding parked
 parked_by_post c h sid desc x s legal k =
-    ap (λ y. kept (λ p. is_posted (cond (gives_object p.object y) Posts Idles) p.kind p.place (semaphore h p.object) || ends_call s p Rests (queue c h p.object)) (parked c h s)) k
-    ∙ kept_if (λ p. is_posted (cond (eqb x.object p.object) Posts Idles) p.kind p.place (semaphore h p.object) || ends_call s p Rests (queue c h p.object)) (parked c h s) (there_is (λ w. eqb w.session s) (first (waiters h x.object)))
-    (λ p is. or_rests (is_posted (cond (eqb x.object p.object) Posts Idles) p.kind p.place (semaphore h p.object)) s p (queue c h p.object) ∙ post_ends c h x.object s p legal is)
+    ap (λ y. unless (λ p. is_posted (cond (gives_object p.object y) Posts NoSemaphoreAct) p.kind p.place (semaphore h p.object) || ends_call s p NoAct (queue c h p.object)) (parked c h s)) k
+    ∙ kept_if (λ p. is_posted (cond (eqb x.object p.object) Posts NoSemaphoreAct) p.kind p.place (semaphore h p.object) || ends_call s p NoAct (queue c h p.object)) (parked c h s) (is_some_and (λ w. eqb w.session s) (first (waiters h x.object)))
+    (λ p is. or_rests (is_posted (cond (eqb x.object p.object) Posts NoSemaphoreAct) p.kind p.place (semaphore h p.object)) s p (queue c h p.object) ∙ post_ends c h x.object s p legal is)
 
 -- a wait parks its session if the value is 0, and ends no call
 pub parked_by_wait : (c : Config) (h : History) (sid : Sid) (desc : Desc) (x : Held) (s : ℕ) → holds h sid.0 desc.0 ≡ Some x → parked c (record { event = Do sid (SemWait desc); rule = None } ∷ h) s ≡ cond (eqb sid.0 s && is_zero c h x.object) (Some (record { object = x.object; place = length h; kind = Waiting })) (parked c h s)
 unfolding parked
 parked_by_wait c h sid desc x s k =
-    ap (λ y. option_or (cond (eqb sid.0 s) (option_and_then (parked_on (is_zero c h) Waiting (length h)) y) None) (kept (λ p. is_posted (cond (gives_object p.object y) (Waits (record { place = length h; session = sid.0; desc = desc.0 })) Idles) p.kind p.place (semaphore h p.object) || ends_call s p Rests (queue c h p.object)) (parked c h s))) k
+    ap (λ y. option_or (cond (eqb sid.0 s) (option_and_then (parked_on (is_zero c h) Waiting (length h)) y) None) (unless (λ p. is_posted (cond (gives_object p.object y) (Waits (record { place = length h; session = sid.0; desc = desc.0 })) NoSemaphoreAct) p.kind p.place (semaphore h p.object) || ends_call s p NoAct (queue c h p.object)) (parked c h s))) k
     ∙ ap (option_or (cond (eqb sid.0 s) (cond (is_zero c h x.object) (Some (record { object = x.object; place = length h; kind = Waiting })) None) None))
-    (kept_same (λ p. is_posted (cond (eqb x.object p.object) (Waits (record { place = length h; session = sid.0; desc = desc.0 })) Idles) p.kind p.place (semaphore h p.object) || ends_call s p Rests (queue c h p.object)) (parked c h s)
+    (kept_same (λ p. is_posted (cond (eqb x.object p.object) (Waits (record { place = length h; session = sid.0; desc = desc.0 })) NoSemaphoreAct) p.kind p.place (semaphore h p.object) || ends_call s p NoAct (queue c h p.object)) (parked c h s)
     (λ p is. not_posted (eqb x.object p.object) (Waits (record { place = length h; session = sid.0; desc = desc.0 })) (λ kind i u. refl) s p (semaphore h p.object) (queue c h p.object)))
     ∙ or_here (eqb sid.0 s) (is_zero c h x.object) (record { object = x.object; place = length h; kind = Waiting }) (parked c h s)
 
@@ -146,5 +146,5 @@ parked_by_wait c h sid desc x s k =
 pub parked_by_try : (c : Config) (h : History) (sid : Sid) (desc : Desc) (s : ℕ) → parked c (record { event = Do sid (SemTryWait desc); rule = None } ∷ h) s ≡ parked c h s
 unfolding parked
 parked_by_try c h sid desc s =
-    kept_same (λ p. is_posted (cond (gives_object p.object (holds h sid.0 desc.0)) Tries Idles) p.kind p.place (semaphore h p.object) || ends_call s p Rests (queue c h p.object)) (parked c h s)
+    kept_same (λ p. is_posted (cond (gives_object p.object (holds h sid.0 desc.0)) Tries NoSemaphoreAct) p.kind p.place (semaphore h p.object) || ends_call s p NoAct (queue c h p.object)) (parked c h s)
     (λ p is. not_posted (gives_object p.object (holds h sid.0 desc.0)) Tries (λ kind i u. refl) s p (semaphore h p.object) (queue c h p.object))

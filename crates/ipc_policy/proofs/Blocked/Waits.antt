@@ -10,8 +10,8 @@ use Rattle.ipc_policy.specs.declared.config.Held.{Held}
 use Rattle.ipc_policy.specs.History.{History}
 use Rattle.ipc_policy.specs.Descriptions.{holds}
 use Rattle.ipc_policy.specs.Life.{gives_object}
-use Rattle.ipc_policy.specs.Queues.{Wait, Act, Sends, Receives, Rests, Queue, act}
-use Rattle.ipc_policy.specs.Semaphores.{SemaphoreAct, Posts, Waits, Tries, Cancels, Idles, Semaphore, semaphore_act}
+use Rattle.ipc_policy.specs.Queues.{Waiter, Act, Sends, Receives, NoAct, Queue, act}
+use Rattle.ipc_policy.specs.Semaphores.{SemaphoreAct, Posts, Waits, Tries, WithdrawsWait, NoSemaphoreAct, Semaphore, semaphore_act}
 use Rattle.ipc_policy.specs.Parking.{Sending, Receiving, Waiting, withdraws, ends_call, is_posted}
 use Rattle.ipc_policy.specs.Readings.{ends_wait}
 
@@ -28,7 +28,7 @@ or_neither true b e f = absurd cc
 or_neither false b e f = f
 
 -- an event that waits for semaphore o
-pub record WaitOf (o : ℕ) (e : Event) (h : History) (w : Wait) : Type 0 where
+pub record WaitOf (o : ℕ) (e : Event) (h : History) (w : Waiter) : Type 0 where
   pub sid : Sid
   pub desc : Desc
   pub x : Held
@@ -37,16 +37,16 @@ pub record WaitOf (o : ℕ) (e : Event) (h : History) (w : Wait) : Type 0 where
   pub object : x.object ≡ o
   pub wait : w ≡ record { place = length h; session = sid.0; desc = desc.0 }
 
-not_waits : (b : Bool) (a : SemaphoreAct) (w : Wait) → (a ≡ Waits w → ⊥) → cond b a Idles ≡ Waits w → ⊥
+not_waits : (b : Bool) (a : SemaphoreAct) (w : Waiter) → (a ≡ Waits w → ⊥) → cond b a NoSemaphoreAct ≡ Waits w → ⊥
 not_waits true a w h e = h e
 not_waits false a w h e = cc
 
-pub act_waits : (o : ℕ) (e : Event) (h : History) (w : Wait) → semaphore_act o e h ≡ Waits w → WaitOf o e h w
+pub act_waits : (o : ℕ) (e : Event) (h : History) (w : Waiter) → semaphore_act o e h ≡ Waits w → WaitOf o e h w
 act_waits o (Do sid (SemWait desc)) h w k = at (holds h sid.0 desc.0) refl k where
-  at : (y : Option Held) → holds h sid.0 desc.0 ≡ y → cond (gives_object o y) (Waits (record { place = length h; session = sid.0; desc = desc.0 })) Idles ≡ Waits w → WaitOf o (Do sid (SemWait desc)) h w
+  at : (y : Option Held) → holds h sid.0 desc.0 ≡ y → cond (gives_object o y) (Waits (record { place = length h; session = sid.0; desc = desc.0 })) NoSemaphoreAct ≡ Waits w → WaitOf o (Do sid (SemWait desc)) h w
   at None q j = absurd cc
   at (Some x) q j = same (eqb x.object o) refl j where
-    same : (b : Bool) → eqb x.object o ≡ b → cond b (Waits (record { place = length h; session = sid.0; desc = desc.0 })) Idles ≡ Waits w → WaitOf o (Do sid (SemWait desc)) h w
+    same : (b : Bool) → eqb x.object o ≡ b → cond b (Waits (record { place = length h; session = sid.0; desc = desc.0 })) NoSemaphoreAct ≡ Waits w → WaitOf o (Do sid (SemWait desc)) h w
     same true p i = record { sid = sid; desc = desc; x = x; event = refl; held = q; object = eqb-true _ _ p; wait = cc }
     same false p i = absurd cc
 act_waits o (Do sid (SemPost desc)) h w k = absurd (not_waits (gives_object o (holds h sid.0 desc.0)) Posts w (λ j. cc) k)
@@ -64,16 +64,16 @@ pub record PostOf (o : ℕ) (e : Event) (h : History) : Type 0 where
   pub held : holds h sid.0 desc.0 ≡ Some x
   pub object : x.object ≡ o
 
-not_posts : (b : Bool) (a : SemaphoreAct) → (a ≡ Posts → ⊥) → cond b a Idles ≡ Posts → ⊥
+not_posts : (b : Bool) (a : SemaphoreAct) → (a ≡ Posts → ⊥) → cond b a NoSemaphoreAct ≡ Posts → ⊥
 not_posts true a h e = h e
 not_posts false a h e = cc
 
 pub act_posts : (o : ℕ) (e : Event) (h : History) → semaphore_act o e h ≡ Posts → PostOf o e h
 act_posts o (Do sid (SemPost desc)) h k = at (holds h sid.0 desc.0) refl k where
-  at : (y : Option Held) → holds h sid.0 desc.0 ≡ y → cond (gives_object o y) Posts Idles ≡ Posts → PostOf o (Do sid (SemPost desc)) h
+  at : (y : Option Held) → holds h sid.0 desc.0 ≡ y → cond (gives_object o y) Posts NoSemaphoreAct ≡ Posts → PostOf o (Do sid (SemPost desc)) h
   at None q j = absurd cc
   at (Some x) q j = same (eqb x.object o) refl j where
-    same : (b : Bool) → eqb x.object o ≡ b → cond b Posts Idles ≡ Posts → PostOf o (Do sid (SemPost desc)) h
+    same : (b : Bool) → eqb x.object o ≡ b → cond b Posts NoSemaphoreAct ≡ Posts → PostOf o (Do sid (SemPost desc)) h
     same true p i = record { sid = sid; desc = desc; x = x; event = refl; held = q; object = eqb-true _ _ p }
     same false p i = absurd cc
 act_posts o (Do sid (SemWait desc)) h k = absurd (not_posts (gives_object o (holds h sid.0 desc.0)) _ (λ j. cc) k)
@@ -91,16 +91,16 @@ pub record TryOf (o : ℕ) (e : Event) (h : History) : Type 0 where
   pub held : holds h sid.0 desc.0 ≡ Some x
   pub object : x.object ≡ o
 
-not_tries : (b : Bool) (a : SemaphoreAct) → (a ≡ Tries → ⊥) → cond b a Idles ≡ Tries → ⊥
+not_tries : (b : Bool) (a : SemaphoreAct) → (a ≡ Tries → ⊥) → cond b a NoSemaphoreAct ≡ Tries → ⊥
 not_tries true a h e = h e
 not_tries false a h e = cc
 
 pub act_tries : (o : ℕ) (e : Event) (h : History) → semaphore_act o e h ≡ Tries → TryOf o e h
 act_tries o (Do sid (SemTryWait desc)) h k = at (holds h sid.0 desc.0) refl k where
-  at : (y : Option Held) → holds h sid.0 desc.0 ≡ y → cond (gives_object o y) Tries Idles ≡ Tries → TryOf o (Do sid (SemTryWait desc)) h
+  at : (y : Option Held) → holds h sid.0 desc.0 ≡ y → cond (gives_object o y) Tries NoSemaphoreAct ≡ Tries → TryOf o (Do sid (SemTryWait desc)) h
   at None q j = absurd cc
   at (Some x) q j = same (eqb x.object o) refl j where
-    same : (b : Bool) → eqb x.object o ≡ b → cond b Tries Idles ≡ Tries → TryOf o (Do sid (SemTryWait desc)) h
+    same : (b : Bool) → eqb x.object o ≡ b → cond b Tries NoSemaphoreAct ≡ Tries → TryOf o (Do sid (SemTryWait desc)) h
     same true p i = record { sid = sid; desc = desc; x = x; event = refl; held = q; object = eqb-true _ _ p }
     same false p i = absurd cc
 act_tries o (Do sid (SemPost desc)) h k = absurd (not_tries (gives_object o (holds h sid.0 desc.0)) Posts (λ j. cc) k)
@@ -111,30 +111,30 @@ act_tries o (Hangup sid) h k = absurd cc
 
 -- an act that cancels the parked wait of session s
 abbrev pub cancels : ℕ → SemaphoreAct → Bool
-cancels s (Cancels t) = eqb s t
+cancels s (WithdrawsWait t) = eqb s t
 cancels s _ = false
 
 -- what withdraws from queues withdraws from semaphores
 pub withdraws_alike : (o : ℕ) (e : Event) (h : History) (s : ℕ) → withdraws s (act o e h) ≡ cancels s (semaphore_act o e h)
 withdraws_alike o (Hello found) h s = refl
 withdraws_alike o (Do sid (MqSend desc priority bytes)) h s = at (gives_object o (holds h sid.0 desc.0)) where
-  at : (b : Bool) → withdraws s (cond b (Sends (record { place = length h; session = sid.0; desc = desc.0; priority = priority; bytes = bytes })) Rests) ≡ false
+  at : (b : Bool) → withdraws s (cond b (Sends (record { place = length h; session = sid.0; desc = desc.0; priority = priority; bytes = bytes })) NoAct) ≡ false
   at true = refl
   at false = refl
 withdraws_alike o (Do sid (MqReceive desc length')) h s = at (gives_object o (holds h sid.0 desc.0)) where
-  at : (b : Bool) → withdraws s (cond b (Receives (record { place = length h; session = sid.0; desc = desc.0 })) Rests) ≡ false
+  at : (b : Bool) → withdraws s (cond b (Receives (record { place = length h; session = sid.0; desc = desc.0 })) NoAct) ≡ false
   at true = refl
   at false = refl
 withdraws_alike o (Do sid (SemPost desc)) h s = at (gives_object o (holds h sid.0 desc.0)) where
-  at : (b : Bool) → false ≡ cancels s (cond b Posts Idles)
+  at : (b : Bool) → false ≡ cancels s (cond b Posts NoSemaphoreAct)
   at true = refl
   at false = refl
 withdraws_alike o (Do sid (SemWait desc)) h s = at (gives_object o (holds h sid.0 desc.0)) where
-  at : (b : Bool) → false ≡ cancels s (cond b (Waits (record { place = length h; session = sid.0; desc = desc.0 })) Idles)
+  at : (b : Bool) → false ≡ cancels s (cond b (Waits (record { place = length h; session = sid.0; desc = desc.0 })) NoSemaphoreAct)
   at true = refl
   at false = refl
 withdraws_alike o (Do sid (SemTryWait desc)) h s = at (gives_object o (holds h sid.0 desc.0)) where
-  at : (b : Bool) → false ≡ cancels s (cond b Tries Idles)
+  at : (b : Bool) → false ≡ cancels s (cond b Tries NoSemaphoreAct)
   at true = refl
   at false = refl
 withdraws_alike o (Do sid Interrupt) h s = refl
@@ -146,24 +146,24 @@ pub posts_no_send : (b : SemaphoreAct) (i : ℕ) (u : Semaphore) → is_posted b
 posts_no_send Posts i u = refl
 posts_no_send (Waits w) i u = refl
 posts_no_send Tries i u = refl
-posts_no_send (Cancels s) i u = refl
-posts_no_send Idles i u = refl
+posts_no_send (WithdrawsWait s) i u = refl
+posts_no_send NoSemaphoreAct i u = refl
 
 pub posts_no_receive : (b : SemaphoreAct) (i : ℕ) (u : Semaphore) → is_posted b Receiving i u ≡ false
 posts_no_receive Posts i u = refl
 posts_no_receive (Waits w) i u = refl
 posts_no_receive Tries i u = refl
-posts_no_receive (Cancels s) i u = refl
-posts_no_receive Idles i u = refl
+posts_no_receive (WithdrawsWait s) i u = refl
+posts_no_receive NoSemaphoreAct i u = refl
 
 -- a parked wait is ended by its session's withdrawal, and by a post
 stays_waiting : (b d : Bool) → b ≡ d → d ≡ false → (b || false) ≡ false
 stays_waiting true d e f = absurd cc
 stays_waiting false d e f = refl
 
-pub not_ended_wait : (o : ℕ) (w : Wait) (b : SemaphoreAct) (u : Semaphore) (a : Act) (q : Queue) → withdraws w.session a ≡ cancels w.session b → ends_wait w b u ≡ false → (is_posted b Waiting w.place u || ends_call w.session (record { object = o; place = w.place; kind = Waiting }) a q) ≡ false
+pub not_ended_wait : (o : ℕ) (w : Waiter) (b : SemaphoreAct) (u : Semaphore) (a : Act) (q : Queue) → withdraws w.session a ≡ cancels w.session b → ends_wait w b u ≡ false → (is_posted b Waiting w.place u || ends_call w.session (record { object = o; place = w.place; kind = Waiting }) a q) ≡ false
 not_ended_wait o w Posts u a q alike e = or_neither _ _ e (stays_waiting _ _ alike refl)
 not_ended_wait o w (Waits v) u a q alike e = stays_waiting _ _ alike refl
 not_ended_wait o w Tries u a q alike e = stays_waiting _ _ alike refl
-not_ended_wait o w (Cancels s) u a q alike e = stays_waiting _ _ alike e
-not_ended_wait o w Idles u a q alike e = stays_waiting _ _ alike refl
+not_ended_wait o w (WithdrawsWait s) u a q alike e = stays_waiting _ _ alike e
+not_ended_wait o w NoSemaphoreAct u a q alike e = stays_waiting _ _ alike refl

@@ -18,7 +18,7 @@ use Rattle.ipc_terms.specs.declared.facts.Facts.{Facts}
 use Rattle.ipc_access.specs.declared.class.Cred.{Cred}
 use Rattle.ipc_access.specs.Users.{cred_of}
 use Rattle.ipc_policy.specs.declared.config.Config.{Config}
-use Rattle.ipc_policy.specs.History.{History, newest, there_is}
+use Rattle.ipc_policy.specs.History.{History, newest, is_some_and}
 use Rattle.ipc_policy.specs.Sessions.{user, live, cred, mask}
 use Rattle.ipc_policy.specs.Names.{Opening, queue_opening, semaphore_opening, creating, creation, creations, bound}
 use Rattle.ipc_policy.specs.Objects.{creation_of, makes, made_by, first_facts, sets_first, sets_owner, sets_group, sets_mode, owner_given, group_given, mode_given, means_object, object_bits, together, object, owner, group, mode, facts}
@@ -114,7 +114,7 @@ bound_made c h f name o legal e =
     (object_known c h legal o below, facts_known c h legal o below)
 
 -- a target that means an object is a name that is bound to it
-named_at : (o : ℕ) (w : Option ℕ) → there_is (λ n. n == o) w ≡ true → w ≡ Some o
+named_at : (o : ℕ) (w : Option ℕ) → is_some_and (λ n. n == o) w ≡ true → w ≡ Some o
 named_at o None e = absurd cc
 named_at o (Some n) e = ap Some (eqb-true n o e)
 

@@ -12,14 +12,14 @@ use Rattle.ipc_terms.specs.declared.record.Event.{Event}
 use Rattle.ipc_terms.specs.declared.record.Event.TheVariants.{Hello, Do, Hangup}
 use Rattle.ipc_policy.specs.declared.config.Config.{Config}
 use Rattle.ipc_policy.specs.declared.config.Held.{Held}
-use Rattle.ipc_policy.specs.History.{History, kept}
+use Rattle.ipc_policy.specs.History.{History}
 use Rattle.ipc_policy.specs.Names.{Opening, queue_opening, semaphore_opening, unlinks, asks_name, is_bound, creations, bound}
 use Rattle.ipc_policy.specs.Descriptions.{opened, held_as, opens, if_of, held, holds, ends_held}
 use Rattle.ipc_policy.specs.Life.{gives_object}
 use Rattle.ipc_policy.specs.Queues.{act_by, queue, empty_queue, queue_after, maxmsg}
 use Rattle.ipc_policy.specs.Semaphores.{semaphore_act_by, semaphore_after, with_first, no_semaphore, semaphore}
 use Rattle.ipc_policy.specs.Grow.{is_new, first_value, creations_after, bound_after, held_after}
-use Rattle.ipc_policy.proofs.Holdings.Holding.{held_grows}
+use Rattle.ipc_policy.proofs.Holdings.Holding.{kept_is, held_grows}
 use Rattle.ipc_policy.proofs.Histories.Growing.{creations_grow, bound_grows}
 use Rattle.ipc_policy.proofs.Queues.Queueing.{queue_grows, refused_queue, semaphore_grows, refused_semaphore}
 use Rattle.ipc_policy.proofs.Histories.Known.{bound_iff}
@@ -90,13 +90,6 @@ held_open : (n m : ℕ) (b : Bool) (o : Option ℕ) (w : Option Held) (asked : O
 held_open n m true None w asked x known le lt e = let less = known x e in omega arith
 held_open n m true (Some i) w asked x known le lt e = let same : held_as asked i ≡ x = cc in subst (λ (y : Held). y.object < m) same (lt i refl)
 held_open n m false o w asked x known le lt e = let less = known x e in omega arith
-
-kept_is : (p : Held → Bool) (w : Option Held) (x : Held) → kept p w ≡ Some x → w ≡ Some x
-kept_is p None x e = absurd cc
-kept_is p (Some y) x e = at (p y) e where
-  at : (b : Bool) → cond b None (Some y) ≡ Some x → Some y ≡ Some x
-  at true k = absurd cc
-  at false k = k
 
 count_le : (n : ℕ) (b : Bool) → n ≤ cond b (n + 1) n
 count_le n true = omega arith

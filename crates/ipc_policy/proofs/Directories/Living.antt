@@ -1,6 +1,6 @@
 -- What an accepted event does to the names in order, and to which objects are alive.
 use Rattle.std.proofs.Common.{◌≡◌, ℕ, ◌+◌, ◌<◌, Bool, true, false, not, ◌&&◌, ◌||◌, eqb, cond, List, [], ◌∷◌, ◌++◌, map, filter, Option, Some, None, is_some, refl, sym, ap, ◌∙◌, arith}
-use Rattle.std.specs.Option.{option_or}
+use Rattle.std.specs.Option.{option_or, option_to_list}
 use Rattle.std.proofs.lemmas.Bool.{eqb-true, eq-eqb, ne_eqb}
 use Rattle.std.proofs.lemmas.List.{map_push}
 use Rattle.ipc_terms.specs.Names.{same_family, same_name}
@@ -11,7 +11,7 @@ use Rattle.ipc_terms.specs.declared.rule.Rule.{Rule}
 use Rattle.ipc_terms.specs.declared.call.Call.TheVariants.{Umask, MqOpen, MqClose, MqSend, MqReceive, MqGetattr, MqSetattr, MqNotify, MqUnlink, SemOpen, SemClose, SemUnlink, SemPost, SemWait, SemTryWait, SemGetvalue, ListNames, StatName, Chmod, Chown, SetLimit, Interrupt, Audit}
 use Rattle.ipc_terms.specs.declared.record.Event.{Event}
 use Rattle.ipc_terms.specs.declared.record.Event.TheVariants.{Hello, Do, Hangup}
-use Rattle.ipc_policy.specs.History.{History, kept, unended, listed, gathered_below, any_below}
+use Rattle.ipc_policy.specs.History.{History, unless, unended, gathered_below, any_below}
 use Rattle.ipc_policy.specs.Names.{queue_opening, semaphore_opening, Opening, unlinks, is_bound, creating, creations, bound}
 use Rattle.ipc_policy.specs.Objects.{creation_of}
 use Rattle.ipc_policy.specs.Descriptions.{opens, held}
@@ -29,7 +29,7 @@ none_or : {A : Type 0} (b : Bool) (w : Option A) → option_or (cond b None None
 none_or true w = refl
 none_or false w = refl
 
-opened_or : (b d : Bool) (x : Opening) (w : Option Opening) → option_or (cond b (cond d (Some x) None) None) (kept (λ y. false) w) ≡ cond (d && b) (Some x) w
+opened_or : (b d : Bool) (x : Opening) (w : Option Opening) → option_or (cond b (cond d (Some x) None) None) (unless (λ y. false) w) ≡ cond (d && b) (Some x) w
 opened_or true true x w = refl
 opened_or true false x w = kept_all w
 opened_or false true x w = kept_all w
@@ -37,14 +37,14 @@ opened_or false false x w = kept_all w
 
 pub named_grows : (h : History) (e : Event) (o : ℕ) → named (record { event = e; rule = None } ∷ h) o ≡ named_after o e (is_bound h) (creations h) (named h o)
 unfolding named creating
-named_grows h (Hello found) o = none_or (eqb (creations h) o) (kept (λ x. false) (named_so_far h o))
+named_grows h (Hello found) o = none_or (eqb (creations h) o) (unless (λ x. false) (named_so_far h o))
 named_grows h (Do sid (MqOpen asked)) o = opened_or (eqb (creations h) o) (is_new (queue_opening sid asked) (is_bound h)) (queue_opening sid asked) (named_so_far h o)
 named_grows h (Do sid (SemOpen asked)) o = opened_or (eqb (creations h) o) (is_new (semaphore_opening sid asked) (is_bound h)) (semaphore_opening sid asked) (named_so_far h o)
-named_grows h (Do sid call) o = none_or (eqb (creations h) o) (kept (λ asked. unlinks asked.family asked.name (Do sid call)) (named_so_far h o))
-named_grows h (Hangup sid) o = none_or (eqb (creations h) o) (kept (λ x. false) (named_so_far h o))
+named_grows h (Do sid call) o = none_or (eqb (creations h) o) (unless (λ asked. unlinks asked.family asked.name (Do sid call)) (named_so_far h o))
+named_grows h (Hangup sid) o = none_or (eqb (creations h) o) (unless (λ x. false) (named_so_far h o))
 
 -- only what was created has a name
-named_at : (n o : ℕ) (b : Bool) → eqb n o ≡ b → (w v : Option Opening) (p : Opening → Bool) → (is_some v ≡ true → o < n) → is_some (option_or (cond b w None) (kept p v)) ≡ true → o < cond (is_some w) (n + 1) n
+named_at : (n o : ℕ) (b : Bool) → eqb n o ≡ b → (w v : Option Opening) (p : Opening → Bool) → (is_some v ≡ true → o < n) → is_some (option_or (cond b w None) (unless p v)) ≡ true → o < cond (is_some w) (n + 1) n
 named_at n o true e None v p known k = known (kept_some p v k)
 named_at n o true e (Some x) v p known k = let at : n ≡ o = eqb-true _ _ e in omega arith
 named_at n o false e None v p known k = known (kept_some p v k)
@@ -92,11 +92,11 @@ binding_kept : (f : Family) (o : ℕ) (b : Bool) (asked : Opening) → binding_o
 binding_kept f o true asked = refl
 binding_kept f o false asked = refl
 
-binding_taken : (u f : Family) (name : List ℕ) (o : ℕ) (w : Option Opening) → binding_of f o (kept (λ asked. same_family u asked.family && same_name asked.name name) w) ≡ passing (λ x. not (taken u f name x)) (binding_of f o w)
+binding_taken : (u f : Family) (name : List ℕ) (o : ℕ) (w : Option Opening) → binding_of f o (unless (λ asked. same_family u asked.family && same_name asked.name name) w) ≡ passing (λ x. not (taken u f name x)) (binding_of f o w)
 binding_taken u f name o None = refl
 binding_taken u f name o (Some asked) = binding_kept f o (same_family u asked.family && same_name asked.name name) asked ∙ taken_at u f asked.family asked.name name o (same_name asked.name name) refl
 
-bindings_unlinked : (h : History) (e : Event) (u : Family) (name : List ℕ) → creations_after e (is_bound h) (creations h) ≡ creations h → ((o : ℕ) → named_after o e (is_bound h) (creations h) (named h o) ≡ kept (λ asked. same_family u asked.family && same_name asked.name name) (named h o)) → (f : Family) → bindings (record { event = e; rule = None } ∷ h) f ≡ filter (λ x. not (taken u f name x)) (bindings h f)
+bindings_unlinked : (h : History) (e : Event) (u : Family) (name : List ℕ) → creations_after e (is_bound h) (creations h) ≡ creations h → ((o : ℕ) → named_after o e (is_bound h) (creations h) (named h o) ≡ unless (λ asked. same_family u asked.family && same_name asked.name name) (named h o)) → (f : Family) → bindings (record { event = e; rule = None } ∷ h) f ≡ filter (λ x. not (taken u f name x)) (bindings h f)
 unfolding bindings
 bindings_unlinked h e u name n after f =
     ap (gathered_below (λ o. binding_of f o (named (record { event = e; rule = None } ∷ h) o))) (creations_grow h e ∙ n)
@@ -107,7 +107,7 @@ pub append_none : {A : Type 0} (xs : List A) → xs ++ [] ≡ xs
 append_none [] = refl
 append_none (x ∷ xs) = ap (λ l. x ∷ l) (append_none xs)
 
-pushed_if : (b : Bool) (x : Binding) (xs : List Binding) → xs ++ listed (cond b (Some x) None) ≡ cond b (xs ++ x ∷ []) xs
+pushed_if : (b : Bool) (x : Binding) (xs : List Binding) → xs ++ option_to_list (cond b (Some x) None) ≡ cond b (xs ++ x ∷ []) xs
 pushed_if true x xs = refl
 pushed_if false x xs = append_none xs
 
@@ -130,7 +130,7 @@ bindings_created h e asked n after f true new =
     gathered_more (λ o. binding_of f o (named (record { event = e; rule = None } ∷ h) o)) (λ o. binding_of f o (named h o)) (creations (record { event = e; rule = None } ∷ h)) (creations h)
     (creations_grow h e ∙ n ∙ rw new refl)
     (λ o lt. ap (binding_of f o) (named_other h e asked after o lt))
-    ∙ ap (λ w. gathered_below (λ o. binding_of f o (named h o)) (creations h) ++ listed (binding_of f (creations h) w)) (named_new h e asked after new)
+    ∙ ap (λ w. gathered_below (λ o. binding_of f o (named h o)) (creations h) ++ option_to_list (binding_of f (creations h) w)) (named_new h e asked after new)
     ∙ pushed_if (same_family asked.family f) (record { name = asked.name; object = creations h }) (gathered_below (λ o. binding_of f o (named h o)) (creations h))
 bindings_created h e asked n after f false new = bindings_same h _ f (creations_grow h e ∙ n ∙ rw new refl) (λ o lt. named_grows h e o ∙ after o ∙ rw new refl)
 

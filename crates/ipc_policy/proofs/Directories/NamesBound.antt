@@ -10,7 +10,7 @@ use Rattle.ipc_terms.specs.declared.binding.Binding.{Binding}
 use Rattle.ipc_terms.specs.declared.ids.Family.{Family}
 use Rattle.ipc_terms.specs.declared.rule.Rule.{Rule}
 use Rattle.ipc_terms.specs.declared.record.Event.{Event}
-use Rattle.ipc_policy.specs.History.{History, kept, there_is}
+use Rattle.ipc_policy.specs.History.{History, unless, is_some_and}
 use Rattle.ipc_policy.specs.Names.{Opening, Naming, opening, unlinking, asks_name, unlinks, is_bound, creations, bound}
 use Rattle.ipc_policy.specs.Life.{named, bindings, names}
 use Rattle.ipc_policy.specs.Grow.{is_new, bound_after, named_after, names_after}
@@ -23,10 +23,10 @@ use Rattle.ipc_policy.proofs.Directories.Living.{named_grows, names_grow}
 
 -- an object is named so, and a name is bound to it
 abbrev has_name : Family → List ℕ → Option Opening → Bool
-has_name f name w = there_is (λ asked. asks_name asked f name) w
+has_name f name w = is_some_and (λ asked. asks_name asked f name) w
 
 abbrev is_at : ℕ → Option ℕ → Bool
-is_at o v = there_is (λ n. eqb n o) v
+is_at o v = is_some_and (λ n. eqb n o) v
 
 -- an unlink of the name takes both
 same_unlink : (asked : Opening) (f : Family) (name : List ℕ) (e : Event) → asks_name asked f name ≡ true → unlinks asked.family asked.name e ≡ unlinks f name e
@@ -52,7 +52,7 @@ false_either : (u : Bool) (x : Bool) → false ≡ x → false ≡ cond u false 
 false_either true x k = refl
 false_either false x k = k
 
-tied_unlinked : (f : Family) (name : List ℕ) (e : Event) (o : ℕ) (w : Option Opening) (v : Option ℕ) → has_name f name w ≡ is_at o v → has_name f name (kept (λ asked. unlinks asked.family asked.name e) w) ≡ is_at o (cond (unlinks f name e) None v)
+tied_unlinked : (f : Family) (name : List ℕ) (e : Event) (o : ℕ) (w : Option Opening) (v : Option ℕ) → has_name f name w ≡ is_at o v → has_name f name (unless (λ asked. unlinks asked.family asked.name e) w) ≡ is_at o (cond (unlinks f name e) None v)
 tied_unlinked f name e o None v known = false_either (unlinks f name e) (is_at o v) known ∙ sym (at_unless (unlinks f name e) o v)
 tied_unlinked f name e o (Some asked) v known = at_kept (unlinks asked.family asked.name e) f name asked ∙ unlinked_some (asks_name asked f name) (unlinks asked.family asked.name e) (unlinks f name e) (is_at o v) (same_unlink asked f name e) known ∙ sym (at_unless (unlinks f name e) o v)
 

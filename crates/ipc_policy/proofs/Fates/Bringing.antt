@@ -1,7 +1,7 @@
 -- The answers to an event bring what it delivers, and no other message.
 use Rattle.std.proofs.Common.{◌≡◌, ℕ, Bool, true, false, eqb, List, [], ◌∷◌, ◌++◌, length, cond, Option, Some, None, is_some, is_none, refl, sym, ap, ◌∙◌}
 use Rattle.std.specs.Prelude.{option_and_then}
-use Rattle.std.specs.Option.{option_map}
+use Rattle.std.specs.Option.{option_map, option_to_list}
 use Rattle.std.proofs.lemmas.Bool.{eq-eqb}
 use Rattle.ipc_terms.specs.Lists.{first}
 use Rattle.ipc_terms.specs.declared.rule.Rule.{Rule}
@@ -17,13 +17,13 @@ use Rattle.ipc_terms.specs.declared.record.Event.TheVariants.{Hello, Do, Hangup}
 use Rattle.ipc_policy.specs.declared.config.Config.{Config}
 use Rattle.ipc_policy.specs.declared.config.Held.{Held}
 use Rattle.ipc_policy.specs.declared.config.Registration.{Registration}
-use Rattle.ipc_policy.specs.History.{History, listed}
+use Rattle.ipc_policy.specs.History.{History}
 use Rattle.ipc_policy.specs.Descriptions.{holds, is_nonblock}
 use Rattle.ipc_policy.specs.Life.{gives_object}
-use Rattle.ipc_policy.specs.Queues.{Send, Wait, Act, Sends, Receives, Rests, Queue, has_all, next, act, queue, maxmsg, attributes, contents, receivers, is_full}
+use Rattle.ipc_policy.specs.Queues.{Send, Waiter, Act, Sends, Receives, NoAct, Queue, is_filled, next, act, queue, maxmsg, attributes, contents, receivers, is_full}
 use Rattle.ipc_policy.specs.Semaphores.{value, waiters, is_zero}
 use Rattle.ipc_policy.specs.Registrations.{is_idle, registered}
-use Rattle.ipc_policy.specs.Verdict.{verdict, facts_meant, told, answers_of, given, noticed, received, let_in, let_through, send_answers, receive_answers, accepted_answers, answers_at, answers}
+use Rattle.ipc_policy.specs.Verdict.{verdict, facts_meant, stat_answers, answers_of, receiver_answers, noticed, received, sender_answers, waiter_answers, send_answers, receive_answers, accepted_answers, answers_at, answers}
 use Rattle.ipc_policy.specs.Deliveries.{delivers, object_asked, delivery}
 use Rattle.ipc_policy.specs.Confined.{brought, brings, EachAnswerIsDelivered}
 use Rattle.ipc_policy.proofs.Queues.ActsOf.{held_queue}
@@ -34,7 +34,7 @@ none_of_held : (w : Option Held) (f : ℕ → List (Sid × Answer)) → ((o : �
 none_of_held None f none = refl
 none_of_held (Some x) f none = none x.object
 
-none_told : (sid : Sid) (w : Option Facts) → brought (told sid w) ≡ []
+none_told : (sid : Sid) (w : Option Facts) → brought (stat_answers sid w) ≡ []
 none_told sid None = refl
 none_told sid (Some at) = refl
 
@@ -46,11 +46,11 @@ none_if : (b : Bool) (answered : List (Sid × Answer)) → brought answered ≡ 
 none_if true answered none = none
 none_if false answered none = refl
 
-none_let_in : (w : Option Send) → brought (let_in w) ≡ []
+none_let_in : (w : Option Send) → brought (sender_answers w) ≡ []
 none_let_in None = refl
 none_let_in (Some m) = refl
 
-none_let_through : (w : Option Wait) → brought (let_through w) ≡ []
+none_let_through : (w : Option Waiter) → brought (waiter_answers w) ≡ []
 none_let_through None = refl
 none_let_through (Some v) = refl
 
@@ -76,43 +76,43 @@ none_of_attributes c h sid d None = refl
 none_of_attributes c h sid d (Some x) = none_of_queue c h sid d x.object (attributes c h x.object)
 
 -- an event that does nothing to what it asks of delivers nothing
-delivers_none : (w : Option ℕ) → listed (option_map brings (option_and_then (λ o. None) w)) ≡ []
+delivers_none : (w : Option ℕ) → option_to_list (option_map brings (option_and_then (λ o. None) w)) ≡ []
 delivers_none None = refl
 delivers_none (Some o) = refl
 
 -- a send: the receive that it serves, if there is one
-send_served : (n o : ℕ) (m : Send) (q : Queue) (sid : Sid) (notice : List (Sid × Answer)) → brought notice ≡ [] → brought (cond (has_all n q.contents) [] ((sid, Sent) ∷ given m.priority m.bytes (first q.receivers) ++ notice)) ≡ listed (option_map brings (delivers n o (Sends m) q))
-send_served n o m q sid notice none = at (has_all n q.contents) (first q.receivers) where
-  at : (b : Bool) (w : Option Wait) → brought (cond b [] ((sid, Sent) ∷ given m.priority m.bytes w ++ notice)) ≡ listed (option_map brings (cond b None (option_map (λ v. record { object = o; message = m; receive = v }) w)))
+send_served : (n o : ℕ) (m : Send) (q : Queue) (sid : Sid) (notice : List (Sid × Answer)) → brought notice ≡ [] → brought (cond (is_filled n q.contents) [] ((sid, Sent) ∷ receiver_answers m.priority m.bytes (first q.receivers) ++ notice)) ≡ option_to_list (option_map brings (delivers n o (Sends m) q))
+send_served n o m q sid notice none = at (is_filled n q.contents) (first q.receivers) where
+  at : (b : Bool) (w : Option Waiter) → brought (cond b [] ((sid, Sent) ∷ receiver_answers m.priority m.bytes w ++ notice)) ≡ option_to_list (option_map brings (cond b None (option_map (λ v. record { object = o; message = m; receive = v }) w)))
   at true w = refl
   at false None = none
   at false (Some v) = ap (λ rest. record { session = v.session; priority = m.priority; bytes = m.bytes } ∷ rest) none
 
 -- what a call does to the object that its description gives
-act_at : (h : History) (sid : Sid) (desc : Desc) (x : Held) (a : Act) → holds h sid.0 desc.0 ≡ Some x → cond (gives_object x.object (holds h sid.0 desc.0)) a Rests ≡ a
+act_at : (h : History) (sid : Sid) (desc : Desc) (x : Held) (a : Act) → holds h sid.0 desc.0 ≡ Some x → cond (gives_object x.object (holds h sid.0 desc.0)) a NoAct ≡ a
 act_at h sid desc x a k = let here : eqb x.object x.object ≡ true = eq-eqb _ _ refl in rw (k, here) refl
 
-send_brings : (c : Config) (h : History) (sid : Sid) (desc : Desc) (priority : ℕ) (bytes : List ℕ) → None ≡ verdict c h (Do sid (MqSend desc priority bytes)) → (w : Option Held) → holds h sid.0 desc.0 ≡ w → brought (answers_of w (send_answers c h sid priority bytes)) ≡ listed (option_map brings (option_and_then (λ o. delivers (maxmsg c h o) o (act o (Do sid (MqSend desc priority bytes)) h) (queue c h o)) (option_map (λ x. x.object) w)))
+send_brings : (c : Config) (h : History) (sid : Sid) (desc : Desc) (priority : ℕ) (bytes : List ℕ) → None ≡ verdict c h (Do sid (MqSend desc priority bytes)) → (w : Option Held) → holds h sid.0 desc.0 ≡ w → brought (answers_of w (send_answers c h sid priority bytes)) ≡ option_to_list (option_map brings (option_and_then (λ o. delivers (maxmsg c h o) o (act o (Do sid (MqSend desc priority bytes)) h) (queue c h o)) (option_map (λ x. x.object) w)))
 send_brings c h sid desc priority bytes accepted None k = refl
 send_brings c h sid desc priority bytes accepted (Some x) k =
     let queue_there : is_some (attributes c h x.object) ≡ true = held_queue c h sid (MqSend desc priority bytes) desc x accepted refl k in
-    let full : is_full c h x.object ≡ has_all (maxmsg c h x.object) (contents c h x.object) = is_full-at c h x.object queue_there in
-    ap (λ b. brought (cond b [] ((sid, Sent) ∷ given priority bytes (first (receivers c h x.object)) ++ cond (is_idle (queue c h x.object)) (noticed (registered c h x.object)) []))) full
+    let full : is_full c h x.object ≡ is_filled (maxmsg c h x.object) (contents c h x.object) = is_full-at c h x.object queue_there in
+    ap (λ b. brought (cond b [] ((sid, Sent) ∷ receiver_answers priority bytes (first (receivers c h x.object)) ++ cond (is_idle (queue c h x.object)) (noticed (registered c h x.object)) []))) full
     ∙ send_served (maxmsg c h x.object) x.object (record { place = length h; session = sid.0; desc = desc.0; priority = priority; bytes = bytes }) (queue c h x.object) sid (cond (is_idle (queue c h x.object)) (noticed (registered c h x.object)) []) (none_if (is_idle (queue c h x.object)) (noticed (registered c h x.object)) (none_noticed (registered c h x.object)))
-    ∙ ap (λ a. listed (option_map brings (delivers (maxmsg c h x.object) x.object a (queue c h x.object)))) (sym (act_at h sid desc x (Sends (record { place = length h; session = sid.0; desc = desc.0; priority = priority; bytes = bytes })) k))
+    ∙ ap (λ a. option_to_list (option_map brings (delivers (maxmsg c h x.object) x.object a (queue c h x.object)))) (sym (act_at h sid desc x (Sends (record { place = length h; session = sid.0; desc = desc.0; priority = priority; bytes = bytes })) k))
 
 -- a receive: the message that it takes, if there is one
-receive_taken : (n o : ℕ) (v : Wait) (q : Queue) (sid : Sid) → v.session ≡ sid.0 → (w : Option Send) → brought (received sid w (first q.senders)) ≡ listed (option_map brings (option_map (λ m. record { object = o; message = m; receive = v }) w))
+receive_taken : (n o : ℕ) (v : Waiter) (q : Queue) (sid : Sid) → v.session ≡ sid.0 → (w : Option Send) → brought (received sid w (first q.senders)) ≡ option_to_list (option_map brings (option_map (λ m. record { object = o; message = m; receive = v }) w))
 receive_taken n o v q sid who None = refl
-receive_taken n o v q sid who (Some m) = ap (λ s. record { session = s; priority = m.priority; bytes = m.bytes } ∷ brought (let_in (first q.senders))) (sym who) ∙ ap (λ rest. record { session = v.session; priority = m.priority; bytes = m.bytes } ∷ rest) (none_let_in (first q.senders))
+receive_taken n o v q sid who (Some m) = ap (λ s. record { session = s; priority = m.priority; bytes = m.bytes } ∷ brought (sender_answers (first q.senders))) (sym who) ∙ ap (λ rest. record { session = v.session; priority = m.priority; bytes = m.bytes } ∷ rest) (none_let_in (first q.senders))
 
-receive_brings : (c : Config) (h : History) (sid : Sid) (desc : Desc) (length' : ℕ) (w : Option Held) → holds h sid.0 desc.0 ≡ w → brought (answers_of w (receive_answers c h sid)) ≡ listed (option_map brings (option_and_then (λ o. delivers (maxmsg c h o) o (act o (Do sid (MqReceive desc length')) h) (queue c h o)) (option_map (λ x. x.object) w)))
+receive_brings : (c : Config) (h : History) (sid : Sid) (desc : Desc) (length' : ℕ) (w : Option Held) → holds h sid.0 desc.0 ≡ w → brought (answers_of w (receive_answers c h sid)) ≡ option_to_list (option_map brings (option_and_then (λ o. delivers (maxmsg c h o) o (act o (Do sid (MqReceive desc length')) h) (queue c h o)) (option_map (λ x. x.object) w)))
 receive_brings c h sid desc length' None k = refl
 receive_brings c h sid desc length' (Some x) k =
     receive_taken (maxmsg c h x.object) x.object (record { place = length h; session = sid.0; desc = desc.0 }) (queue c h x.object) sid refl (next (contents c h x.object))
-    ∙ ap (λ a. listed (option_map brings (delivers (maxmsg c h x.object) x.object a (queue c h x.object)))) (sym (act_at h sid desc x (Receives (record { place = length h; session = sid.0; desc = desc.0 })) k))
+    ∙ ap (λ a. option_to_list (option_map brings (delivers (maxmsg c h x.object) x.object a (queue c h x.object)))) (sym (act_at h sid desc x (Receives (record { place = length h; session = sid.0; desc = desc.0 })) k))
 
-accepted_brings : (c : Config) (h : History) (e : Event) → None ≡ verdict c h e → brought (accepted_answers c h e) ≡ listed (option_map brings (delivery c e h))
+accepted_brings : (c : Config) (h : History) (e : Event) → None ≡ verdict c h e → brought (accepted_answers c h e) ≡ option_to_list (option_map brings (delivery c e h))
 unfolding delivery
 accepted_brings c h (Hello found) accepted = refl
 accepted_brings c h (Do sid (Umask mode)) accepted = refl
@@ -127,7 +127,7 @@ accepted_brings c h (Do sid (MqUnlink name)) accepted = refl
 accepted_brings c h (Do sid (SemOpen asked)) accepted = refl
 accepted_brings c h (Do sid (SemClose desc)) accepted = sym (delivers_none (object_asked h (Do sid (SemClose desc))))
 accepted_brings c h (Do sid (SemUnlink name)) accepted = refl
-accepted_brings c h (Do sid (SemPost desc)) accepted = none_of_held (holds h sid.0 desc.0) (λ o. (sid, Done) ∷ let_through (first (waiters h o))) (λ o. none_let_through (first (waiters h o))) ∙ sym (delivers_none (object_asked h (Do sid (SemPost desc))))
+accepted_brings c h (Do sid (SemPost desc)) accepted = none_of_held (holds h sid.0 desc.0) (λ o. (sid, Done) ∷ waiter_answers (first (waiters h o))) (λ o. none_let_through (first (waiters h o))) ∙ sym (delivers_none (object_asked h (Do sid (SemPost desc))))
 accepted_brings c h (Do sid (SemWait desc)) accepted = none_of_held (holds h sid.0 desc.0) (λ o. cond (is_zero c h o) [] ((sid, Done) ∷ [])) (λ o. none_waited sid (is_zero c h o)) ∙ sym (delivers_none (object_asked h (Do sid (SemWait desc))))
 accepted_brings c h (Do sid (SemTryWait desc)) accepted = sym (delivers_none (object_asked h (Do sid (SemTryWait desc))))
 accepted_brings c h (Do sid (SemGetvalue desc)) accepted = none_of_held (holds h sid.0 desc.0) (λ o. (sid, Value (value h o)) ∷ []) (λ o. refl) ∙ sym (delivers_none (object_asked h (Do sid (SemGetvalue desc))))
@@ -143,6 +143,6 @@ accepted_brings c h (Hangup sid) accepted = refl
 pub answers_delivered : EachAnswerIsDelivered
 unfolding answers
 answers_delivered c h e = at (verdict c h e) refl where
-  at : (w : Option Rule) → verdict c h e ≡ w → brought (answers_at w c h e) ≡ listed (option_map brings (cond (is_none w) (delivery c e h) None))
+  at : (w : Option Rule) → verdict c h e ≡ w → brought (answers_at w c h e) ≡ option_to_list (option_map brings (cond (is_none w) (delivery c e h) None))
   at None k = accepted_brings c h e (sym k)
   at (Some rule) k = refl

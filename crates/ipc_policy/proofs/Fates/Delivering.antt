@@ -14,7 +14,7 @@ use Rattle.ipc_policy.specs.declared.config.Config.{Config}
 use Rattle.ipc_policy.specs.declared.config.Held.{Held}
 use Rattle.ipc_policy.specs.History.{History, record_at, before_at}
 use Rattle.ipc_policy.specs.Descriptions.{holds}
-use Rattle.ipc_policy.specs.Queues.{Send, Wait, Act, Sends, Receives, Withdraws, Rests, Queue, has_all, has_none, next, act, queue, maxmsg, contents, receivers}
+use Rattle.ipc_policy.specs.Queues.{Send, Waiter, Act, Sends, Receives, Withdraws, NoAct, Queue, is_filled, has_none, next, act, queue, maxmsg, contents, receivers}
 use Rattle.ipc_policy.specs.Parking.{stands_at}
 use Rattle.ipc_policy.specs.Verdict.{Legal}
 use Rattle.ipc_policy.specs.Deliveries.{Delivery, delivers, object_asked, delivery, receive_of, deliveries}
@@ -31,7 +31,7 @@ pub record Delivers (n o : ℕ) (a : Act) (q : Queue) (x : Delivery) : Type 0 wh
   pub takes : takes_at n x.message.place a q ≡ true
 
 -- what it delivers, act by act
-sends_delivers : (c : Config) (h : History) (e : Event) (o : ℕ) (m : Send) (x : Delivery) → Legal c (record { event = e; rule = None } ∷ h) → act o e h ≡ Sends m → (w : Option Wait) → first (receivers c h o) ≡ w → option_map (λ v. record { object = o; message = m; receive = v }) w ≡ Some x → IsConfined c (record { event = e; rule = None } ∷ h) x
+sends_delivers : (c : Config) (h : History) (e : Event) (o : ℕ) (m : Send) (x : Delivery) → Legal c (record { event = e; rule = None } ∷ h) → act o e h ≡ Sends m → (w : Option Waiter) → first (receivers c h o) ≡ w → option_map (λ v. record { object = o; message = m; receive = v }) w ≡ Some x → IsConfined c (record { event = e; rule = None } ∷ h) x
 sends_delivers c h e o m x legal k None j i = absurd cc
 sends_delivers c h e o m x legal k (Some w) j i =
     let same : record { object = o; message = m; receive = w } ≡ x = cc in
@@ -41,7 +41,7 @@ sends_delivers c h e o m x legal k (Some w) j i =
       received = received_on c h (record { event = e; rule = None }) o w waiting.made waiting.now;
     })
 
-receives_delivers : (c : Config) (h : History) (e : Event) (o : ℕ) (w : Wait) (x : Delivery) → Legal c (record { event = e; rule = None } ∷ h) → act o e h ≡ Receives w → (m : Option Send) → next (contents c h o) ≡ m → option_map (λ n. record { object = o; message = n; receive = w }) m ≡ Some x → IsConfined c (record { event = e; rule = None } ∷ h) x
+receives_delivers : (c : Config) (h : History) (e : Event) (o : ℕ) (w : Waiter) (x : Delivery) → Legal c (record { event = e; rule = None } ∷ h) → act o e h ≡ Receives w → (m : Option Send) → next (contents c h o) ≡ m → option_map (λ n. record { object = o; message = n; receive = w }) m ≡ Some x → IsConfined c (record { event = e; rule = None } ∷ h) x
 receives_delivers c h e o w x legal k None j i = absurd cc
 receives_delivers c h e o w x legal k (Some m) j i =
     let same : record { object = o; message = m; receive = w } ≡ x = cc in
@@ -51,13 +51,13 @@ receives_delivers c h e o w x legal k (Some m) j i =
     })
 
 act_delivers : (c : Config) (h : History) (e : Event) (o : ℕ) (x : Delivery) → Legal c (record { event = e; rule = None } ∷ h) → (a : Act) → act o e h ≡ a → delivers (maxmsg c h o) o a (queue c h o) ≡ Some x → IsConfined c (record { event = e; rule = None } ∷ h) x
-act_delivers c h e o x legal (Sends m) k j = at (has_all (maxmsg c h o) (contents c h o)) j where
+act_delivers c h e o x legal (Sends m) k j = at (is_filled (maxmsg c h o) (contents c h o)) j where
   at : (b : Bool) → cond b None (option_map (λ v. record { object = o; message = m; receive = v }) (first (receivers c h o))) ≡ Some x → IsConfined c (record { event = e; rule = None } ∷ h) x
   at true i = absurd cc
   at false i = sends_delivers c h e o m x legal k (first (receivers c h o)) refl i
 act_delivers c h e o x legal (Receives w) k j = receives_delivers c h e o w x legal k (next (contents c h o)) refl j
 act_delivers c h e o x legal (Withdraws s) k j = absurd cc
-act_delivers c h e o x legal Rests k j = absurd cc
+act_delivers c h e o x legal NoAct k j = absurd cc
 
 pub delivery_confined : EachDeliveryIsConfined
 unfolding delivery
@@ -72,15 +72,15 @@ none_is [] x e = absurd cc
 none_is (y ∷ ys) x e = refl
 
 takes_of : (n o : ℕ) (a : Act) (q : Queue) (x : Delivery) → delivers n o a q ≡ Some x → Delivers n o a q x
-takes_of n o (Sends m) q x k = at (has_all n q.contents) refl k where
-  at_first : has_all n q.contents ≡ false → (w : Option Wait) → first q.receivers ≡ w → option_map (λ v. record { object = o; message = m; receive = v }) w ≡ Some x → Delivers n o (Sends m) q x
+takes_of n o (Sends m) q x k = at (is_filled n q.contents) refl k where
+  at_first : is_filled n q.contents ≡ false → (w : Option Waiter) → first q.receivers ≡ w → option_map (λ v. record { object = o; message = m; receive = v }) w ≡ Some x → Delivers n o (Sends m) q x
   at_first room None j i = absurd cc
   at_first room (Some w) j i =
       let same : record { object = o; message = m; receive = w } ≡ x = cc in
       let some : has_none q.receivers ≡ false = none_is q.receivers w j in
       subst (Delivers n o (Sends m) q) same (record { object = refl; takes = rw (room, some) (eq-eqb m.place m.place refl) })
 
-  at : (b : Bool) → has_all n q.contents ≡ b → cond b None (option_map (λ v. record { object = o; message = m; receive = v }) (first q.receivers)) ≡ Some x → Delivers n o (Sends m) q x
+  at : (b : Bool) → is_filled n q.contents ≡ b → cond b None (option_map (λ v. record { object = o; message = m; receive = v }) (first q.receivers)) ≡ Some x → Delivers n o (Sends m) q x
   at true j i = absurd cc
   at false j i = at_first j (first q.receivers) refl i
 takes_of n o (Receives w) q x k = at (next q.contents) refl k where
@@ -90,7 +90,7 @@ takes_of n o (Receives w) q x k = at (next q.contents) refl k where
       let same : record { object = o; message = m; receive = w } ≡ x = cc in
       subst (Delivers n o (Receives w) q) same (record { object = refl; takes = rw j (eq-eqb m.place m.place refl) })
 takes_of n o (Withdraws s) q x k = absurd cc
-takes_of n o Rests q x k = absurd cc
+takes_of n o NoAct q x k = absurd cc
 
 -- and what takes the message of a place delivers it
 both_hold : (a b : Bool) → (a && b) ≡ true → (a ≡ true) × (b ≡ true)
@@ -103,11 +103,11 @@ not_true false e = refl
 
 delivers_of : (n o i : ℕ) (a : Act) (q : Queue) → takes_at n i a q ≡ true → is_some (receive_of i (delivers n o a q)) ≡ true
 delivers_of n o i (Sends m) q k =
-    let parts = both_hold (not (has_all n q.contents) && not (has_none q.receivers)) (eqb m.place i) k in
-    let parts' = both_hold (not (has_all n q.contents)) (not (has_none q.receivers)) parts.0 in
-    let room : has_all n q.contents ≡ false = not_true _ parts'.0 in
+    let parts = both_hold (not (is_filled n q.contents) && not (has_none q.receivers)) (eqb m.place i) k in
+    let parts' = both_hold (not (is_filled n q.contents)) (not (has_none q.receivers)) parts.0 in
+    let room : is_filled n q.contents ≡ false = not_true _ parts'.0 in
     rw room (at q.receivers (not_true _ parts'.1) parts.1) where
-      at : (ws : List Wait) → has_none ws ≡ false → eqb m.place i ≡ true → is_some (receive_of i (option_map (λ v. record { object = o; message = m; receive = v }) (first ws))) ≡ true
+      at : (ws : List Waiter) → has_none ws ≡ false → eqb m.place i ≡ true → is_some (receive_of i (option_map (λ v. record { object = o; message = m; receive = v }) (first ws))) ≡ true
       at [] e j = absurd cc
       at (w ∷ ws) e j = rw j refl
 delivers_of n o i (Receives w) q k = at (next q.contents) k where
@@ -115,7 +115,7 @@ delivers_of n o i (Receives w) q k = at (next q.contents) k where
   at None e = absurd cc
   at (Some m) e = rw e refl
 delivers_of n o i (Withdraws s) q k = absurd cc
-delivers_of n o i Rests q k = absurd cc
+delivers_of n o i NoAct q k = absurd cc
 
 -- the object of which an act takes is the one that the call's description gives
 asked_of : (o i : ℕ) (e : Event) (h : History) (n : ℕ) (q : Queue) (a : Act) → act o e h ≡ a → takes_at n i a q ≡ true → object_asked h e ≡ Some o
@@ -126,7 +126,7 @@ asked_of o i e h n q (Receives w) k j =
     let of = act_receives o e h w k in
     rw of.event (rw of.held (ap Some of.object))
 asked_of o i e h n q (Withdraws s) k j = absurd cc
-asked_of o i e h n q Rests k j = absurd cc
+asked_of o i e h n q NoAct k j = absurd cc
 
 taken_delivers : (c : Config) (h : History) (e : Event) (o i : ℕ) → takes_at (maxmsg c h o) i (act o e h) (queue c h o) ≡ true → is_some (receive_of i (delivery c e h)) ≡ true
 unfolding delivery

@@ -15,10 +15,10 @@ use Rattle.ipc_policy.specs.declared.config.Held.{Held}
 use Rattle.ipc_policy.specs.History.{History, newest, how_many, record_at, before_at}
 use Rattle.ipc_policy.specs.Descriptions.{holds}
 use Rattle.ipc_policy.specs.Life.{alive, gives_object}
-use Rattle.ipc_policy.specs.Queues.{Send, Wait, Act, Sends, Receives, Withdraws, Rests, Queue, act, queue, contents, senders}
+use Rattle.ipc_policy.specs.Queues.{Send, Waiter, Act, Sends, Receives, Withdraws, NoAct, Queue, act, queue, contents, senders}
 use Rattle.ipc_policy.specs.Rules.{not_held}
 use Rattle.ipc_policy.specs.Verdict.{Legal, verdict}
-use Rattle.ipc_policy.specs.Deliveries.{Delivery, delivery, receive_of, taken_by, deliveries}
+use Rattle.ipc_policy.specs.Deliveries.{Delivery, delivery, receive_of, receive_that_took, deliveries}
 use Rattle.ipc_policy.specs.Confined.{IsSend, IsSendTo, IsReceiveFrom}
 use Rattle.ipc_policy.specs.Fates.{has_send, withdraws_send, is_withdrawn, fates, how_many_hold, IsReceiveOf, HasOneFate, EachSendHasOneFate}
 use Rattle.ipc_policy.proofs.Histories.Moments.{place_below, record_stays, before_stays, legal_at}
@@ -52,7 +52,7 @@ withdraws_alike : (i : ℕ) (a : Act) (q : Queue) → withdraws_send i a q ≡ w
 withdraws_alike i (Withdraws s) q = withdraws_counted i s q.senders
 withdraws_alike i (Sends m) q = refl
 withdraws_alike i (Receives w) q = refl
-withdraws_alike i Rests q = refl
+withdraws_alike i NoAct q = refl
 
 how_many_alike : (f g : Event → History → Bool) (h : History) → ((e : Event) (before : History) → f e before ≡ g e before) → how_many f h ≡ how_many g h
 how_many_alike f g [] same = refl
@@ -141,14 +141,14 @@ one_became c h m x legal made held =
     ∙ one_of (count_at m.place (senders c h x.object)) (withdrawn c h x.object m.place) (count_at m.place (contents c h x.object)) (deliveries c h m.place) (alive h x.object) (rw all whole)
 
 -- the receive that took the message of a place was made of the object to which it was sent
-record Took (c : Config) (h : History) (i : ℕ) (w : Wait) : Type 0 where
+record Took (c : Config) (h : History) (i : ℕ) (w : Waiter) : Type 0 where
   object : ℕ
   message : Send
   sent_to : IsSendTo c h object message
   place : message.place ≡ i
   received : IsReceiveOf h object w
 
-received_on : (h : History) (r : Record) (o : ℕ) (w : Wait) → IsReceiveOf h o w → IsReceiveOf (r ∷ h) o w
+received_on : (h : History) (r : Record) (o : ℕ) (w : Waiter) → IsReceiveOf h o w → IsReceiveOf (r ∷ h) o w
 received_on h r o w known =
     let lt = place_below h w.place _ known.recorded in
     record {
@@ -157,17 +157,17 @@ received_on h r o w known =
       made_of = ap (λ b. gives_object o (holds b w.session w.desc)) (before_stays h r w.place lt) ∙ known.made_of;
     }
 
-took_on : (c : Config) (h : History) (r : Record) (i : ℕ) (w : Wait) → Took c h i w → Took c (r ∷ h) i w
+took_on : (c : Config) (h : History) (r : Record) (i : ℕ) (w : Waiter) → Took c h i w → Took c (r ∷ h) i w
 took_on c h r i w known = record { object = known.object; message = known.message; sent_to = sent_on c h r known.object known.message known.sent_to; place = known.place; received = received_on h r known.object w known.received }
 
-received_from : (c : Config) (h : History) (o : ℕ) (w : Wait) → IsReceiveFrom c h o w → IsReceiveOf h o w
+received_from : (c : Config) (h : History) (o : ℕ) (w : Waiter) → IsReceiveFrom c h o w → IsReceiveOf h o w
 received_from c h o w known = record {
   length' = known.length';
   recorded = known.recorded;
   made_of = let held = known.held w.place (omega arith) (place_below h w.place _ known.recorded) in rw held (eq-eqb _ _ known.object);
 }
 
-took_now : (c : Config) (h : History) (e : Event) (i : ℕ) (w : Wait) → Legal c (record { event = e; rule = None } ∷ h) → (x : Option Delivery) → delivery c e h ≡ x → receive_of i x ≡ Some w → Took c (record { event = e; rule = None } ∷ h) i w
+took_now : (c : Config) (h : History) (e : Event) (i : ℕ) (w : Waiter) → Legal c (record { event = e; rule = None } ∷ h) → (x : Option Delivery) → delivery c e h ≡ x → receive_of i x ≡ Some w → Took c (record { event = e; rule = None } ∷ h) i w
 took_now c h e i w legal None k j = absurd cc
 took_now c h e i w legal (Some x) k j = at (eqb x.message.place i) refl j where
   at : (b : Bool) → eqb x.message.place i ≡ b → cond b (Some x.receive) None ≡ Some w → Took c (record { event = e; rule = None } ∷ h) i w
@@ -177,18 +177,18 @@ took_now c h e i w legal (Some x) k j = at (eqb x.message.place i) refl j where
       record { object = x.object; message = x.message; sent_to = confined.sent; place = eqb-true _ _ p; received = subst (IsReceiveOf (record { event = e; rule = None } ∷ h) x.object) same (received_from c (record { event = e; rule = None } ∷ h) x.object x.receive confined.received) }
   at false p t = absurd cc
 
-took_more : (c : Config) (h : History) (i : ℕ) (w : Wait) → (taken_by c h i ≡ Some w → Took c h i w) → (e : Event) (r : Option Rule) → Legal c (record { event = e; rule = r } ∷ h) → taken_by c (record { event = e; rule = r } ∷ h) i ≡ Some w → Took c (record { event = e; rule = r } ∷ h) i w
+took_more : (c : Config) (h : History) (i : ℕ) (w : Waiter) → (receive_that_took c h i ≡ Some w → Took c h i w) → (e : Event) (r : Option Rule) → Legal c (record { event = e; rule = r } ∷ h) → receive_that_took c (record { event = e; rule = r } ∷ h) i ≡ Some w → Took c (record { event = e; rule = r } ∷ h) i w
 took_more c h i w known e (Some rule) legal k = took_on c h (record { event = e; rule = Some rule }) i w (known k)
 took_more c h i w known e None legal k = at (receive_of i (delivery c e h)) refl k where
-  at : (v : Option Wait) → receive_of i (delivery c e h) ≡ v → option_or v (taken_by c h i) ≡ Some w → Took c (record { event = e; rule = None } ∷ h) i w
+  at : (v : Option Waiter) → receive_of i (delivery c e h) ≡ v → option_or v (receive_that_took c h i) ≡ Some w → Took c (record { event = e; rule = None } ∷ h) i w
   at None q j = took_on c h (record { event = e; rule = None }) i w (known j)
   at (Some v) q j = took_now c h e i w legal (delivery c e h) refl (q ∙ j)
 
-took : (c : Config) (h : History) (i : ℕ) (w : Wait) → Legal c h → taken_by c h i ≡ Some w → Took c h i w
+took : (c : Config) (h : History) (i : ℕ) (w : Waiter) → Legal c h → receive_that_took c h i ≡ Some w → Took c h i w
 took c [] i w legal k = absurd cc
 took c (r ∷ h) i w legal k = took_more c h i w (took c h i w legal.1) r.event r.rule legal k
 
-taker_of : (c : Config) (h : History) (m : Send) (x : Held) → Legal c h → IsSend h m → holds (before_at m.place h) m.session m.desc ≡ Some x → (w : Wait) → taken_by c h m.place ≡ Some w → IsReceiveOf h x.object w
+taker_of : (c : Config) (h : History) (m : Send) (x : Held) → Legal c h → IsSend h m → holds (before_at m.place h) m.session m.desc ≡ Some x → (w : Waiter) → receive_that_took c h m.place ≡ Some w → IsReceiveOf h x.object w
 taker_of c h m x legal made held w k =
     let known = took c h m.place w legal k in
     subst (λ (n : ℕ). IsReceiveOf h n w) (only_to c h m x made held known.object known.message known.sent_to known.place) known.received

@@ -13,7 +13,7 @@ use Rattle.ipc_policy.specs.declared.config.Config.{Config}
 use Rattle.ipc_policy.specs.History.{History}
 use Rattle.ipc_policy.specs.Descriptions.{holds}
 use Rattle.ipc_policy.specs.Life.{gives_object}
-use Rattle.ipc_policy.specs.Queues.{Send, Act, Sends, Rests, act, next, maxmsg, queue, contents, senders}
+use Rattle.ipc_policy.specs.Queues.{Send, Act, Sends, NoAct, act, next, maxmsg, queue, contents, senders}
 use Rattle.ipc_policy.proofs.Lists.EachItem.{each_map, each_first, each_greatest, each_inside, each_sender}
 
 -- its send stands at its place, with its priority and its bytes
@@ -35,14 +35,14 @@ sent_now before r m at is = record {
   there = ap (λ b. option_and_then (λ (s : Record). message_of s.event) (cond b (Some r) (record_at m.place before))) (eq-eqb (length before) m.place (sym at)) ∙ is;
 }
 
-pub not_sends : (b : Bool) (a : Act) (m : Send) → (a ≡ Sends m → ⊥) → cond b a Rests ≡ Sends m → ⊥
+pub not_sends : (b : Bool) (a : Act) (m : Send) → (a ≡ Sends m → ⊥) → cond b a NoAct ≡ Sends m → ⊥
 not_sends true a m h e = h e
 not_sends false a m h e = cc
 
 -- what an act sends was sent by its record
 pub act_sent : (h : History) (o : ℕ) (e : Event) (m : Send) → act o e h ≡ Sends m → IsSent (record { event = e; rule = None } ∷ h) m
 act_sent h o (Do sid (MqSend desc priority bytes)) m k = at (gives_object o (holds h sid.0 desc.0)) k where
-  at : (b : Bool) → cond b (Sends (record { place = length h; session = sid.0; desc = desc.0; priority = priority; bytes = bytes })) Rests ≡ Sends m → IsSent (record { event = Do sid (MqSend desc priority bytes); rule = None } ∷ h) m
+  at : (b : Bool) → cond b (Sends (record { place = length h; session = sid.0; desc = desc.0; priority = priority; bytes = bytes })) NoAct ≡ Sends m → IsSent (record { event = Do sid (MqSend desc priority bytes); rule = None } ∷ h) m
   at true j =
       let is : record { place = length h; session = sid.0; desc = desc.0; priority = priority; bytes = bytes } ≡ m = cc in
       sent_now h (record { event = Do sid (MqSend desc priority bytes); rule = None }) m (ap (λ (n : Send). n.place) (sym is)) (ap (λ (n : Send). Some (record { priority = n.priority; bytes = n.bytes })) is)

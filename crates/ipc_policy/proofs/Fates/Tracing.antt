@@ -11,9 +11,9 @@ use Rattle.ipc_terms.specs.declared.record.Event.{Event}
 use Rattle.ipc_terms.specs.declared.record.Event.TheVariants.{Do}
 use Rattle.ipc_policy.specs.declared.config.Config.{Config}
 use Rattle.ipc_policy.specs.declared.config.Held.{Held}
-use Rattle.ipc_policy.specs.History.{History, there_is, record_at, before_at}
+use Rattle.ipc_policy.specs.History.{History, is_some_and, record_at, before_at}
 use Rattle.ipc_policy.specs.Descriptions.{held, holds, ends_held}
-use Rattle.ipc_policy.specs.Queues.{Send, Wait, Sends, act, queue, maxmsg, contents, senders, receivers}
+use Rattle.ipc_policy.specs.Queues.{Send, Waiter, Sends, act, queue, maxmsg, contents, senders, receivers}
 use Rattle.ipc_policy.specs.Semaphores.{semaphore_act, semaphore}
 use Rattle.ipc_policy.specs.Parking.{Parked, Receiving, is_posted, ends_call, ends_parked, parked}
 use Rattle.ipc_terms.specs.Lists.{Each}
@@ -53,7 +53,7 @@ held_at h q s d place x now known i le lt = at (newest_or_before h q i lt) where
   at (inr below) = ap (λ b. holds b s d) (before_stays h q i below) ∙ known i le below
 
 -- a receive whose session still holds its description
-pub received_on : (c : Config) (h : History) (q : Record) (o : ℕ) (w : Wait) (known : IsReceiveFrom c h o w) → holds h w.session w.desc ≡ Some known.reader → IsReceiveFrom c (q ∷ h) o w
+pub received_on : (c : Config) (h : History) (q : Record) (o : ℕ) (w : Waiter) (known : IsReceiveFrom c h o w) → holds h w.session w.desc ≡ Some known.reader → IsReceiveFrom c (q ∷ h) o w
 received_on c h q o w known now = record {
   length' = known.length';
   recorded = record_stays h q w.place (place_below h w.place _ known.recorded) ∙ known.recorded;
@@ -67,13 +67,13 @@ received_on c h q o w known now = record {
 writable_of : (c : Config) (h : History) (sid : Sid) (desc : Desc) (priority : ℕ) (bytes : List ℕ) (x : Held) → None ≡ verdict c h (Do sid (MqSend desc priority bytes)) → holds h sid.0 desc.0 ≡ Some x → reads_only x.access ≡ false
 unfolding forbids not_for_write
 writable_of c h sid desc priority bytes x legal k =
-    let passes : there_is (λ y. reads_only y.access) (holds h sid.0 desc.0) ≡ false = unforbidden c h (Do sid (MqSend desc priority bytes)) (sym legal) NotForWrite in
+    let passes : is_some_and (λ y. reads_only y.access) (holds h sid.0 desc.0) ≡ false = unforbidden c h (Do sid (MqSend desc priority bytes)) (sym legal) NotForWrite in
     rw k at passes
 
 readable_of : (c : Config) (h : History) (sid : Sid) (desc : Desc) (length' : ℕ) (x : Held) → None ≡ verdict c h (Do sid (MqReceive desc length')) → holds h sid.0 desc.0 ≡ Some x → writes_only x.access ≡ false
 unfolding forbids not_for_read
 readable_of c h sid desc length' x legal k =
-    let passes : there_is (λ y. writes_only y.access) (holds h sid.0 desc.0) ≡ false = unforbidden c h (Do sid (MqReceive desc length')) (sym legal) NotForRead in
+    let passes : is_some_and (λ y. writes_only y.access) (holds h sid.0 desc.0) ≡ false = unforbidden c h (Do sid (MqReceive desc length')) (sym legal) NotForRead in
     rw k at passes
 
 -- a send that is made now
@@ -92,7 +92,7 @@ sent_now c h e o m legal of =
     }
 
 -- a receive that is made now
-pub received_now : (c : Config) (h : History) (e : Event) (o : ℕ) (w : Wait) → Legal c (record { event = e; rule = None } ∷ h) → ReceiveOf o e h w → IsReceiveFrom c (record { event = e; rule = None } ∷ h) o w
+pub received_now : (c : Config) (h : History) (e : Event) (o : ℕ) (w : Waiter) → Legal c (record { event = e; rule = None } ∷ h) → ReceiveOf o e h w → IsReceiveFrom c (record { event = e; rule = None } ∷ h) o w
 received_now c h e o w legal of =
     let lawful : None ≡ verdict c h (Do of.sid (MqReceive of.desc of.length')) = rw of.event at legal.0 in
     let who : w.session ≡ of.sid.0 = ap (λ v. v.session) of.wait in
@@ -111,7 +111,7 @@ received_now c h e o w legal of =
     }
 
 -- a receive that is parked: its session holds its description still
-pub record IsWaiting (c : Config) (h : History) (o : ℕ) (w : Wait) : Type 0 where
+pub record IsWaiting (c : Config) (h : History) (o : ℕ) (w : Waiter) : Type 0 where
   pub made : IsReceiveFrom c h o w
   pub now : holds h w.session w.desc ≡ Some made.reader
 
@@ -126,10 +126,10 @@ each_both P Q [] p q = tt
 each_both P Q (x ∷ xs) p q = ((p.0, q.0), each_both P Q xs p.1 q.1)
 
 -- the call that a parked receive is
-abbrev receiving : ℕ → Wait → Parked
+abbrev receiving : ℕ → Waiter → Parked
 receiving o w = record { object = o; place = w.place; kind = Receiving }
 
-waits_on : (c : Config) (h : History) (o : ℕ) (e : Event) → Legal c (record { event = e; rule = None } ∷ h) → (w : Wait) → IsWaiting c h o w → parked c h w.session ≡ Some (receiving o w) → ends_receive w (act o e h) (queue c h o) ≡ false → IsWaiting c (record { event = e; rule = None } ∷ h) o w
+waits_on : (c : Config) (h : History) (o : ℕ) (e : Event) → Legal c (record { event = e; rule = None } ∷ h) → (w : Waiter) → IsWaiting c h o w → parked c h w.session ≡ Some (receiving o w) → ends_receive w (act o e h) (queue c h o) ≡ false → IsWaiting c (record { event = e; rule = None } ∷ h) o w
 unfolding received_on
 waits_on c h o e legal w known is_parked keeps =
     let stays : ends_parked c w.session (receiving o w) e h ≡ false = or_neither (is_posted (semaphore_act o e h) Receiving w.place (semaphore h o)) (ends_call w.session (receiving o w) (act o e h) (queue c h o)) (posts_no_receive (semaphore_act o e h) w.place (semaphore h o)) (not_ended_receive o w (act o e h) (queue c h o) keeps) in
@@ -140,7 +140,7 @@ waits_on c h o e legal w known is_parked keeps =
       now = holds_on h w.session w.desc known.made.reader e known.now open';
     }
 
-begins_waiting : (c : Config) (h : History) (o : ℕ) (e : Event) → Legal c (record { event = e; rule = None } ∷ h) → (w : Wait) → ReceiveOf o e h w → IsWaiting c (record { event = e; rule = None } ∷ h) o w
+begins_waiting : (c : Config) (h : History) (o : ℕ) (e : Event) → Legal c (record { event = e; rule = None } ∷ h) → (w : Waiter) → ReceiveOf o e h w → IsWaiting c (record { event = e; rule = None } ∷ h) o w
 unfolding received_now
 begins_waiting c h o e legal w of = record {
   made = received_now c h e o w legal of;
@@ -151,7 +151,7 @@ begins_waiting c h o e legal w of = record {
       holds_on h w.session w.desc of.x e mine (subst (λ (f : Event). ends_held w.desc of.x f ≡ false) (sym of.event) refl);
 }
 
-refused_on : (c : Config) (h : History) (o : ℕ) (e : Event) (rule : Rule) (w : Wait) → IsWaiting c h o w → IsWaiting c (record { event = e; rule = Some rule } ∷ h) o w
+refused_on : (c : Config) (h : History) (o : ℕ) (e : Event) (rule : Rule) (w : Waiter) → IsWaiting c h o w → IsWaiting c (record { event = e; rule = Some rule } ∷ h) o w
 unfolding received_on held holds
 refused_on c h o e rule w known = record { made = received_on c h (record { event = e; rule = Some rule }) o w known.made known.now; now = known.now }
 

@@ -8,7 +8,7 @@ use Rattle.ipc_terms.specs.Flags.{has_create, has_nonblock}
 use Rattle.ipc_terms.specs.declared.call.Call.TheVariants.{Umask, MqOpen, MqSetattr, MqUnlink, SemOpen, SemUnlink}
 use Rattle.ipc_terms.specs.declared.record.Event.{Event}
 use Rattle.ipc_terms.specs.declared.record.Event.TheVariants.{Hello, Do, Hangup}
-use Rattle.ipc_policy.specs.History.{History, newest, kept, unended}
+use Rattle.ipc_policy.specs.History.{History, newest, unless, unended}
 use Rattle.ipc_policy.specs.Sessions.{hellos, begins, hangs_up, user, live, mask, sets_mask}
 use Rattle.ipc_policy.specs.Names.{queue_opening, semaphore_opening, Opening, asks_name, unlinks, leaves_bound, is_bound, creating, creations, binds, bound}
 use Rattle.ipc_policy.specs.Objects.{creation_of}
@@ -32,11 +32,11 @@ user_grows h (Hello found) s = found_or (eqb (hellos h) s) found (newest (begins
 user_grows h (Do sid call) s = refl
 user_grows h (Hangup sid) s = refl
 
-begun : (b : Bool) (found : Option Uid) (w : Option (Option Uid)) → is_some (option_or (cond b (Some found) None) (kept (λ x. false) w)) ≡ (b || is_some w)
+begun : (b : Bool) (found : Option Uid) (w : Option (Option Uid)) → is_some (option_or (cond b (Some found) None) (unless (λ x. false) w)) ≡ (b || is_some w)
 begun true found w = refl
 begun false found w = ap is_some (kept_all w)
 
-ended : (b : Bool) (w : Option (Option Uid)) → is_some (kept (λ x. b) w) ≡ (not b && is_some w)
+ended : (b : Bool) (w : Option (Option Uid)) → is_some (unless (λ x. b) w) ≡ (not b && is_some w)
 ended true None = refl
 ended true (Some x) = refl
 ended false w = ap is_some (kept_all w)
@@ -93,14 +93,14 @@ abbrev bound_by : Family → List ℕ → ℕ → Option Opening → Option ℕ
 bound_by f name n None = None
 bound_by f name n (Some asked) = cond (asks_name asked f name) (Some n) None
 
-bound_open : (f : Family) (name : List ℕ) (asked : Opening) (n : ℕ) (w : Option ℕ) (b k : Bool) → option_or (bound_by f name n (cond b (Some asked) None)) (kept (λ x. false) w) ≡ cond (b && asks_name asked f name) (Some n) w
+bound_open : (f : Family) (name : List ℕ) (asked : Opening) (n : ℕ) (w : Option ℕ) (b k : Bool) → option_or (bound_by f name n (cond b (Some asked) None)) (unless (λ x. false) w) ≡ cond (b && asks_name asked f name) (Some n) w
 bound_open f name asked n w true k = at (asks_name asked f name) where
-  at : (d : Bool) → option_or (cond d (Some n) None) (kept (λ x. false) w) ≡ cond d (Some n) w
+  at : (d : Bool) → option_or (cond d (Some n) None) (unless (λ x. false) w) ≡ cond d (Some n) w
   at true = refl
   at false = kept_all w
 bound_open f name asked n w false k = kept_all w
 
-kept_unless : (b : Bool) (w : Option ℕ) → kept (λ x. b) w ≡ cond b None w
+kept_unless : (b : Bool) (w : Option ℕ) → unless (λ x. b) w ≡ cond b None w
 kept_unless true None = refl
 kept_unless true (Some x) = refl
 kept_unless false w = kept_all w

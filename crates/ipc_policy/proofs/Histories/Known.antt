@@ -16,7 +16,7 @@ use Rattle.ipc_terms.specs.declared.record.Event.TheVariants.{Hello, Do, Hangup}
 use Rattle.ipc_access.specs.Users.{cred_of}
 use Rattle.ipc_policy.specs.declared.config.Config.{Config}
 use Rattle.ipc_terms.specs.declared.object.Object.{Object}
-use Rattle.ipc_policy.specs.History.{History, newest, kept, unended, how_many}
+use Rattle.ipc_policy.specs.History.{History, newest, unless, unended, how_many}
 use Rattle.ipc_policy.specs.Sessions.{hellos, is_hello, begins, hangs_up, user, live, mask, sets_mask}
 use Rattle.ipc_policy.specs.Names.{queue_opening, semaphore_opening, Opening, opening, asks_name, unlinks, is_bound, leaves_bound, creation, creations, binds, bound, creating}
 use Rattle.ipc_policy.specs.Objects.{makes, object}
@@ -62,7 +62,7 @@ abbrev opened_to : Family → List ℕ → ℕ → Option Opening → Option ℕ
 opened_to f name n None = None
 opened_to f name n (Some a) = cond (asks_name a f name) (Some n) None
 
-open_iff : (asked : Opening) (f : Family) (name : List ℕ) (n : ℕ) (w : Option Bool) (v : Option ℕ) → unwrap_or w false ≡ is_some v → (b same u : Bool) → asks_name asked f name ≡ same → (same ≡ true → u ≡ unwrap_or w false) → unwrap_or (option_or (cond (b && same) (Some true) None) w) false ≡ is_some (option_or (opened_to f name n (cond (b && not u) (Some asked) None)) (kept (λ x. false) v))
+open_iff : (asked : Opening) (f : Family) (name : List ℕ) (n : ℕ) (w : Option Bool) (v : Option ℕ) → unwrap_or w false ≡ is_some v → (b same u : Bool) → asks_name asked f name ≡ same → (same ≡ true → u ≡ unwrap_or w false) → unwrap_or (option_or (cond (b && same) (Some true) None) w) false ≡ is_some (option_or (opened_to f name n (cond (b && not u) (Some asked) None)) (unless (λ x. false) v))
 open_iff asked f name n w v known true true true q k = k refl ∙ known ∙ sym (ap is_some (kept_all v))
 open_iff asked f name n w v known true true false q k = rw q refl
 open_iff asked f name n w v known true false true q k = known ∙ sym (ap is_some (kept_all v))
@@ -70,7 +70,7 @@ open_iff asked f name n w v known true false false q k = rw q (known ∙ sym (ap
 open_iff asked f name n w v known false true u q k = known ∙ sym (ap is_some (kept_all v))
 open_iff asked f name n w v known false false u q k = known ∙ sym (ap is_some (kept_all v))
 
-unlinked_iff : (b : Bool) (w : Option Bool) (v : Option ℕ) → unwrap_or w false ≡ is_some v → unwrap_or (option_or (cond b (Some false) None) w) false ≡ is_some (kept (λ x. b) v)
+unlinked_iff : (b : Bool) (w : Option Bool) (v : Option ℕ) → unwrap_or w false ≡ is_some v → unwrap_or (option_or (cond b (Some false) None) w) false ≡ is_some (unless (λ x. b) v)
 unlinked_iff true w None known = refl
 unlinked_iff true w (Some x) known = refl
 unlinked_iff false w v known = known ∙ sym (ap is_some (kept_all v))
@@ -161,7 +161,7 @@ begun_below [] s h = absurd cc
 begun_below (r ∷ before) s h = begun_below_more before s (begun_below before s) r.event r.rule h
 
 -- what was begun and not ended was begun
-begun_at : {A : Type 0} (b : Bool) (w u v : Option A) (p : A → Bool) → (is_some u ≡ true → is_some v ≡ true) → is_some (cond b (option_or w (kept p u)) u) ≡ true → is_some (option_or (cond b w None) v) ≡ true
+begun_at : {A : Type 0} (b : Bool) (w u v : Option A) (p : A → Bool) → (is_some u ≡ true → is_some v ≡ true) → is_some (cond b (option_or w (unless p u)) u) ≡ true → is_some (option_or (cond b w None) v) ≡ true
 begun_at true None u v p known k = known (kept_some p u k)
 begun_at true (Some x) u v p known k = refl
 begun_at false w u v p known k = known k

@@ -25,7 +25,7 @@ use Rattle.ipc_policy.specs.Sessions.{live, cred}
 use Rattle.ipc_policy.specs.Names.{is_bound, creating}
 use Rattle.ipc_policy.specs.Descriptions.{holds}
 use Rattle.ipc_policy.specs.Parking.{parked}
-use Rattle.ipc_policy.specs.Rules.{forbids, no_session, in_call, bad_descr, absent, attr_range, value_range, would_block, overflow, bad_key, is_interrupt, Described, described, there_is, not_held, out_of_range, is_zero, is_greatest}
+use Rattle.ipc_policy.specs.Rules.{forbids, no_session, in_call, bad_descr, absent, attr_range, value_range, would_block, overflow, bad_key, is_interrupt, Described, described, is_some_and, not_held, out_of_range, is_zero, is_greatest}
 use Rattle.ipc_policy.specs.Verdict.{verdict}
 use Rattle.ipc_policy.proofs.Lists.FirstPassing.{NonePass, IsLeastPassing, first_is_least, numbered, place_of, has_place}
 
@@ -71,7 +71,7 @@ unfolding forbids in_call bad_descr
 call_free c h sid call family desc other named accepted = record {
   lives = caller_live c h sid call accepted;
   idle = ap (λ b. not b && is_some (parked c h sid.0)) (sym other) ∙ unforbidden c h (Do sid call) accepted InCall;
-  held = ap (there_is (λ (d : Described). not_held c h sid.0 d.family d.desc.0)) (sym named) ∙ unforbidden c h (Do sid call) accepted BadDescr;
+  held = ap (is_some_and (λ (d : Described). not_held c h sid.0 d.family d.desc.0)) (sym named) ∙ unforbidden c h (Do sid call) accepted BadDescr;
 }
 
 -- an open has CREAT, or its name is bound; where it creates, its attributes are in range
@@ -93,10 +93,10 @@ unfolding forbids value_range creating
 semaphore_open_in_range c h sid asked accepted = unforbidden c h (Do sid (SemOpen asked)) accepted ValueRange
 
 -- a trywait is not at 0, and a post not at the greatest value
-pub try_above_zero : (c : Config) (h : History) (sid : Sid) (desc : Desc) → verdict c h (Do sid (SemTryWait desc)) ≡ None → there_is (λ x. is_zero c h x.object) (holds h sid.0 desc.0) ≡ false
+pub try_above_zero : (c : Config) (h : History) (sid : Sid) (desc : Desc) → verdict c h (Do sid (SemTryWait desc)) ≡ None → is_some_and (λ x. is_zero c h x.object) (holds h sid.0 desc.0) ≡ false
 unfolding forbids would_block
 try_above_zero c h sid desc accepted = unforbidden c h (Do sid (SemTryWait desc)) accepted WouldBlock
 
-pub post_below_greatest : (c : Config) (h : History) (sid : Sid) (desc : Desc) → verdict c h (Do sid (SemPost desc)) ≡ None → there_is (λ x. is_greatest c h x.object) (holds h sid.0 desc.0) ≡ false
+pub post_below_greatest : (c : Config) (h : History) (sid : Sid) (desc : Desc) → verdict c h (Do sid (SemPost desc)) ≡ None → is_some_and (λ x. is_greatest c h x.object) (holds h sid.0 desc.0) ≡ false
 unfolding forbids overflow
 post_below_greatest c h sid desc accepted = unforbidden c h (Do sid (SemPost desc)) accepted Overflow

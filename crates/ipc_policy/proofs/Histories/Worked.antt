@@ -30,7 +30,7 @@ use Rattle.ipc_policy.specs.Parking.{Receiving, parked}
 use Rattle.ipc_policy.specs.Life.{named, alive}
 use Rattle.ipc_policy.specs.Charges.{bytes_of, charge_of, charged, queues_alive, limit}
 use Rattle.ipc_policy.specs.Rules.{forbids, no_session, in_call, not_in_call, name_form, name_long, not_admin, no_user, bad_descr, not_for_write, not_for_read, dir_search, dir_read, absent, present, mode_denied, dir_write, sticky, not_owner, chown_denied, attr_range, value_range, queue_count, byte_limit, descr_limit, prio_range, message_long, buffer_short, notify_taken, would_block, overflow, bad_key}
-use Rattle.ipc_policy.specs.Deliveries.{delivery, taken_by}
+use Rattle.ipc_policy.specs.Deliveries.{delivery, receive_that_took}
 use Rattle.ipc_policy.specs.Fates.{fates}
 use Rattle.ipc_policy.specs.Verdict.{verdict, answers, outbox, after_events, all_answers}
 
@@ -211,7 +211,7 @@ audited = refl
 abbrev shared_out : History
 shared_out = after_events world [] (hello 1000 ∷ by 0 (small 1 Both) ∷ by 0 (MqSend (d 0) 0 (codes "p")) ∷ by 0 (MqSend (d 0) 0 (codes "q")) ∷ by 0 Interrupt ∷ by 0 (MqReceive (d 0) 8) ∷ by 0 (MqSend (d 0) 0 (codes "s")) ∷ by 0 (MqSend (d 0) 0 (codes "t")) ∷ [])
 
-taken_first : (fates world shared_out 0 2 ≡ false ∷ false ∷ false ∷ true ∷ false ∷ []) × (taken_by world shared_out 2 ≡ Some (record { place = 5; session = 0; desc = 0 }))
+taken_first : (fates world shared_out 0 2 ≡ false ∷ false ∷ false ∷ true ∷ false ∷ []) × (receive_that_took world shared_out 2 ≡ Some (record { place = 5; session = 0; desc = 0 }))
 unfolding hellos user live cred mask is_bound creating creations bound object owner group mode facts directory_owner directory_group directory_mode directory opens held holds held_count is_nonblock named alive bytes_of charge_of charged queues_alive limit queue registered delivery semaphore value parked forbids no_session in_call not_in_call name_form name_long not_admin no_user bad_descr not_for_write not_for_read dir_search dir_read absent present mode_denied dir_write sticky not_owner chown_denied attr_range value_range queue_count byte_limit descr_limit prio_range message_long buffer_short notify_taken would_block overflow bad_key verdict answers outbox
 taken_first = (refl, refl)
 

@@ -15,7 +15,7 @@ use Rattle.ipc_access.specs.declared.class.Cred.{Cred}
 use Rattle.ipc_access.specs.Class.{granted}
 use Rattle.ipc_policy.specs.declared.config.Config.{Config}
 use Rattle.ipc_policy.specs.declared.config.Held.{Held}
-use Rattle.ipc_policy.specs.History.{History, kept, there_is, before_at}
+use Rattle.ipc_policy.specs.History.{History, unless, is_some_and, before_at}
 use Rattle.ipc_policy.specs.Sessions.{cred}
 use Rattle.ipc_policy.specs.Names.{Opening, opening, queue_opening, semaphore_opening, is_bound, creating, creations, bound}
 use Rattle.ipc_policy.specs.Objects.{facts}
@@ -25,6 +25,7 @@ use Rattle.ipc_policy.specs.Verdict.{Legal, verdict}
 use Rattle.ipc_policy.specs.Confined.{IsGranted, grants_to}
 use Rattle.ipc_policy.proofs.Histories.Moments.{place_below, record_stays, before_stays, record_now, before_now}
 use Rattle.ipc_policy.proofs.Histories.Unforbidden.{unforbidden}
+use Rattle.ipc_policy.proofs.Holdings.Holding.{kept_is}
 use Rattle.ipc_policy.proofs.Directories.OpenAccepted.{open_there}
 use Rattle.ipc_policy.proofs.Directories.Bindings.{caller_known, bound_made}
 use Rattle.ipc_policy.proofs.Histories.Known.{bound_iff}
@@ -47,7 +48,7 @@ granted_on c h q d x known =
 
 not_denied : (c : Config) (h : History) (e : Event) (asked : Opening) → None ≡ verdict c h e → opening e ≡ Some asked → denied_at (cred c h asked.session.0) (option_and_then (facts c h) (bound h asked.family asked.name)) (bits_wanted asked.access) ≡ false
 unfolding forbids mode_denied
-not_denied c h e asked legal k = ap (there_is (λ a. denied_at (cred c h a.session.0) (option_and_then (facts c h) (bound h a.family a.name)) (bits_wanted a.access))) (sym k) ∙ unforbidden c h e (sym legal) ModeDenied
+not_denied c h e asked legal k = ap (is_some_and (λ a. denied_at (cred c h a.session.0) (option_and_then (facts c h) (bound h a.family a.name)) (bits_wanted a.access))) (sym k) ∙ unforbidden c h e (sym legal) ModeDenied
 
 opener_known : (c : Config) (h : History) (e : Event) (asked : Opening) → Legal c h → None ≡ verdict c h e → opening e ≡ Some asked → is_some (cred c h asked.session.0) ≡ true
 opener_known c h (Do sid (MqOpen given)) asked legal accepted k = let same : queue_opening sid given ≡ asked = cc in subst (λ (a : Opening). is_some (cred c h a.session.0) ≡ true) same (caller_known c h legal sid (MqOpen given) accepted)
@@ -110,19 +111,11 @@ given_now c h e d x asked legal accepted is number given =
       at None q j = absurd cc
       at (Some o) q j = let same : held_as asked o ≡ x = cc in subst (λ (y : Held). (creating h asked || grants_to (cred c h asked.session.0) (facts c h y.object) (bits_wanted asked.access)) ≡ true) same (grants_now c h e asked o legal accepted is q)
 
--- what was not ended was there
-kept_is : (p : Held → Bool) (w : Option Held) (x : Held) → kept p w ≡ Some x → w ≡ Some x
-kept_is p None x e = absurd cc
-kept_is p (Some y) x e = at (p y) e where
-  at : (b : Bool) → cond b None (Some y) ≡ Some x → Some y ≡ Some x
-  at true k = absurd cc
-  at false k = k
-
 granted_more : (c : Config) (h : History) (d : ℕ) → ((x : Held) → held h d ≡ Some x → IsGranted c h d x) → (e : Event) (r : Option Rule) (x : Held) → Legal c h → r ≡ verdict c h e → held (record { event = e; rule = r } ∷ h) d ≡ Some x → IsGranted c (record { event = e; rule = r } ∷ h) d x
 unfolding held
 granted_more c h d known e (Some rule) x legal accepted k = granted_on c h (record { event = e; rule = Some rule }) d x (known x k)
 granted_more c h d known e None x legal accepted k = at (opening e) refl k where
-  old : kept (λ y. ends_held d y e) (held h d) ≡ Some x → IsGranted c (record { event = e; rule = None } ∷ h) d x
+  old : unless (λ y. ends_held d y e) (held h d) ≡ Some x → IsGranted c (record { event = e; rule = None } ∷ h) d x
   old j = granted_on c h (record { event = e; rule = None }) d x (known x (kept_is (λ y. ends_held d y e) (held h d) x j))
 
   given : Option Opening → Option Held
@@ -132,14 +125,14 @@ granted_more c h d known e None x legal accepted k = at (opening e) refl k where
   made : (w : Option Held) → w ≡ Some x → (asked : Opening) → opening e ≡ Some asked → opens h ≡ d → option_map (held_as asked) (opened h asked) ≡ w → IsGranted c (record { event = e; rule = None } ∷ h) d x
   made w j asked is number given = given_now c h e d x asked legal accepted is number (given ∙ j)
 
-  at : (w : Option Opening) → opening e ≡ w → option_or (given w) (kept (λ y. ends_held d y e) (held h d)) ≡ Some x → IsGranted c (record { event = e; rule = None } ∷ h) d x
+  at : (w : Option Opening) → opening e ≡ w → option_or (given w) (unless (λ y. ends_held d y e) (held h d)) ≡ Some x → IsGranted c (record { event = e; rule = None } ∷ h) d x
   at None q j = old j
   at (Some asked) q j = mine (eqb (opens h) d) refl j where
-    found : opens h ≡ d → (w : Option Held) → option_map (held_as asked) (opened h asked) ≡ w → option_or w (kept (λ y. ends_held d y e) (held h d)) ≡ Some x → IsGranted c (record { event = e; rule = None } ∷ h) d x
+    found : opens h ≡ d → (w : Option Held) → option_map (held_as asked) (opened h asked) ≡ w → option_or w (unless (λ y. ends_held d y e) (held h d)) ≡ Some x → IsGranted c (record { event = e; rule = None } ∷ h) d x
     found number None p i = old i
     found number (Some y) p i = made (Some y) i asked q number p
 
-    mine : (b : Bool) → eqb (opens h) d ≡ b → option_or (cond b (option_map (held_as asked) (opened h asked)) None) (kept (λ y. ends_held d y e) (held h d)) ≡ Some x → IsGranted c (record { event = e; rule = None } ∷ h) d x
+    mine : (b : Bool) → eqb (opens h) d ≡ b → option_or (cond b (option_map (held_as asked) (opened h asked)) None) (unless (λ y. ends_held d y e) (held h d)) ≡ Some x → IsGranted c (record { event = e; rule = None } ∷ h) d x
     mine true p i = found (eqb-true _ _ p) (option_map (held_as asked) (opened h asked)) refl i
     mine false p i = old i
 

@@ -24,7 +24,7 @@ use Rattle.ipc_terms.specs.declared.record.Event.TheVariants.{Hello, Do, Hangup}
 use Rattle.ipc_policy.specs.declared.config.Config.{Config}
 use Rattle.ipc_policy.specs.declared.config.Held.{Held}
 use Rattle.ipc_policy.specs.declared.asking.Described.{Described}
-use Rattle.ipc_policy.specs.History.{History, after_accepted, there_is}
+use Rattle.ipc_policy.specs.History.{History, after_accepted, is_some_and}
 use Rattle.ipc_policy.specs.Names.{creations, bound}
 use Rattle.ipc_policy.specs.Objects.{object}
 use Rattle.ipc_policy.specs.Descriptions.{opens, held, if_of, holds, is_nonblock, ends_held}
@@ -74,14 +74,14 @@ by_held c h k s d same f g none some = at (holds h s d) refl ∙ ap g same.held 
 abbrev family_in : Option Object → Option Family
 family_in o = option_map (λ x. family_of x.kind) o
 
-asked_family : (f : Family) (o : Option Object) → is_of_family f o ≡ there_is (λ g. same_family g f) (family_in o)
+asked_family : (f : Family) (o : Option Object) → is_of_family f o ≡ is_some_and (λ g. same_family g f) (family_in o)
 asked_family f None = refl
 asked_family f (Some x) = refl
 
 not_held_alike : (c : Config) (h k : History) (s : ℕ) (f : Family) (d : ℕ) → SameByDescription c h k s d → not_held c h s f d ≡ not_held c k s f d
 not_held_alike c h k s f d same =
     by_held c h k s d same (λ w. not (is_of_family f (option_and_then (λ x. object c h x.object) w))) (λ w. not (is_of_family f (option_and_then (λ x. object c k x.object) w))) refl
-    (λ x at. ap not (asked_family f (object c h x.object) ∙ ap (there_is (λ g. same_family g f)) at.family ∙ sym (asked_family f (object c k x.object))))
+    (λ x at. ap not (asked_family f (object c h x.object) ∙ ap (is_some_and (λ g. same_family g f)) at.family ∙ sym (asked_family f (object c k x.object))))
 
 attributes_alike : (c : Config) (h k : History) (s d : ℕ) → SameByDescription c h k s d → attributes_held c h s d ≡ attributes_held c k s d
 attributes_alike c h k s d same =
@@ -89,7 +89,7 @@ attributes_alike c h k s d same =
 
 -- how many messages there are decides whether a queue is full, and whether it is empty
 abbrev full_by : ℕ → Option Attributes → Bool
-full_by n given = there_is (λ x. nat_le x.maxmsg n) given
+full_by n given = is_some_and (λ x. nat_le x.maxmsg n) given
 
 full_alike : (c : Config) (h k : History) (o : ℕ) → SameObject c h k o → is_full c h o ≡ is_full c k o
 full_alike c h k o at = ap (λ n. full_by n (attributes c h o)) at.messages ∙ ap (full_by (length (contents c k o))) at.attributes
@@ -100,22 +100,22 @@ none_counted (x ∷ xs) = sym (ne_eqb (length (x ∷ xs)) 0 (λ (q : length (x �
 
 empty_alike : (c : Config) (h k : History) (o : ℕ) → SameObject c h k o → is_empty c h o ≡ is_empty c k o
 empty_alike c h k o at =
-    ap (λ b. there_is (λ x. b) (attributes c h o)) (none_counted (contents c h o) ∙ ap (λ n. eqb n 0) at.messages ∙ sym (none_counted (contents c k o)))
-    ∙ ap (there_is (λ x. has_none (contents c k o))) at.attributes
+    ap (λ b. is_some_and (λ x. b) (attributes c h o)) (none_counted (contents c h o) ∙ ap (λ n. eqb n 0) at.messages ∙ sym (none_counted (contents c k o)))
+    ∙ ap (is_some_and (λ x. has_none (contents c k o))) at.attributes
 
 -- what is of the family of semaphores is a semaphore
-asked_semaphore : (b : Bool) (o : Option Object) → there_is (λ first_value. b) (as_semaphore o) ≡ there_is (λ g. same_family g Sem && b) (family_in o)
+asked_semaphore : (b : Bool) (o : Option Object) → is_some_and (λ first_value. b) (as_semaphore o) ≡ is_some_and (λ g. same_family g Sem && b) (family_in o)
 asked_semaphore b None = refl
 asked_semaphore b (Some x) = at x.kind where
-  at : (kind : Kind) → there_is (λ first_value. b) (as_semaphore (Some (record { creator = x.creator; kind = kind }))) ≡ there_is (λ g. same_family g Sem && b) (family_in (Some (record { creator = x.creator; kind = kind })))
+  at : (kind : Kind) → is_some_and (λ first_value. b) (as_semaphore (Some (record { creator = x.creator; kind = kind }))) ≡ is_some_and (λ g. same_family g Sem && b) (family_in (Some (record { creator = x.creator; kind = kind })))
   at (Queue given) = refl
   at (Semaphore first_value) = refl
 
-value_alike : (c : Config) (h k : History) (o n : ℕ) → SameObject c h k o → there_is (λ first_value. value h o == n) (as_semaphore (object c h o)) ≡ there_is (λ first_value. value k o == n) (as_semaphore (object c k o))
+value_alike : (c : Config) (h k : History) (o n : ℕ) → SameObject c h k o → is_some_and (λ first_value. value h o == n) (as_semaphore (object c h o)) ≡ is_some_and (λ first_value. value k o == n) (as_semaphore (object c k o))
 value_alike c h k o n at =
-    ap (λ v. there_is (λ first_value. v == n) (as_semaphore (object c h o))) at.value
+    ap (λ v. is_some_and (λ first_value. v == n) (as_semaphore (object c h o))) at.value
     ∙ asked_semaphore (value k o == n) (object c h o)
-    ∙ ap (there_is (λ g. same_family g Sem && (value k o == n))) at.family
+    ∙ ap (is_some_and (λ g. same_family g Sem && (value k o == n))) at.family
     ∙ sym (asked_semaphore (value k o == n) (object c k o))
 
 -- a call by this description
@@ -166,18 +166,18 @@ asked_no_other c h sid call named is = absurd cc
 bad_descr_alike : (c : Config) (h k : History) (sid : Sid) (call : Call) (named : Described) → described call ≡ Some named → SameByDescription c h k sid.0 named.desc.0 → bad_descr c h (Do sid call) ≡ bad_descr c k (Do sid call)
 unfolding bad_descr
 bad_descr_alike c h k sid call named is same =
-    ap (there_is (λ n. not_held c h sid.0 n.family n.desc.0)) is
+    ap (is_some_and (λ n. not_held c h sid.0 n.family n.desc.0)) is
     ∙ not_held_alike c h k sid.0 named.family named.desc.0 same
-    ∙ sym (ap (there_is (λ n. not_held c k sid.0 n.family n.desc.0)) is)
+    ∙ sym (ap (is_some_and (λ n. not_held c k sid.0 n.family n.desc.0)) is)
 
 not_for_write_alike : (c : Config) (h k : History) (sid : Sid) (call : Call) (named : Described) → described call ≡ Some named → SameByDescription c h k sid.0 named.desc.0 → not_for_write c h (Do sid call) ≡ not_for_write c k (Do sid call)
 unfolding not_for_write
-not_for_write_alike c h k sid (MqSend desc priority bytes) named is same = ap (there_is (λ (x : Held). reads_only x.access)) (at_desc c h k sid.0 Mq desc named is same).held
+not_for_write_alike c h k sid (MqSend desc priority bytes) named is same = ap (is_some_and (λ (x : Held). reads_only x.access)) (at_desc c h k sid.0 Mq desc named is same).held
 not_for_write_alike c h k sid call named is same = refl
 
 not_for_read_alike : (c : Config) (h k : History) (sid : Sid) (call : Call) (named : Described) → described call ≡ Some named → SameByDescription c h k sid.0 named.desc.0 → not_for_read c h (Do sid call) ≡ not_for_read c k (Do sid call)
 unfolding not_for_read
-not_for_read_alike c h k sid (MqReceive desc length') named is same = ap (there_is (λ (x : Held). writes_only x.access)) (at_desc c h k sid.0 Mq desc named is same).held
+not_for_read_alike c h k sid (MqReceive desc length') named is same = ap (is_some_and (λ (x : Held). writes_only x.access)) (at_desc c h k sid.0 Mq desc named is same).held
 not_for_read_alike c h k sid call named is same = refl
 
 prio_alike : (c : Config) (h k : History) (sid : Sid) (call : Call) → prio_range c h (Do sid call) ≡ prio_range c k (Do sid call)
@@ -187,38 +187,38 @@ prio_alike c h k sid call = refl
 
 message_alike : (c : Config) (h k : History) (sid : Sid) (call : Call) (named : Described) → described call ≡ Some named → SameByDescription c h k sid.0 named.desc.0 → message_long c h (Do sid call) ≡ message_long c k (Do sid call)
 unfolding message_long
-message_alike c h k sid (MqSend desc priority bytes) named is same = ap (there_is (λ (x : Attributes). nat_lt x.msgsize (length bytes))) (attributes_alike c h k sid.0 desc.0 (at_desc c h k sid.0 Mq desc named is same))
+message_alike c h k sid (MqSend desc priority bytes) named is same = ap (is_some_and (λ (x : Attributes). nat_lt x.msgsize (length bytes))) (attributes_alike c h k sid.0 desc.0 (at_desc c h k sid.0 Mq desc named is same))
 message_alike c h k sid call named is same = refl
 
 buffer_alike : (c : Config) (h k : History) (sid : Sid) (call : Call) (named : Described) → described call ≡ Some named → SameByDescription c h k sid.0 named.desc.0 → buffer_short c h (Do sid call) ≡ buffer_short c k (Do sid call)
 unfolding buffer_short
-buffer_alike c h k sid (MqReceive desc length') named is same = ap (there_is (λ (x : Attributes). nat_lt length' x.msgsize)) (attributes_alike c h k sid.0 desc.0 (at_desc c h k sid.0 Mq desc named is same))
+buffer_alike c h k sid (MqReceive desc length') named is same = ap (is_some_and (λ (x : Attributes). nat_lt length' x.msgsize)) (attributes_alike c h k sid.0 desc.0 (at_desc c h k sid.0 Mq desc named is same))
 buffer_alike c h k sid call named is same = refl
 
 notify_alike : (c : Config) (h k : History) (sid : Sid) (call : Call) (named : Described) → described call ≡ Some named → SameByDescription c h k sid.0 named.desc.0 → notify_taken c h (Do sid call) ≡ notify_taken c k (Do sid call)
 unfolding notify_taken
 notify_alike c h k sid (MqNotify desc on) named is same =
-    ap (λ b. on && b) (by_held c h k sid.0 desc.0 (at_desc c h k sid.0 Mq desc named is same) (there_is (λ x. is_some (registered c h x.object))) (there_is (λ x. is_some (registered c k x.object))) refl (λ x at. at.registered))
+    ap (λ b. on && b) (by_held c h k sid.0 desc.0 (at_desc c h k sid.0 Mq desc named is same) (is_some_and (λ x. is_some (registered c h x.object))) (is_some_and (λ x. is_some (registered c k x.object))) refl (λ x at. at.registered))
 notify_alike c h k sid call named is same = refl
 
 block_alike : (c : Config) (h k : History) (sid : Sid) (call : Call) (named : Described) → described call ≡ Some named → SameByDescription c h k sid.0 named.desc.0 → would_block c h (Do sid call) ≡ would_block c k (Do sid call)
 unfolding would_block
 block_alike c h k sid (MqSend desc priority bytes) named is same =
     let mine = at_desc c h k sid.0 Mq desc named is same in
-    ap (λ b. b && there_is (λ (x : Held). is_full c h x.object) (holds h sid.0 desc.0)) mine.nonblock
-    ∙ ap (λ b. is_nonblock k sid.0 desc.0 && b) (by_held c h k sid.0 desc.0 mine (there_is (λ x. is_full c h x.object)) (there_is (λ x. is_full c k x.object)) refl (λ x at. full_alike c h k x.object at))
+    ap (λ b. b && is_some_and (λ (x : Held). is_full c h x.object) (holds h sid.0 desc.0)) mine.nonblock
+    ∙ ap (λ b. is_nonblock k sid.0 desc.0 && b) (by_held c h k sid.0 desc.0 mine (is_some_and (λ x. is_full c h x.object)) (is_some_and (λ x. is_full c k x.object)) refl (λ x at. full_alike c h k x.object at))
 block_alike c h k sid (MqReceive desc length') named is same =
     let mine = at_desc c h k sid.0 Mq desc named is same in
-    ap (λ b. b && there_is (λ (x : Held). is_empty c h x.object) (holds h sid.0 desc.0)) mine.nonblock
-    ∙ ap (λ b. is_nonblock k sid.0 desc.0 && b) (by_held c h k sid.0 desc.0 mine (there_is (λ x. is_empty c h x.object)) (there_is (λ x. is_empty c k x.object)) refl (λ x at. empty_alike c h k x.object at))
+    ap (λ b. b && is_some_and (λ (x : Held). is_empty c h x.object) (holds h sid.0 desc.0)) mine.nonblock
+    ∙ ap (λ b. is_nonblock k sid.0 desc.0 && b) (by_held c h k sid.0 desc.0 mine (is_some_and (λ x. is_empty c h x.object)) (is_some_and (λ x. is_empty c k x.object)) refl (λ x at. empty_alike c h k x.object at))
 block_alike c h k sid (SemTryWait desc) named is same =
-    by_held c h k sid.0 desc.0 (at_desc c h k sid.0 Sem desc named is same) (there_is (λ x. is_zero c h x.object)) (there_is (λ x. is_zero c k x.object)) refl (λ x at. value_alike c h k x.object 0 at)
+    by_held c h k sid.0 desc.0 (at_desc c h k sid.0 Sem desc named is same) (is_some_and (λ x. is_zero c h x.object)) (is_some_and (λ x. is_zero c k x.object)) refl (λ x at. value_alike c h k x.object 0 at)
 block_alike c h k sid call named is same = refl
 
 overflow_alike : (c : Config) (h k : History) (sid : Sid) (call : Call) (named : Described) → described call ≡ Some named → SameByDescription c h k sid.0 named.desc.0 → overflow c h (Do sid call) ≡ overflow c k (Do sid call)
 unfolding overflow
 overflow_alike c h k sid (SemPost desc) named is same =
-    by_held c h k sid.0 desc.0 (at_desc c h k sid.0 Sem desc named is same) (there_is (λ x. is_greatest c h x.object)) (there_is (λ x. is_greatest c k x.object)) refl (λ x at. value_alike c h k x.object SEM_VALUE_MAX at)
+    by_held c h k sid.0 desc.0 (at_desc c h k sid.0 Sem desc named is same) (is_some_and (λ x. is_greatest c h x.object)) (is_some_and (λ x. is_greatest c k x.object)) refl (λ x at. value_alike c h k x.object SEM_VALUE_MAX at)
 overflow_alike c h k sid call named is same = refl
 
 forbid_alike : (c : Config) (h k : History) (sid : Sid) (call : Call) (named : Described) → described call ≡ Some named → SameByDescription c h k sid.0 named.desc.0 → (rule : Rule) → by_description rule c h (Do sid call) ≡ by_description rule c k (Do sid call)

@@ -11,18 +11,26 @@ use Rattle.ipc_terms.specs.declared.record.Event.{Event}
 use Rattle.ipc_terms.specs.declared.record.Record.{Record}
 use Rattle.ipc_terms.specs.declared.record.Event.TheVariants.{Hello, Do, Hangup}
 use Rattle.ipc_policy.specs.declared.config.Held.{Held}
-use Rattle.ipc_policy.specs.History.{History, kept, unended_from, how_many_below}
+use Rattle.ipc_policy.specs.History.{History, unless, unended_from, how_many_below}
 use Rattle.ipc_policy.specs.Names.{Opening, queue_opening, semaphore_opening, opening, bound, creations}
 use Rattle.ipc_policy.specs.Descriptions.{opens, opened, held_as, gives, ends_held, held, if_of, holds, held_count}
 use Rattle.ipc_policy.specs.Grow.{held_after, held_count_after}
 
-pub kept_some : {A : Type 0} (p : A → Bool) (o : Option A) → is_some (kept p o) ≡ true → is_some o ≡ true
+pub kept_some : {A : Type 0} (p : A → Bool) (o : Option A) → is_some (unless p o) ≡ true → is_some o ≡ true
 kept_some p None e = e
 kept_some p (Some x) e = refl
 
-pub kept_all : {A : Type 0} (o : Option A) → kept (λ x. false) o ≡ o
+pub kept_all : {A : Type 0} (o : Option A) → unless (λ x. false) o ≡ o
 kept_all None = refl
 kept_all (Some x) = refl
+
+-- what was not ended was there
+pub kept_is : {A : Type 0} (p : A → Bool) (w : Option A) (x : A) → unless p w ≡ Some x → w ≡ Some x
+kept_is p None x e = absurd cc
+kept_is p (Some y) x e = at (p y) e where
+  at : (b : Bool) → cond b None (Some y) ≡ Some x → Some y ≡ Some x
+  at true k = absurd cc
+  at false k = k
 
 -- what an open with this number gives
 abbrev given : History → ℕ → Option Opening → Option Held
@@ -30,10 +38,10 @@ given h d None = None
 given h d (Some asked) = cond (eqb (opens h) d) (option_map (held_as asked) (opened h asked)) None
 
 -- a description is numbered below the opens
-held_below_at : (h : History) (d : ℕ) → (is_some (held h d) ≡ true → d < opens h) → (q : Held → Bool) (o : Option Opening) → is_some (option_or (given h d o) (kept q (held h d))) ≡ true → d < cond (is_some o) (opens h + 1) (opens h)
+held_below_at : (h : History) (d : ℕ) → (is_some (held h d) ≡ true → d < opens h) → (q : Held → Bool) (o : Option Opening) → is_some (option_or (given h d o) (unless q (held h d))) ≡ true → d < cond (is_some o) (opens h + 1) (opens h)
 held_below_at h d known q None k = known (kept_some q (held h d) k)
 held_below_at h d known q (Some asked) k = at (eqb (opens h) d) refl k where
-  at : (b : Bool) → eqb (opens h) d ≡ b → is_some (option_or (cond b (option_map (held_as asked) (opened h asked)) None) (kept q (held h d))) ≡ true → d < opens h + 1
+  at : (b : Bool) → eqb (opens h) d ≡ b → is_some (option_or (cond b (option_map (held_as asked) (opened h asked)) None) (unless q (held h d))) ≡ true → d < opens h + 1
   at true same j = let same' : opens h ≡ d = eqb-true _ _ same in omega arith
   at false _ j = let below = known (kept_some q (held h d) j) in omega arith
 
@@ -122,7 +130,7 @@ holds_opened h e asked after s d = ap (λ o. is_some (option_and_then (if_of s) 
   none k = unheld h s d (omega arith)
 
 -- after a close
-closed_at : (s d : ℕ) (sid : Sid) (desc : Desc) (w : Option Held) (b : Bool) → (eqb sid.0 s && eqb desc.0 d) ≡ b → is_some (option_and_then (if_of s) (kept (λ x. eqb sid.0 x.session.0 && eqb desc.0 d) w)) ≡ cond b false (is_some (option_and_then (if_of s) w))
+closed_at : (s d : ℕ) (sid : Sid) (desc : Desc) (w : Option Held) (b : Bool) → (eqb sid.0 s && eqb desc.0 d) ≡ b → is_some (option_and_then (if_of s) (unless (λ x. eqb sid.0 x.session.0 && eqb desc.0 d) w)) ≡ cond b false (is_some (option_and_then (if_of s) w))
 closed_at s d sid desc None true e = refl
 closed_at s d sid desc None false e = refl
 closed_at s d sid desc (Some x) b e = at (eqb sid.0 x.session.0 && eqb desc.0 d) refl b e where
@@ -148,7 +156,7 @@ closed_at s d sid desc (Some x) b e = at (eqb sid.0 x.session.0 && eqb desc.0 d)
 
 -- what a close of this description by this session leaves of what is held
 abbrev Closes : History → Event → Sid → Desc → Type 0
-Closes h e sid desc = (d : ℕ) → held_after d e (opens h) (bound h) (creations h) (held h d) ≡ kept (λ x. eqb sid.0 x.session.0 && eqb desc.0 d) (held h d)
+Closes h e sid desc = (d : ℕ) → held_after d e (opens h) (bound h) (creations h) (held h d) ≡ unless (λ x. eqb sid.0 x.session.0 && eqb desc.0 d) (held h d)
 
 holds_closed : (h : History) (e : Event) (sid : Sid) (desc : Desc) → Closes h e sid desc → (s d : ℕ) (b : Bool) → (eqb sid.0 s && eqb desc.0 d) ≡ b → is_some (holds (record { event = e; rule = None } ∷ h) s d) ≡ cond b false (is_some (holds h s d))
 unfolding holds
@@ -194,7 +202,7 @@ how_many_below_none f zero none = refl
 how_many_below_none f (suc n) none = rw (none n) (how_many_below_none f n none)
 
 -- after a hang-up a session holds nothing, and each other what it held
-left_at : (s : ℕ) (sid : Sid) (w : Option Held) (b : Bool) → eqb sid.0 s ≡ b → is_some (option_and_then (if_of s) (kept (λ x. eqb sid.0 x.session.0) w)) ≡ cond b false (is_some (option_and_then (if_of s) w))
+left_at : (s : ℕ) (sid : Sid) (w : Option Held) (b : Bool) → eqb sid.0 s ≡ b → is_some (option_and_then (if_of s) (unless (λ x. eqb sid.0 x.session.0) w)) ≡ cond b false (is_some (option_and_then (if_of s) w))
 left_at s sid None true e = refl
 left_at s sid None false e = refl
 left_at s sid (Some x) b e = at (eqb sid.0 x.session.0) refl b e where
@@ -215,7 +223,7 @@ count_left h sid s = at (eqb sid.0 s) refl where
   at true e = how_many_below_none _ (opens h) (λ d. holds_left h sid s d true e)
   at false e = how_many_below_same _ _ (opens h) (λ d lt. holds_left h sid s d false e)
 
-count_quiet : (h : History) (e : Event) (s : ℕ) → opens (record { event = e; rule = None } ∷ h) ≡ opens h → ((d : ℕ) → held (record { event = e; rule = None } ∷ h) d ≡ kept (λ x. false) (held h d)) → held_count (record { event = e; rule = None } ∷ h) s ≡ held_count h s
+count_quiet : (h : History) (e : Event) (s : ℕ) → opens (record { event = e; rule = None } ∷ h) ≡ opens h → ((d : ℕ) → held (record { event = e; rule = None } ∷ h) d ≡ unless (λ x. false) (held h d)) → held_count (record { event = e; rule = None } ∷ h) s ≡ held_count h s
 count_quiet h e s n same = count_kept h _ s n (λ d. same d ∙ kept_all (held h d))
 
 pub count_grows : (h : History) (e : Event) (s : ℕ) → held_count (record { event = e; rule = None } ∷ h) s ≡ held_count_after s e (bound h) (creations h) (holds h) (held_count h s)

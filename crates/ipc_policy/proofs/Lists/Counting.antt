@@ -1,10 +1,10 @@
 -- How many sends of a place a list has, and what one act does to these numbers.
 use Rattle.std.proofs.Common.{◌≡◌, ℕ, zero, suc, ◌+◌, ◌≤◌, Bool, true, false, not, ◌&&◌, ◌||◌, eqb, ltb, List, [], ◌∷◌, ◌++◌, cond, Option, Some, None, refl, sym, ap, ◌∙◌, arith}
+use Rattle.std.specs.Option.{option_to_list}
 use Rattle.std.specs.Prelude.{filter, nat_lt}
 use Rattle.std.proofs.lemmas.Bool.{eqb-true, eqb-false, eq-eqb, ne_eqb}
 use Rattle.ipc_terms.specs.Lists.{first}
-use Rattle.ipc_policy.specs.History.{listed}
-use Rattle.ipc_policy.specs.Queues.{Send, Act, Sends, Receives, Withdraws, Rests, Queue, has_all, has_none, next, others, behind, senders_after, contents_after}
+use Rattle.ipc_policy.specs.Queues.{Send, Act, Sends, Receives, Withdraws, NoAct, Queue, is_filled, has_none, next, others, tail, senders_after, contents_after}
 use Rattle.ipc_policy.specs.Parking.{stands_at}
 
 -- how many of the sends were made at this place
@@ -19,7 +19,7 @@ is_send_at i _ = false
 
 -- a send that enters is taken at once where a receive is parked; a receive takes the next message
 abbrev pub takes_at : ℕ → ℕ → Act → Queue → Bool
-takes_at maxmsg i (Sends m) q = (not (has_all maxmsg q.contents) && not (has_none q.receivers)) && eqb m.place i
+takes_at maxmsg i (Sends m) q = (not (is_filled maxmsg q.contents) && not (has_none q.receivers)) && eqb m.place i
 takes_at maxmsg i (Receives w) q = stands_at (λ m. m.place) i (next q.contents)
 takes_at maxmsg i _ q = false
 
@@ -108,7 +108,7 @@ count_next i xs le (Some n) e = at (eqb n.place i) refl where
       let whole = parts in
       omega arith
 
-pub count_first : (i : ℕ) (xs : List Send) → count_at i (listed (first xs)) + count_at i (behind xs) ≡ count_at i xs
+pub count_first : (i : ℕ) (xs : List Send) → count_at i (option_to_list (first xs)) + count_at i (tail xs) ≡ count_at i xs
 count_first i [] = refl
 count_first i (x ∷ xs) = at (eqb x.place i) where
   at : (b : Bool) → cond b (0 + 1) 0 + count_at i xs ≡ cond b (count_at i xs + 1) (count_at i xs)
@@ -117,7 +117,7 @@ count_first i (x ∷ xs) = at (eqb x.place i) where
 
 -- one act keeps the sum
 pub step_keeps : (maxmsg i : ℕ) (a : Act) (q : Queue) → count_at i q.senders ≤ 1 → count_at i q.contents ≤ 1 → count_at i (senders_after maxmsg a q) + cond (withdraws_at i a q) 1 0 + count_at i (contents_after maxmsg a q) + cond (takes_at maxmsg i a q) 1 0 ≡ count_at i q.senders + count_at i q.contents + cond (is_send_at i a) 1 0
-step_keeps maxmsg i (Sends m) q le le' = at (has_all maxmsg q.contents) (has_none q.receivers) where
+step_keeps maxmsg i (Sends m) q le le' = at (is_filled maxmsg q.contents) (has_none q.receivers) where
   one : count_at i (m ∷ []) ≡ cond (eqb m.place i) 1 0
   one = at_one (eqb m.place i) where
     at_one : (b : Bool) → cond b (0 + 1) 0 ≡ cond b 1 0
@@ -129,7 +129,7 @@ step_keeps maxmsg i (Sends m) q le le' = at (has_all maxmsg q.contents) (has_non
   at false true = let k = count_append i q.contents (m ∷ []) in let k' = one in omega arith
   at false false = omega arith
 step_keeps maxmsg i (Receives w) q le le' =
-    let k = count_append i (others (next q.contents) q.contents) (listed (first q.senders)) in
+    let k = count_append i (others (next q.contents) q.contents) (option_to_list (first q.senders)) in
     let k' = count_next i q.contents le' (next q.contents) refl in
     let k'' = count_first i q.senders in
     omega arith
@@ -138,4 +138,4 @@ step_keeps maxmsg i (Withdraws s) q le le' =
     let small : count_at i (filter (λ m. eqb m.session s) q.senders) ≤ 1 = omega arith in
     let k' = one_if (count_at i (filter (λ m. eqb m.session s) q.senders)) small in
     omega arith
-step_keeps maxmsg i Rests q le le' = omega arith
+step_keeps maxmsg i NoAct q le le' = omega arith

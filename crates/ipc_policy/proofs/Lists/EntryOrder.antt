@@ -1,14 +1,14 @@
 -- The contents stand in the order of entry; what is next is the earliest of the greatest priority.
 use Rattle.std.proofs.Common.{◌≡◌, ℕ, ◌+◌, ◌<◌, ◌≤◌, Bool, true, false, not, ◌&&◌, ◌||◌, eqb, ltb, List, [], ◌∷◌, ◌++◌, length, cond, Option, Some, None, refl, sym, ap, subst, ◌∙◌, arith, add-one}
 use Rattle.std.specs.Prelude.{is_some, unwrap_or, MatchOption}
-use Rattle.std.specs.Option.{option_or}
+use Rattle.std.specs.Option.{option_or, option_to_list}
 use Rattle.std.proofs.lemmas.Bool.{eq-eqb, ne_eqb, ltb-true, ltb-false}
 use Rattle.ipc_terms.specs.Lists.{first, Each}
 use Rattle.ipc_terms.specs.declared.rule.Rule.{Rule}
 use Rattle.ipc_terms.specs.declared.record.Event.{Event}
 use Rattle.ipc_policy.specs.declared.config.Config.{Config}
-use Rattle.ipc_policy.specs.History.{History, newest, listed}
-use Rattle.ipc_policy.specs.Queues.{Send, Act, Sends, Receives, Withdraws, Rests, Queue, has_all, has_none, next, others, contents_after, act, queue, maxmsg, contents}
+use Rattle.ipc_policy.specs.History.{History, newest}
+use Rattle.ipc_policy.specs.Queues.{Send, Act, Sends, Receives, Withdraws, NoAct, Queue, is_filled, has_none, next, others, contents_after, act, queue, maxmsg, contents}
 use Rattle.ipc_policy.specs.Readings.{Rising, enters, entering, entered, EachInsideInOrder, IsNext, EachNextIsGreatest}
 use Rattle.ipc_policy.proofs.Lists.PlaceLists.{rising_higher, rising_append, rising_filter}
 use Rattle.ipc_policy.proofs.Lists.EachItem.{each_map, each_append, each_filter}
@@ -37,9 +37,9 @@ rising_end f lo [] hi r = r
 rising_end f lo (x ∷ xs) hi r = (r.0, rising_end f (f x + 1) xs hi r.1)
 
 order_step : (maxmsg n : ℕ) (a : Act) (q : Queue) (f g : ℕ → ℕ) → HasPlace n a → count_at n q.contents ≡ 0 → ((j : ℕ) → count_at j q.senders + count_at j q.contents ≤ 1) → ((i : ℕ) → g i ≡ cond (is_some (enters maxmsg i a q)) n (f i)) → Rising (λ (m : Send). f m.place) 0 q.contents n → Rising (λ (m : Send). g m.place) 0 (contents_after maxmsg a q) (n + 1)
-order_step maxmsg n (Sends m) q f g p new one step r = at (has_all maxmsg q.contents) (has_none q.receivers) refl where
+order_step maxmsg n (Sends m) q f g p new one step r = at (is_filled maxmsg q.contents) (has_none q.receivers) refl where
   old : Rising (λ (x : Send). g x.place) 0 q.contents n
-  old = rising_same (λ (x : Send). f x.place) (λ (x : Send). g x.place) 0 q.contents n (each_counted (λ x. g x.place ≡ f x.place) q.contents (λ x le. step x.place ∙ other x le (has_all maxmsg q.contents))) r where
+  old = rising_same (λ (x : Send). f x.place) (λ (x : Send). g x.place) 0 q.contents n (each_counted (λ x. g x.place ≡ f x.place) q.contents (λ x le. step x.place ∙ other x le (is_filled maxmsg q.contents))) r where
     other : (x : Send) → 1 ≤ count_at x.place q.contents → (b : Bool) → cond (is_some {T = Send} (cond (not b && eqb m.place x.place) (Some m) None)) n (f x.place) ≡ f x.place
     other x le b =
         let no' : eqb m.place x.place ≡ false = ne_eqb _ _ (λ (e : m.place ≡ x.place). let same : x.place ≡ n = sym e ∙ p in let none : count_at x.place q.contents ≡ 0 = rw same new in absurd (omega arith)) in
@@ -48,7 +48,7 @@ order_step maxmsg n (Sends m) q f g p new one step r = at (has_all maxmsg q.cont
           fails true = refl
           fails false = refl
 
-  at : (b d : Bool) → has_all maxmsg q.contents ≡ b → Rising (λ (x : Send). g x.place) 0 (cond (b || not d) q.contents (q.contents ++ m ∷ [])) (n + 1)
+  at : (b d : Bool) → is_filled maxmsg q.contents ≡ b → Rising (λ (x : Send). g x.place) 0 (cond (b || not d) q.contents (q.contents ++ m ∷ [])) (n + 1)
   at true d e = rising_higher (λ (x : Send). g x.place) 0 q.contents n (n + 1) (omega arith) old
   at false false e = rising_higher (λ (x : Send). g x.place) 0 q.contents n (n + 1) (omega arith) old
   at false true e = rising_append (λ (x : Send). g x.place) 0 q.contents n m (step m.place ∙ (let self : eqb m.place m.place ≡ true = eq-eqb _ _ refl in rw (e, self) refl)) old
@@ -76,11 +76,11 @@ order_step maxmsg n (Receives w) q f g p new one step r = at (first q.senders) r
   stays : Rising (λ (x : Send). g x.place) 0 (others (next q.contents) q.contents) n
   stays = rising_same (λ (x : Send). f x.place) (λ (x : Send). g x.place) 0 (others (next q.contents) q.contents) n kept_in left
 
-  at : (o : Option Send) → first q.senders ≡ o → Rising (λ (x : Send). g x.place) 0 (others (next q.contents) q.contents ++ listed o) (n + 1)
+  at : (o : Option Send) → first q.senders ≡ o → Rising (λ (x : Send). g x.place) 0 (others (next q.contents) q.contents ++ option_to_list o) (n + 1)
   at None e = rising_end (λ (x : Send). g x.place) 0 (others (next q.contents) q.contents) (n + 1) (rising_higher (λ (x : Send). g x.place) 0 (others (next q.contents) q.contents) n (n + 1) (omega arith) stays)
   at (Some y) e = rising_append (λ (x : Send). g x.place) 0 (others (next q.contents) q.contents) n y (step y.place ∙ (let self : eqb y.place y.place ≡ true = eq-eqb _ _ refl in rw (e, self) refl)) stays
 order_step maxmsg n (Withdraws s) q f g p new one step r = unchanged n q f g step r
-order_step maxmsg n Rests q f g p new one step r = unchanged n q f g step r
+order_step maxmsg n NoAct q f g p new one step r = unchanged n q f g step r
 
 last_or : (b : Bool) (n d : ℕ) (w : Option ℕ) → unwrap_or (option_or (cond b (Some n) None) w) d ≡ cond b n (unwrap_or w d)
 last_or true n d w = refl

@@ -1,10 +1,10 @@
 -- How many items a queue's lists have after an act.
 use Rattle.std.proofs.Common.{◌≡◌, ℕ, ◌+◌, ◌≤◌, Bool, true, false, not, eqb, List, [], ◌∷◌, length, cond, Option, Some, None, refl, sym, ap, arith}
+use Rattle.std.specs.Option.{option_to_list}
 use Rattle.std.proofs.lemmas.Bool.{ne_eqb}
 use Rattle.std.specs.Prelude.{filter}
 use Rattle.ipc_terms.specs.Lists.{first}
-use Rattle.ipc_policy.specs.History.{listed}
-use Rattle.ipc_policy.specs.Queues.{Send, has_none, behind, next, others}
+use Rattle.ipc_policy.specs.Queues.{Send, has_none, tail, next, others}
 use Rattle.ipc_policy.proofs.Lists.Counting.{count_at, next_in}
 use Rattle.ipc_policy.proofs.Lists.EntryOrder.{next_some}
 
@@ -25,7 +25,7 @@ pub length_some : {A : Type 0} (xs : List A) → 1 ≤ length xs → has_none xs
 length_some [] le = absurd (omega arith)
 length_some (x ∷ xs) le = refl
 
-pub behind_some : {A : Type 0} (xs : List A) → has_none (behind xs) ≡ false → has_none xs ≡ false
+pub behind_some : {A : Type 0} (xs : List A) → has_none (tail xs) ≡ false → has_none xs ≡ false
 behind_some [] e = e
 behind_some (x ∷ xs) e = refl
 
@@ -34,11 +34,11 @@ filter_some p [] e = e
 filter_some p (x ∷ xs) e = refl
 
 -- the first, as a list, is one item or none
-pub first_none : {A : Type 0} (xs : List A) → has_none xs ≡ true → listed (first xs) ≡ []
+pub first_none : {A : Type 0} (xs : List A) → has_none xs ≡ true → option_to_list (first xs) ≡ []
 first_none [] e = refl
 first_none (x ∷ xs) e = absurd cc
 
-pub first_one : {A : Type 0} (xs : List A) → has_none xs ≡ false → length (listed (first xs)) ≡ 1
+pub first_one : {A : Type 0} (xs : List A) → has_none xs ≡ false → length (option_to_list (first xs)) ≡ 1
 first_one [] e = absurd cc
 first_one (x ∷ xs) e = refl
 

@@ -4,8 +4,8 @@ use Rattle.std.specs.Prelude.{filter}
 use Rattle.std.specs.Option.{option_or}
 use Rattle.std.proofs.lemmas.Bool.{eqb-true, eqb-false, eq-eqb, ne_eqb}
 use Rattle.ipc_terms.specs.Lists.{first}
-use Rattle.ipc_policy.specs.History.{kept}
-use Rattle.ipc_policy.specs.Queues.{behind}
+use Rattle.ipc_policy.specs.History.{unless}
+use Rattle.ipc_policy.specs.Queues.{tail}
 use Rattle.ipc_policy.specs.Parking.{stands_at}
 use Rattle.ipc_policy.specs.Readings.{of_place, Rising}
 
@@ -21,7 +21,7 @@ pub rising_append : {A : Type 0} (place : A → ℕ) (lo : ℕ) (xs : List A) (h
 rising_append place lo [] hi m e h = (omega arith, omega arith)
 rising_append place lo (x ∷ xs) hi m e h = (h.0, rising_append place (place x + 1) xs hi m e h.1)
 
-pub rising_behind : {A : Type 0} (place : A → ℕ) (lo : ℕ) (xs : List A) (hi : ℕ) → Rising place lo xs hi → Rising place lo (behind xs) hi
+pub rising_behind : {A : Type 0} (place : A → ℕ) (lo : ℕ) (xs : List A) (hi : ℕ) → Rising place lo xs hi → Rising place lo (tail xs) hi
 rising_behind place lo [] hi h = h
 rising_behind place lo (x ∷ xs) hi h = rising_lower place (place x + 1) lo xs hi (omega arith) h.1
 
@@ -68,30 +68,30 @@ found_place place i (x ∷ xs) m e = at (found_place place i xs m) (eqb (place x
   at rest true k j = let same : x ≡ m = cc in ap place (sym same) ∙ eqb-true _ _ k
   at rest false k j = rest j
 
-kept_none : {A : Type 0} (p : A → Bool) (o : Option A) → ((x : A) → o ≡ Some x → p x ≡ false) → kept p o ≡ o
+kept_none : {A : Type 0} (p : A → Bool) (o : Option A) → ((x : A) → o ≡ Some x → p x ≡ false) → unless p o ≡ o
 kept_none p None h = refl
 kept_none p (Some x) h = rw (h x refl) refl
 
-kept_here : {A : Type 0} (p : A → Bool) (x : A) → p x ≡ true → kept p (Some x) ≡ None
+kept_here : {A : Type 0} (p : A → Bool) (x : A) → p x ≡ true → unless p (Some x) ≡ None
 kept_here p x e = rw e refl
 
-pub found_behind : {A : Type 0} (place : A → ℕ) (lo i : ℕ) (xs : List A) (hi : ℕ) → Rising place lo xs hi → of_place place i (behind xs) ≡ kept (λ m. stands_at place (place m) (first xs)) (of_place place i xs)
+pub found_behind : {A : Type 0} (place : A → ℕ) (lo i : ℕ) (xs : List A) (hi : ℕ) → Rising place lo xs hi → of_place place i (tail xs) ≡ unless (λ m. stands_at place (place m) (first xs)) (of_place place i xs)
 found_behind place lo i [] hi h = refl
 found_behind place lo i (x ∷ xs) hi h = at (eqb (place x) i) refl where
-  at : (b : Bool) → eqb (place x) i ≡ b → of_place place i xs ≡ kept (λ m. eqb (place x) (place m)) (cond b (Some x) (of_place place i xs))
+  at : (b : Bool) → eqb (place x) i ≡ b → of_place place i xs ≡ unless (λ m. eqb (place x) (place m)) (cond b (Some x) (of_place place i xs))
   at true e =
       let same : place x ≡ i = eqb-true _ _ e in
       found_below place (place x + 1) i xs hi (omega arith) h.1 ∙ sym (kept_here (λ m. eqb (place x) (place m)) x (eq-eqb _ _ refl))
   at false e = sym (kept_none (λ m. eqb (place x) (place m)) (of_place place i xs) (λ m found. ne_eqb _ _ (λ q. eqb-false _ _ e (q ∙ found_place place i xs m found))))
 
-pub found_filter : {A : Type 0} (place : A → ℕ) (p : A → Bool) (lo i : ℕ) (xs : List A) (hi : ℕ) → Rising place lo xs hi → of_place place i (filter (λ m. not (p m)) xs) ≡ kept p (of_place place i xs)
+pub found_filter : {A : Type 0} (place : A → ℕ) (p : A → Bool) (lo i : ℕ) (xs : List A) (hi : ℕ) → Rising place lo xs hi → of_place place i (filter (λ m. not (p m)) xs) ≡ unless p (of_place place i xs)
 found_filter place p lo i [] hi h = refl
 found_filter place p lo i (x ∷ xs) hi h = at (p x) refl (eqb (place x) i) refl (found_filter place p (place x + 1) i xs hi h.1) where
-  at : (b : Bool) → p x ≡ b → (d : Bool) → eqb (place x) i ≡ d → of_place place i (filter (λ m. not (p m)) xs) ≡ kept p (of_place place i xs) → of_place place i (cond (not b) (x ∷ filter (λ m. not (p m)) xs) (filter (λ m. not (p m)) xs)) ≡ kept p (cond d (Some x) (of_place place i xs))
+  at : (b : Bool) → p x ≡ b → (d : Bool) → eqb (place x) i ≡ d → of_place place i (filter (λ m. not (p m)) xs) ≡ unless p (of_place place i xs) → of_place place i (cond (not b) (x ∷ filter (λ m. not (p m)) xs) (filter (λ m. not (p m)) xs)) ≡ unless p (cond d (Some x) (of_place place i xs))
   at true k true e rest =
       let same : place x ≡ i = eqb-true _ _ e in
       let none : of_place place i xs ≡ None = found_below place (place x + 1) i xs hi (omega arith) h.1 in
-      rest ∙ ap (kept p) none ∙ sym (kept_here p x k)
+      rest ∙ ap (unless p) none ∙ sym (kept_here p x k)
   at true k false e rest = rest
   at false k true e rest = rw (e, k) refl
   at false k false e rest = rw e rest

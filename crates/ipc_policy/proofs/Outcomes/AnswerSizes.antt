@@ -22,10 +22,10 @@ use Rattle.ipc_policy.specs.History.{History}
 use Rattle.ipc_policy.specs.Sessions.{live}
 use Rattle.ipc_policy.specs.Descriptions.{holds}
 use Rattle.ipc_policy.specs.Life.{names}
-use Rattle.ipc_policy.specs.Queues.{Send, Wait, queue, contents, senders, receivers, attributes, next, is_full}
+use Rattle.ipc_policy.specs.Queues.{Send, Waiter, queue, contents, senders, receivers, attributes, next, is_full}
 use Rattle.ipc_policy.specs.Registrations.{is_idle, registered}
 use Rattle.ipc_policy.specs.Semaphores.{waiters, is_zero}
-use Rattle.ipc_policy.specs.Verdict.{verdict, Legal, answers, answers_at, accepted_answers, answers_of, given, let_in, noticed, send_answers, received, receive_answers, attributes_told, let_through, post_answers, wait_answers, value_told, told, facts_meant, for_session, outbox}
+use Rattle.ipc_policy.specs.Verdict.{verdict, Legal, answers, answers_at, accepted_answers, answers_of, receiver_answers, sender_answers, noticed, send_answers, received, receive_answers, attributes_told, waiter_answers, post_answers, wait_answers, value_told, stat_answers, facts_meant, for_session, outbox}
 use Rattle.ipc_policy.specs.Sizes.{LimitsMessages, EachAnswerIsSmall, EachOutboxIsSmall}
 use Rattle.ipc_policy.proofs.Lists.EachItem.{each_append, each_filter, each_greatest}
 use Rattle.ipc_policy.proofs.Lists.Pages.{page_le, each_paged}
@@ -36,7 +36,7 @@ abbrev AllSmall : List (Sid × Answer) → Type 0
 AllSmall answered = Each (λ p. IsSmall HARD_MSGSIZE_MAX p.1) answered
 
 -- whom else a call answers
-given_small : (priority : ℕ) (bytes : List ℕ) (w : Option Wait) → length bytes ≤ HARD_MSGSIZE_MAX → AllSmall (given priority bytes w)
+given_small : (priority : ℕ) (bytes : List ℕ) (w : Option Waiter) → length bytes ≤ HARD_MSGSIZE_MAX → AllSmall (receiver_answers priority bytes w)
 given_small priority bytes None le = tt
 given_small priority bytes (Some w) le = (le, tt)
 
@@ -45,21 +45,21 @@ noticed_small true None = tt
 noticed_small true (Some x) = (tt, tt)
 noticed_small false w = tt
 
-let_in_small : (w : Option Send) → AllSmall (let_in w)
+let_in_small : (w : Option Send) → AllSmall (sender_answers w)
 let_in_small None = tt
 let_in_small (Some m) = (tt, tt)
 
-let_through_small : (w : Option Wait) → AllSmall (let_through w)
+let_through_small : (w : Option Waiter) → AllSmall (waiter_answers w)
 let_through_small None = tt
 let_through_small (Some w) = (tt, tt)
 
 -- what each call answers
 sent_small : (c : Config) (h : History) (sid : Sid) (priority : ℕ) (bytes : List ℕ) (o : ℕ) → length bytes ≤ HARD_MSGSIZE_MAX → AllSmall (send_answers c h sid priority bytes o)
 sent_small c h sid priority bytes o le = at (is_full c h o) where
-  others : AllSmall (given priority bytes (first (receivers c h o)) ++ cond (is_idle (queue c h o)) (noticed (registered c h o)) [])
-  others = each_append (λ (p : Sid × Answer). IsSmall HARD_MSGSIZE_MAX p.1) (given priority bytes (first (receivers c h o))) (cond (is_idle (queue c h o)) (noticed (registered c h o)) []) (given_small priority bytes (first (receivers c h o)) le) (noticed_small (is_idle (queue c h o)) (registered c h o))
+  others : AllSmall (receiver_answers priority bytes (first (receivers c h o)) ++ cond (is_idle (queue c h o)) (noticed (registered c h o)) [])
+  others = each_append (λ (p : Sid × Answer). IsSmall HARD_MSGSIZE_MAX p.1) (receiver_answers priority bytes (first (receivers c h o))) (cond (is_idle (queue c h o)) (noticed (registered c h o)) []) (given_small priority bytes (first (receivers c h o)) le) (noticed_small (is_idle (queue c h o)) (registered c h o))
 
-  at : (b : Bool) → AllSmall (cond b [] ((sid, Sent) ∷ given priority bytes (first (receivers c h o)) ++ cond (is_idle (queue c h o)) (noticed (registered c h o)) []))
+  at : (b : Bool) → AllSmall (cond b [] ((sid, Sent) ∷ receiver_answers priority bytes (first (receivers c h o)) ++ cond (is_idle (queue c h o)) (noticed (registered c h o)) []))
   at true = tt
   at false = (tt, others)
 
@@ -90,7 +90,7 @@ attributes_small c h sid d = at (holds h sid.0 d) refl where
   at None e = rw e tt
   at (Some x) e = with_attributes x.object (attributes c h x.object) refl x refl e
 
-told_small : (sid : Sid) (w : Option Facts) → AllSmall (told sid w)
+told_small : (sid : Sid) (w : Option Facts) → AllSmall (stat_answers sid w)
 told_small sid None = tt
 told_small sid (Some found) = (tt, tt)
 

@@ -21,7 +21,7 @@ use Rattle.ipc_terms.specs.declared.record.Event.{Event}
 use Rattle.ipc_terms.specs.declared.record.Event.TheVariants.{Do}
 use Rattle.ipc_policy.specs.declared.config.Config.{Config}
 use Rattle.ipc_policy.specs.declared.config.Held.{Held}
-use Rattle.ipc_policy.specs.History.{History, there_is}
+use Rattle.ipc_policy.specs.History.{History, is_some_and}
 use Rattle.ipc_policy.specs.Names.{is_bound, bound}
 use Rattle.ipc_policy.specs.Objects.{object, facts}
 use Rattle.ipc_policy.specs.Descriptions.{holds}
@@ -31,7 +31,7 @@ use Rattle.ipc_policy.specs.Semaphores.{is_zero}
 use Rattle.ipc_policy.specs.Parking.{ParkedKind, Sending, Receiving, Waiting, Parked, parked_on, parks}
 use Rattle.ipc_policy.specs.Readings.{IsNext}
 use Rattle.ipc_policy.specs.Rules.{forbids, absent, not_held, is_of_family}
-use Rattle.ipc_policy.specs.Verdict.{verdict, Legal, answers, answers_at, accepted_answers, answers_of, given, noticed, send_answers, received, receive_answers, attributes_told, post_answers, wait_answers, value_told, told, facts_meant}
+use Rattle.ipc_policy.specs.Verdict.{verdict, Legal, answers, answers_at, accepted_answers, answers_of, receiver_answers, noticed, send_answers, received, receive_answers, attributes_told, post_answers, wait_answers, value_told, stat_answers, facts_meant}
 use Rattle.ipc_policy.specs.Answered.{is_notice, IsAnsweredFirst, EachCallIsAnswered, ParkingAnswersNobody, HelloAnswersItsSession, HangupAnswersNobody, RefusalAnswersItsCaller}
 use Rattle.ipc_policy.proofs.Queues.ActsOf.{queue_given}
 use Rattle.ipc_policy.proofs.Directories.Bindings.{bound_made}
@@ -90,7 +90,7 @@ some_next : (xs : List Send) (w : Option Send) → next xs ≡ w → has_none xs
 some_next xs (Some m) e some = refl
 some_next xs None e some = absurd (let none : xs ≡ [] = subst (λ (v : Option Send). MatchOption v (xs ≡ []) (λ n. IsNext xs n)) e (next_is_greatest xs) in let wrong : true ≡ false = sym (ap has_none none) ∙ some in cc)
 
-not_empty : (b : Bool) (w : Option Attributes) → is_some w ≡ true → there_is (λ x. b) w ≡ false → b ≡ false
+not_empty : (b : Bool) (w : Option Attributes) → is_some w ≡ true → is_some_and (λ x. b) w ≡ false → b ≡ false
 not_empty b None there e = absurd cc
 not_empty b (Some x) there e = e
 
@@ -105,7 +105,7 @@ attributes_first c h sid d given' = at given'.x.object (attributes c h given'.x.
   at o None e x same k there = absurd cc
   at o (Some y) e x same k there = rw k (rw same (rw e (first_is sid _ _ refl)))
 
-told_first : (sid : Sid) (w : Option Facts) → is_some w ≡ true → IsAnsweredFirst sid (told sid w)
+told_first : (sid : Sid) (w : Option Facts) → is_some w ≡ true → IsAnsweredFirst sid (stat_answers sid w)
 told_first sid None e = absurd cc
 told_first sid (Some found) e = first_is sid _ _ refl
 
@@ -125,7 +125,7 @@ same_session n = eq-eqb _ _ refl
 
 -- what each accepted call is answered
 send_first : (c : Config) (h : History) (sid : Sid) (desc : Desc) (priority : ℕ) (bytes : List ℕ) → Gives c h sid.0 Mq desc.0 → parks c sid.0 (Do sid (MqSend desc priority bytes)) h ≡ None → IsAnsweredFirst sid (answers_of (holds h sid.0 desc.0) (send_answers c h sid priority bytes))
-send_first c h sid desc priority bytes given' p = by_held sid (holds h sid.0 desc.0) given'.x (send_answers c h sid priority bytes) given'.held (first_unless sid (is_full c h given'.x.object) Sent (given priority bytes (first (receivers c h given'.x.object)) ++ cond (is_idle (queue c h given'.x.object)) (noticed (registered c h given'.x.object)) []) (met (is_full c h) Sending (length h) (eqb sid.0 sid.0) (holds h sid.0 desc.0) given'.x (same_session sid.0) given'.held p) refl)
+send_first c h sid desc priority bytes given' p = by_held sid (holds h sid.0 desc.0) given'.x (send_answers c h sid priority bytes) given'.held (first_unless sid (is_full c h given'.x.object) Sent (receiver_answers priority bytes (first (receivers c h given'.x.object)) ++ cond (is_idle (queue c h given'.x.object)) (noticed (registered c h given'.x.object)) []) (met (is_full c h) Sending (length h) (eqb sid.0 sid.0) (holds h sid.0 desc.0) given'.x (same_session sid.0) given'.held p) refl)
 
 receive_first : (c : Config) (h : History) (sid : Sid) (desc : Desc) (length' : ℕ) → Gives c h sid.0 Mq desc.0 → parks c sid.0 (Do sid (MqReceive desc length')) h ≡ None → IsAnsweredFirst sid (answers_of (holds h sid.0 desc.0) (receive_answers c h sid))
 receive_first c h sid desc length' given' p =
@@ -177,7 +177,7 @@ none_if : (b : Bool) (xs : List (Sid × Answer)) → b ≡ true → cond b [] xs
 none_if true xs e = refl
 none_if false xs e = absurd cc
 
-empty_at : (b : Bool) (w : Option Attributes) → there_is (λ x. b) w ≡ true → b ≡ true
+empty_at : (b : Bool) (w : Option Attributes) → is_some_and (λ x. b) w ≡ true → b ≡ true
 empty_at b None e = absurd cc
 empty_at b (Some x) e = e
 

@@ -17,10 +17,10 @@ use Rattle.ipc_terms.specs.declared.record.Event.TheVariants.{Do}
 use Rattle.ipc_policy.specs.declared.config.Config.{Config}
 use Rattle.ipc_policy.specs.declared.config.Held.{Held}
 use Rattle.ipc_policy.specs.declared.config.TheConstants.{HARD_MSGSIZE_MAX}
-use Rattle.ipc_policy.specs.History.{History, there_is}
+use Rattle.ipc_policy.specs.History.{History, is_some_and}
 use Rattle.ipc_policy.specs.Objects.{object}
 use Rattle.ipc_policy.specs.Descriptions.{holds}
-use Rattle.ipc_policy.specs.Queues.{Send, Wait, Act, Sends, Receives, Withdraws, Rests, Queue, has_all, next, act, queue, contents_after, senders_after, attributes, maxmsg}
+use Rattle.ipc_policy.specs.Queues.{Send, Waiter, Act, Sends, Receives, Withdraws, NoAct, Queue, is_filled, next, act, queue, contents_after, senders_after, attributes, maxmsg}
 use Rattle.ipc_policy.specs.Rules.{forbids, message_long, attributes_held}
 use Rattle.ipc_policy.specs.Verdict.{verdict, Legal}
 use Rattle.ipc_policy.specs.Deliveries.{Delivery, delivers, object_asked, delivery}
@@ -51,7 +51,7 @@ abbrev pub Fits : Option Attributes → ℕ → Type 0
 Fits None n = ⊥
 Fits (Some x) n = n ≤ x.msgsize
 
-fits_at : (n : ℕ) (w : Option Attributes) → is_some w ≡ true → there_is (λ x. nat_lt x.msgsize n) w ≡ false → Fits w n
+fits_at : (n : ℕ) (w : Option Attributes) → is_some w ≡ true → is_some_and (λ x. nat_lt x.msgsize n) w ≡ false → Fits w n
 fits_at n None some e = absurd cc
 fits_at n (Some x) some e = let k = ltb-false _ _ e in omega arith
 
@@ -59,8 +59,8 @@ fits_at n (Some x) some e = let k = ltb-false _ _ e in omega arith
 pub send_fits : (c : Config) (h : History) (sid : Sid) (desc : Desc) (priority : ℕ) (bytes : List ℕ) (x : Held) → verdict c h (Do sid (MqSend desc priority bytes)) ≡ None → holds h sid.0 desc.0 ≡ Some x → Fits (attributes c h x.object) (length bytes)
 unfolding forbids message_long
 send_fits c h sid desc priority bytes x accepted held =
-    let passes : there_is (λ (y : Attributes). nat_lt y.msgsize (length bytes)) (attributes_held c h sid.0 desc.0) ≡ false = unforbidden c h (Do sid (MqSend desc priority bytes)) accepted MessageLong in
-    let passes' : there_is (λ (y : Attributes). nat_lt y.msgsize (length bytes)) (attributes c h x.object) ≡ false = rw held at passes in
+    let passes : is_some_and (λ (y : Attributes). nat_lt y.msgsize (length bytes)) (attributes_held c h sid.0 desc.0) ≡ false = unforbidden c h (Do sid (MqSend desc priority bytes)) accepted MessageLong in
+    let passes' : is_some_and (λ (y : Attributes). nat_lt y.msgsize (length bytes)) (attributes c h x.object) ≡ false = rw held at passes in
     fits_at (length bytes) (attributes c h x.object) (held_queue c h sid (MqSend desc priority bytes) desc x (sym accepted) refl held) passes'
 
 act_fits : (c : Config) (h : History) (o : ℕ) (e : Event) → None ≡ verdict c h e → (m : Send) → act o e h ≡ Sends m → Fits (attributes c h o) (length m.bytes)
@@ -111,8 +111,8 @@ inside_fits c h o legal = (all_fit c h o legal).inside
 
 -- and so does each that is handed to a receive
 handed_on : (c : Config) (h : History) (o : ℕ) (e : Event) → Legal c h → None ≡ verdict c h e → (d : Delivery) (a : Act) → act o e h ≡ a → delivers (maxmsg c h o) o a (queue c h o) ≡ Some d → Fits (attributes c h d.object) (length d.message.bytes)
-handed_on c h o e legal accepted d (Sends m) k j = sent (has_all (maxmsg c h o) (queue c h o).contents) (first (queue c h o).receivers) j where
-  sent : (b : Bool) (w : Option Wait) → cond b None (option_map (λ v. record { object = o; message = m; receive = v }) w) ≡ Some d → Fits (attributes c h d.object) (length d.message.bytes)
+handed_on c h o e legal accepted d (Sends m) k j = sent (is_filled (maxmsg c h o) (queue c h o).contents) (first (queue c h o).receivers) j where
+  sent : (b : Bool) (w : Option Waiter) → cond b None (option_map (λ v. record { object = o; message = m; receive = v }) w) ≡ Some d → Fits (attributes c h d.object) (length d.message.bytes)
   sent true w i = absurd cc
   sent false None i = absurd cc
   sent false (Some v) i = let same : record { object = o; message = m; receive = v } ≡ d = cc in subst (λ (x : Delivery). Fits (attributes c h x.object) (length x.message.bytes)) same (act_fits c h o e accepted m k)
@@ -121,7 +121,7 @@ handed_on c h o e legal accepted d (Receives w) k j = taken (next (queue c h o).
   taken None q i = absurd cc
   taken (Some m) q i = let same : record { object = o; message = m; receive = w } ≡ d = cc in subst (λ (x : Delivery). Fits (attributes c h x.object) (length x.message.bytes)) same (each_greatest (λ (n : Send). Fits (attributes c h o) (length n.bytes)) (λ n. n.priority) (queue c h o).contents m (inside_fits c h o legal) q)
 handed_on c h o e legal accepted d (Withdraws s) k j = absurd cc
-handed_on c h o e legal accepted d Rests k j = absurd cc
+handed_on c h o e legal accepted d NoAct k j = absurd cc
 
 delivered_by : (c : Config) (h : History) (e : Event) → Legal c h → None ≡ verdict c h e → (d : Delivery) (w : Option ℕ) → option_and_then (λ o. delivers (maxmsg c h o) o (act o e h) (queue c h o)) w ≡ Some d → Fits (attributes c h d.object) (length d.message.bytes)
 delivered_by c h e legal accepted d None k = absurd cc

@@ -16,18 +16,18 @@ use Rattle.ipc_policy.specs.declared.config.Held.{Held}
 use Rattle.ipc_terms.specs.declared.object.Object.{Object}
 use Rattle.ipc_terms.specs.declared.object.Kind.{Kind}
 use Rattle.ipc_terms.specs.declared.object.Kind.TheVariants.{Queue, Semaphore}
-use Rattle.ipc_policy.specs.History.{History, there_is}
+use Rattle.ipc_policy.specs.History.{History, is_some_and}
 use Rattle.ipc_policy.specs.Objects.{object}
 use Rattle.ipc_policy.specs.Descriptions.{holds}
 use Rattle.ipc_policy.specs.Life.{gives_object}
-use Rattle.ipc_policy.specs.Queues.{Send, Wait, Act, Sends, Receives, Rests, act, attributes}
+use Rattle.ipc_policy.specs.Queues.{Send, Waiter, Act, Sends, Receives, NoAct, act, attributes}
 use Rattle.ipc_policy.specs.Rules.{forbids, bad_descr, not_held, is_of_family, described}
 use Rattle.ipc_policy.specs.Verdict.{verdict}
 use Rattle.ipc_policy.proofs.Histories.Unforbidden.{unforbidden}
 use Rattle.ipc_policy.proofs.Fates.Sent.{not_sends}
 
 -- an event that receives from object o
-pub record ReceiveOf (o : ℕ) (e : Event) (h : History) (w : Wait) : Type 0 where
+pub record ReceiveOf (o : ℕ) (e : Event) (h : History) (w : Waiter) : Type 0 where
   pub sid : Sid
   pub desc : Desc
   pub length' : ℕ
@@ -49,16 +49,16 @@ pub record SendOf (o : ℕ) (e : Event) (h : History) (m : Send) : Type 0 where
   pub session : m.session ≡ sid.0
   pub by : m.desc ≡ desc.0
 
-not_receives : (b : Bool) (a : Act) (w : Wait) → (a ≡ Receives w → ⊥) → cond b a Rests ≡ Receives w → ⊥
+not_receives : (b : Bool) (a : Act) (w : Waiter) → (a ≡ Receives w → ⊥) → cond b a NoAct ≡ Receives w → ⊥
 not_receives true a w h e = h e
 not_receives false a w h e = cc
 
-pub act_receives : (o : ℕ) (e : Event) (h : History) (w : Wait) → act o e h ≡ Receives w → ReceiveOf o e h w
+pub act_receives : (o : ℕ) (e : Event) (h : History) (w : Waiter) → act o e h ≡ Receives w → ReceiveOf o e h w
 act_receives o (Do sid (MqReceive desc length')) h w k = at (holds h sid.0 desc.0) refl k where
-  at : (y : Option Held) → holds h sid.0 desc.0 ≡ y → cond (gives_object o y) (Receives (record { place = length h; session = sid.0; desc = desc.0 })) Rests ≡ Receives w → ReceiveOf o (Do sid (MqReceive desc length')) h w
+  at : (y : Option Held) → holds h sid.0 desc.0 ≡ y → cond (gives_object o y) (Receives (record { place = length h; session = sid.0; desc = desc.0 })) NoAct ≡ Receives w → ReceiveOf o (Do sid (MqReceive desc length')) h w
   at None q j = absurd cc
   at (Some x) q j = same (eqb x.object o) refl j where
-    same : (b : Bool) → eqb x.object o ≡ b → cond b (Receives (record { place = length h; session = sid.0; desc = desc.0 })) Rests ≡ Receives w → ReceiveOf o (Do sid (MqReceive desc length')) h w
+    same : (b : Bool) → eqb x.object o ≡ b → cond b (Receives (record { place = length h; session = sid.0; desc = desc.0 })) NoAct ≡ Receives w → ReceiveOf o (Do sid (MqReceive desc length')) h w
     same true p i = record { sid = sid; desc = desc; length' = length'; x = x; event = refl; held = q; object = eqb-true _ _ p; wait = cc }
     same false p i = absurd cc
 act_receives o (Do sid (MqSend desc priority bytes)) h w k = absurd (not_receives (gives_object o (holds h sid.0 desc.0)) _ w (λ j. cc) k)
@@ -68,10 +68,10 @@ act_receives o (Hangup sid) h w k = absurd cc
 
 pub act_sends : (o : ℕ) (e : Event) (h : History) (m : Send) → act o e h ≡ Sends m → SendOf o e h m
 act_sends o (Do sid (MqSend desc priority bytes)) h m k = at (holds h sid.0 desc.0) refl k where
-  at : (y : Option Held) → holds h sid.0 desc.0 ≡ y → cond (gives_object o y) (Sends (record { place = length h; session = sid.0; desc = desc.0; priority = priority; bytes = bytes })) Rests ≡ Sends m → SendOf o (Do sid (MqSend desc priority bytes)) h m
+  at : (y : Option Held) → holds h sid.0 desc.0 ≡ y → cond (gives_object o y) (Sends (record { place = length h; session = sid.0; desc = desc.0; priority = priority; bytes = bytes })) NoAct ≡ Sends m → SendOf o (Do sid (MqSend desc priority bytes)) h m
   at None q j = absurd cc
   at (Some x) q j = same (eqb x.object o) refl j where
-    same : (b : Bool) → eqb x.object o ≡ b → cond b (Sends (record { place = length h; session = sid.0; desc = desc.0; priority = priority; bytes = bytes })) Rests ≡ Sends m → SendOf o (Do sid (MqSend desc priority bytes)) h m
+    same : (b : Bool) → eqb x.object o ≡ b → cond b (Sends (record { place = length h; session = sid.0; desc = desc.0; priority = priority; bytes = bytes })) NoAct ≡ Sends m → SendOf o (Do sid (MqSend desc priority bytes)) h m
     same true p i =
         let sent : record { place = length h; session = sid.0; desc = desc.0; priority = priority; bytes = bytes } ≡ m = cc in
         record { sid = sid; desc = desc; x = x; event = ap (λ (n : Send). Do sid (MqSend desc n.priority n.bytes)) sent; held = q; object = eqb-true _ _ p; place = sym (ap (λ (n : Send). n.place) sent); session = sym (ap (λ (n : Send). n.session) sent); by = sym (ap (λ (n : Send). n.desc) sent) }
@@ -100,14 +100,14 @@ semaphore_given (Some x) e = at x.kind e where
 pub held_queue : (c : Config) (h : History) (sid : Sid) (call : Call) (desc : Desc) (x : Held) → None ≡ verdict c h (Do sid call) → described call ≡ Some (record { family = Mq; desc = desc }) → holds h sid.0 desc.0 ≡ Some x → is_some (attributes c h x.object) ≡ true
 unfolding forbids bad_descr
 held_queue c h sid call desc x legal named held =
-    let passes : there_is (λ d. not_held c h sid.0 d.family d.desc.0) (described call) ≡ false = unforbidden c h (Do sid call) (sym legal) BadDescr in
+    let passes : is_some_and (λ d. not_held c h sid.0 d.family d.desc.0) (described call) ≡ false = unforbidden c h (Do sid call) (sym legal) BadDescr in
     let passes' : not_held c h sid.0 Mq desc.0 ≡ false = rw named at passes in
     queue_given (object c h x.object) (rw held at passes')
 
 pub held_semaphore : (c : Config) (h : History) (sid : Sid) (call : Call) (desc : Desc) (x : Held) → None ≡ verdict c h (Do sid call) → described call ≡ Some (record { family = Sem; desc = desc }) → holds h sid.0 desc.0 ≡ Some x → is_some (as_semaphore (object c h x.object)) ≡ true
 unfolding forbids bad_descr
 held_semaphore c h sid call desc x legal named held =
-    let passes : there_is (λ d. not_held c h sid.0 d.family d.desc.0) (described call) ≡ false = unforbidden c h (Do sid call) (sym legal) BadDescr in
+    let passes : is_some_and (λ d. not_held c h sid.0 d.family d.desc.0) (described call) ≡ false = unforbidden c h (Do sid call) (sym legal) BadDescr in
     let passes' : not_held c h sid.0 Sem desc.0 ≡ false = rw named at passes in
     semaphore_given (object c h x.object) (rw held at passes')
 

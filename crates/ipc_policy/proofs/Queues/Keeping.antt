@@ -9,7 +9,7 @@ use Rattle.ipc_policy.specs.declared.config.Config.{Config}
 use Rattle.ipc_policy.specs.History.{History, how_many}
 use Rattle.ipc_policy.specs.Descriptions.{holds}
 use Rattle.ipc_policy.specs.Life.{gives_object}
-use Rattle.ipc_policy.specs.Queues.{Sends, Receives, Rests, act, queue, maxmsg, contents, senders}
+use Rattle.ipc_policy.specs.Queues.{Sends, Receives, NoAct, act, queue, maxmsg, contents, senders}
 use Rattle.ipc_policy.proofs.Lists.Counting.{count_at, is_send_at, takes_at, withdraws_at, step_keeps}
 
 -- how many accepted events send at place i, take what was sent there, withdraw it
@@ -25,11 +25,11 @@ withdrawn c h o i = how_many (λ e before. withdraws_at i (act o e before) (queu
 -- a send is made at the place of its record
 pub send_place : (o i : ℕ) (e : Event) (h : History) → is_send_at i (act o e h) ≡ true → length h ≡ i
 send_place o i (Do sid (MqSend desc priority bytes)) h k = at (gives_object o (holds h sid.0 desc.0)) k where
-  at : (b : Bool) → is_send_at i (cond b (Sends (record { place = length h; session = sid.0; desc = desc.0; priority = priority; bytes = bytes })) Rests) ≡ true → length h ≡ i
+  at : (b : Bool) → is_send_at i (cond b (Sends (record { place = length h; session = sid.0; desc = desc.0; priority = priority; bytes = bytes })) NoAct) ≡ true → length h ≡ i
   at true e = eqb-true _ _ e
   at false e = absurd cc
 send_place o i (Do sid (MqReceive desc length')) h k = at (gives_object o (holds h sid.0 desc.0)) k where
-  at : (b : Bool) → is_send_at i (cond b (Receives (record { place = length h; session = sid.0; desc = desc.0 })) Rests) ≡ true → length h ≡ i
+  at : (b : Bool) → is_send_at i (cond b (Receives (record { place = length h; session = sid.0; desc = desc.0 })) NoAct) ≡ true → length h ≡ i
   at true e = absurd cc
   at false e = absurd cc
 send_place o i (Do sid call) h k = absurd cc

@@ -2,7 +2,7 @@
 -- limit in any case.
 use Rattle.std.proofs.Common.{◌≡◌, ℕ, zero, suc, ◌+◌, ◌<◌, ◌≤◌, Bool, true, false, ◌&&◌, ◌||◌, eqb, cond, List, [], ◌∷◌, find, Option, Some, None, is_some, refl, sym, ap, subst, ◌∙◌, arith, add-one}
 use Rattle.std.specs.Prelude.{nat_lt, unwrap_or, option_and_then}
-use Rattle.std.specs.Option.{option_or, option_map}
+use Rattle.std.specs.Option.{option_or, option_map, option_to_list}
 use Rattle.std.proofs.lemmas.Bool.{eqb-true, eq-eqb, ne_eqb, or_left, or_right}
 use Rattle.std.proofs.lemmas.Bool.Decides.{nat_tests}
 use Rattle.std.proofs.lemmas.List.Folds.{find-append}
@@ -26,7 +26,7 @@ use Rattle.ipc_access.specs.Users.{cred_of}
 use Rattle.ipc_policy.specs.declared.config.Config.{Config}
 use Rattle.ipc_policy.specs.declared.config.Held.{Held}
 use Rattle.ipc_policy.specs.declared.config.TheConstants.{LIMIT_MAX}
-use Rattle.ipc_policy.specs.History.{History, newest, kept, listed, gathered_below, any_below, sum_below, there_is}
+use Rattle.ipc_policy.specs.History.{History, newest, unless, gathered_below, any_below, sum_below, is_some_and}
 use Rattle.ipc_policy.specs.Sessions.{user, cred}
 use Rattle.ipc_policy.specs.Names.{Opening, queue_opening, semaphore_opening, unlinks, is_bound, creating, creations, bound}
 use Rattle.ipc_policy.specs.Objects.{kind_of, made_by, creation_of, makes, object}
@@ -45,23 +45,23 @@ use Rattle.ipc_policy.proofs.Histories.Unforbidden.{unforbidden}
 use Rattle.ipc_policy.proofs.Queues.Charging.{charged_grows}
 
 -- a name that is bound to an object is the object's
-named_last : (q : Binding → Bool) (f : Family) (n o : ℕ) (w : Option Opening) → option_map (λ (b : Binding). b.object) (find q (listed (binding_of f n w))) ≡ Some o → (n ≡ o) × (is_some w ≡ true)
+named_last : (q : Binding → Bool) (f : Family) (n o : ℕ) (w : Option Opening) → option_map (λ (b : Binding). b.object) (find q (option_to_list (binding_of f n w))) ≡ Some o → (n ≡ o) × (is_some w ≡ true)
 named_last q f n o None k = absurd cc
 named_last q f n o (Some asked) k = (at (same_family asked.family f) k, refl) where
   passed : (t : Bool) → option_map (λ (b : Binding). b.object) (cond t (Some (record { name = asked.name; object = n })) None) ≡ Some o → n ≡ o
   passed true j = cc
   passed false j = absurd cc
 
-  at : (b : Bool) → option_map (λ (b : Binding). b.object) (find q (listed (cond b (Some (record { name = asked.name; object = n })) None))) ≡ Some o → n ≡ o
+  at : (b : Bool) → option_map (λ (b : Binding). b.object) (find q (option_to_list (cond b (Some (record { name = asked.name; object = n })) None))) ≡ Some o → n ≡ o
   at true j = passed (q (record { name = asked.name; object = n })) j
   at false j = absurd cc
 
 named_found : (h : History) (q : Binding → Bool) (f : Family) (n o : ℕ) → option_map (λ (b : Binding). b.object) (find q (gathered_below (λ i. binding_of f i (named h i)) n)) ≡ Some o → is_some (named h o) ≡ true
 named_found h q f zero o k = absurd cc
 named_found h q f (suc n) o k =
-    let all = find-append q (gathered_below (λ i. binding_of f i (named h i)) n) (listed (binding_of f n (named h n))) in
+    let all = find-append q (gathered_below (λ i. binding_of f i (named h i)) n) (option_to_list (binding_of f n (named h n))) in
     at (find q (gathered_below (λ i. binding_of f i (named h i)) n)) (named_found h q f n o) (ap (option_map (λ (b : Binding). b.object)) (sym all) ∙ k) where
-      at : (w : Option Binding) → (option_map (λ (b : Binding). b.object) w ≡ Some o → is_some (named h o) ≡ true) → option_map (λ (b : Binding). b.object) (option_or w (find q (listed (binding_of f n (named h n))))) ≡ Some o → is_some (named h o) ≡ true
+      at : (w : Option Binding) → (option_map (λ (b : Binding). b.object) w ≡ Some o → is_some (named h o) ≡ true) → option_map (λ (b : Binding). b.object) (option_or w (find q (option_to_list (binding_of f n (named h n))))) ≡ Some o → is_some (named h o) ≡ true
       at (Some b) earlier j = earlier j
       at None earlier j = let last = named_last q f n o (named h n) j in subst (λ (i : ℕ). is_some (named h i) ≡ true) last.0 last.1
 
@@ -82,17 +82,17 @@ either : {A : Type 0} (a b : Bool) → (a ≡ true → A) → (b ≡ true → A)
 either true b one two k = one refl
 either false b one two k = two k
 
-gives_kept : (o : ℕ) (p : Held → Bool) (w : Option Held) → gives_object o (kept p w) ≡ true → gives_object o w ≡ true
+gives_kept : (o : ℕ) (p : Held → Bool) (w : Option Held) → gives_object o (unless p w) ≡ true → gives_object o w ≡ true
 gives_kept o p None k = k
 gives_kept o p (Some x) k = at (p x) k where
   at : (b : Bool) → gives_object o (cond b None (Some x)) ≡ true → eqb x.object o ≡ true
   at true j = absurd cc
   at false j = j
 
-quiet_alive : (h : History) (e : Event) (o : ℕ) → (is_some (kept (λ asked. unlinks asked.family asked.name e) (named h o)) || any_below (λ d. gives_object o (kept (λ x. ends_held d x e) (held h d))) (opens h)) ≡ true → alive h o ≡ true
-quiet_alive h e o k = either (is_some (kept (λ asked. unlinks asked.family asked.name e) (named h o))) (any_below (λ d. gives_object o (kept (λ x. ends_held d x e) (held h d))) (opens h))
+quiet_alive : (h : History) (e : Event) (o : ℕ) → (is_some (unless (λ asked. unlinks asked.family asked.name e) (named h o)) || any_below (λ d. gives_object o (unless (λ x. ends_held d x e) (held h d))) (opens h)) ≡ true → alive h o ≡ true
+quiet_alive h e o k = either (is_some (unless (λ asked. unlinks asked.family asked.name e) (named h o))) (any_below (λ d. gives_object o (unless (λ x. ends_held d x e) (held h d))) (opens h))
     (λ n. named_alive h o (kept_some (λ asked. unlinks asked.family asked.name e) (named h o) n))
-    (λ g. given_alive h o (any_below_more (λ d. gives_object o (kept (λ x. ends_held d x e) (held h d))) (λ d. gives_object o (held h d)) (opens h) (λ d j. gives_kept o (λ x. ends_held d x e) (held h d) j) g))
+    (λ g. given_alive h o (any_below_more (λ d. gives_object o (unless (λ x. ends_held d x e) (held h d))) (λ d. gives_object o (held h d)) (opens h) (λ d j. gives_kept o (λ x. ends_held d x e) (held h d) j) g))
     k
 
 -- a number below a limit that is of a kind
@@ -243,18 +243,18 @@ creator_limited c k (r ∷ h) o x is = creator_more c h k o r.event r.rule x (λ
 abbrev Under : Config → History → Uid → ℕ → Type 0
 Under c h u bound = (most : ℕ) → limit c h u ≡ Some most → most ≤ bound
 
-bytes_within : (c : Config) (h : History) (u : Uid) (bound : ℕ) (who : Cred) → who.uid ≡ u → is_some (limit c h who.uid) ≡ true → Under c h u bound → charged c h u ≤ bound → (w : Option Attributes) → there_is (λ given. above_limit c h given who) w ≡ false → charged c h u + unwrap_or (option_map bytes_of w) 0 ≤ bound
+bytes_within : (c : Config) (h : History) (u : Uid) (bound : ℕ) (who : Cred) → who.uid ≡ u → is_some (limit c h who.uid) ≡ true → Under c h u bound → charged c h u ≤ bound → (w : Option Attributes) → is_some_and (λ given. above_limit c h given who) w ≡ false → charged c h u + unwrap_or (option_map bytes_of w) 0 ≤ bound
 bytes_within c h u bound who same there l k None ok = omega arith
 bytes_within c h u bound who same there l k (Some given) ok =
-    at (limit c h u) refl (subst (λ (v : Uid). is_some (limit c h v) ≡ true) same there) (subst (λ (v : Uid). there_is (λ (m : ℕ). nat_lt m (charged c h v + bytes_of given)) (limit c h v) ≡ false) same ok) where
-      at : (w : Option ℕ) → limit c h u ≡ w → is_some w ≡ true → there_is (λ (m : ℕ). nat_lt m (charged c h u + bytes_of given)) w ≡ false → charged c h u + bytes_of given ≤ bound
+    at (limit c h u) refl (subst (λ (v : Uid). is_some (limit c h v) ≡ true) same there) (subst (λ (v : Uid). is_some_and (λ (m : ℕ). nat_lt m (charged c h v + bytes_of given)) (limit c h v) ≡ false) same ok) where
+      at : (w : Option ℕ) → limit c h u ≡ w → is_some w ≡ true → is_some_and (λ (m : ℕ). nat_lt m (charged c h u + bytes_of given)) w ≡ false → charged c h u + bytes_of given ≤ bound
       at None e some fits = absurd cc
       at (Some most) e some fits =
           let within : charged c h u + bytes_of given ≤ most = grind (arith, nat_tests) in
           let under : most ≤ bound = l most e in
           omega arith
 
-new_within : (c : Config) (h : History) (u : Uid) (bound : ℕ) (kind : Kind) (a : Bool) (found : Option Cred) → ((who : Cred) → found ≡ Some who → is_some (limit c h who.uid) ≡ true) → Under c h u bound → charged c h u ≤ bound → there_is (λ given. there_is (above_limit c h given) found) (of_queue kind) ≡ false → charged c h u + charge u a (option_map (λ who. record { creator = who.uid; kind = kind }) found) ≤ bound
+new_within : (c : Config) (h : History) (u : Uid) (bound : ℕ) (kind : Kind) (a : Bool) (found : Option Cred) → ((who : Cred) → found ≡ Some who → is_some (limit c h who.uid) ≡ true) → Under c h u bound → charged c h u ≤ bound → is_some_and (λ given. is_some_and (above_limit c h given) found) (of_queue kind) ≡ false → charged c h u + charge u a (option_map (λ who. record { creator = who.uid; kind = kind }) found) ≤ bound
 new_within c h u bound kind a None there l k ok = rw (no_charge u a) (omega arith)
 new_within c h u bound kind false (Some who) there l k ok = omega arith
 new_within c h u bound kind true (Some who) there l k ok = at (eqb who.uid.0 u.0) refl where
@@ -284,7 +284,7 @@ abbrev IsOpen : Config → History → Event → Opening → Type 0
 IsOpen c h e asked = (creations_after e (is_bound h) (creations h) ≡ cond (is_new asked (is_bound h)) (creations h + 1) (creations h))
     × (object_then c e h (creations h) ≡ cond (is_new asked (is_bound h) && eqb (creations h) (creations h)) (option_or (option_map (made_by c asked) (cred c h asked.session.0)) (object c h (creations h))) (object c h (creations h)))
 
-open_within : (c : Config) (h : History) (e : Event) (asked : Opening) (u : Uid) (bound : ℕ) → IsOpen c h e asked → Under c h u bound → charged c h u ≤ bound → (b : Bool) → is_new asked (is_bound h) ≡ b → (b && there_is (λ given. there_is (above_limit c h given) (cred c h asked.session.0)) (queue_made c asked)) ≡ false → Within c h e u bound
+open_within : (c : Config) (h : History) (e : Event) (asked : Opening) (u : Uid) (bound : ℕ) → IsOpen c h e asked → Under c h u bound → charged c h u ≤ bound → (b : Bool) → is_new asked (is_bound h) ≡ b → (b && is_some_and (λ given. is_some_and (above_limit c h given) (cred c h asked.session.0)) (queue_made c asked)) ≡ false → Within c h e u bound
 open_within c h e asked u bound is l k true new ok =
     let count : creations_after e (is_bound h) (creations h) ≡ creations h + 1 = is.0 ∙ rw new refl in
     let made : object_then c e h (creations h) ≡ option_map (made_by c asked) (cred c h asked.session.0) = is.1 ∙ made_new (creations h) (option_map (made_by c asked) (cred c h asked.session.0)) (object c h (creations h)) (is_new asked (is_bound h)) new (not_made c h (creations h) (omega arith)) in

@@ -10,7 +10,7 @@ use Rattle.ipc_policy.specs.declared.config.Config.{Config}
 use Rattle.ipc_policy.specs.History.{History, newest}
 use Rattle.ipc_policy.specs.Sessions.{hellos, live}
 use Rattle.ipc_policy.specs.Descriptions.{holds}
-use Rattle.ipc_policy.specs.Queues.{act_by, queue, queue_after, room, attributes, is_full, is_empty}
+use Rattle.ipc_policy.specs.Queues.{act_by, queue, queue_after, maxmsg_of, attributes, is_full, is_empty}
 use Rattle.ipc_policy.specs.Names.{is_bound, creations}
 use Rattle.ipc_policy.specs.Semaphores.{semaphore_act, semaphore_act_by, gives_value, with_first, semaphore_after, semaphore, posts, passes, given_value, value, is_zero}
 use Rattle.ipc_policy.specs.Registrations.{registered}
@@ -19,7 +19,7 @@ use Rattle.ipc_policy.specs.Grow.{live_after, first_value, given_value_after, po
 use Rattle.ipc_policy.specs.Verdict.{verdict, caller, answers, answers_at, for_session, outbox}
 use Rattle.ipc_policy.proofs.Histories.Growing.{live_grows, made_grows}
 
-pub queue_grows : (c : Config) (h : History) (e : Event) (o : ℕ) → queue c (record { event = e; rule = None } ∷ h) o ≡ queue_after (room (attributes c h o)) (act_by (length h) (holds h) o e) (queue c h o)
+pub queue_grows : (c : Config) (h : History) (e : Event) (o : ℕ) → queue c (record { event = e; rule = None } ∷ h) o ≡ queue_after (maxmsg_of (attributes c h o)) (act_by (length h) (holds h) o e) (queue c h o)
 unfolding queue
 queue_grows c h e o = refl
 

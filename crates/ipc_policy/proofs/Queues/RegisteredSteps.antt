@@ -11,7 +11,7 @@ use Rattle.ipc_terms.specs.declared.record.Event.TheVariants.{Do, Hangup}
 use Rattle.ipc_policy.specs.declared.config.Config.{Config}
 use Rattle.ipc_policy.specs.declared.config.Held.{Held}
 use Rattle.ipc_policy.specs.declared.config.Registration.{Registration}
-use Rattle.ipc_policy.specs.History.{History, after_accepted, kept, any_below}
+use Rattle.ipc_policy.specs.History.{History, after_accepted, unless, any_below}
 use Rattle.ipc_policy.specs.Names.{creations}
 use Rattle.ipc_policy.specs.Descriptions.{opens, held, holds}
 use Rattle.ipc_policy.specs.Life.{named, alive, gives_object}
@@ -74,11 +74,11 @@ registered_holder c h o s x y k held' = (sym mine ∙ ap (λ (z : Held). z.sessi
   same = let b = both in cc
 
 -- what is kept by one test is kept by another that says the same of it
-kept_same : (p q : Registration → Bool) (w : Option Registration) → ((x : Registration) → w ≡ Some x → p x ≡ q x) → kept p w ≡ kept q w
+kept_same : (p q : Registration → Bool) (w : Option Registration) → ((x : Registration) → w ≡ Some x → p x ≡ q x) → unless p w ≡ unless q w
 kept_same p q None same = refl
 kept_same p q (Some x) same = ap (λ b. cond b None (Some x)) (same x refl)
 
-kept_all : (p : Registration → Bool) (w : Option Registration) → ((x : Registration) → w ≡ Some x → p x ≡ false) → kept p w ≡ w
+kept_all : (p : Registration → Bool) (w : Option Registration) → ((x : Registration) → w ≡ Some x → p x ≡ false) → unless p w ≡ w
 kept_all p None none = refl
 kept_all p (Some x) none = ap (λ b. cond b None (Some x)) (none x refl)
 
@@ -86,14 +86,14 @@ kept_all p (Some x) none = ap (λ b. cond b None (Some x)) (none x refl)
 pub registered_stays : (c : Config) (h : History) (e : Event) (o : ℕ) → registers (holds h) o e ≡ None → ((x : Registration) → registered c h o ≡ Some x → ends_registration x e (act o e h) (queue c h o) ≡ false) → registered c (after_accepted h e) o ≡ registered c h o
 registered_stays c h e o none keeps =
     registered_grows c h e o
-    ∙ ap (λ w. option_or w (kept (λ x. ends_registration x e (act o e h) (queue c h o)) (registered c h o))) none
+    ∙ ap (λ w. option_or w (unless (λ x. ends_registration x e (act o e h) (queue c h o)) (registered c h o))) none
     ∙ kept_all (λ x. ends_registration x e (act o e h) (queue c h o)) (registered c h o) keeps
 
 -- an event that begins none and ends those that the test says
-pub registered_kept : (c : Config) (h : History) (e : Event) (o : ℕ) (test : Registration → Bool) → registers (holds h) o e ≡ None → ((x : Registration) → registered c h o ≡ Some x → ends_registration x e (act o e h) (queue c h o) ≡ test x) → registered c (after_accepted h e) o ≡ kept test (registered c h o)
+pub registered_kept : (c : Config) (h : History) (e : Event) (o : ℕ) (test : Registration → Bool) → registers (holds h) o e ≡ None → ((x : Registration) → registered c h o ≡ Some x → ends_registration x e (act o e h) (queue c h o) ≡ test x) → registered c (after_accepted h e) o ≡ unless test (registered c h o)
 registered_kept c h e o test none same =
     registered_grows c h e o
-    ∙ ap (λ w. option_or w (kept (λ x. ends_registration x e (act o e h) (queue c h o)) (registered c h o))) none
+    ∙ ap (λ w. option_or w (unless (λ x. ends_registration x e (act o e h) (queue c h o)) (registered c h o))) none
     ∙ kept_same (λ x. ends_registration x e (act o e h) (queue c h o)) test (registered c h o) same
 
 -- a description of the session's is that of a registration exactly if it has its number
@@ -115,15 +115,15 @@ or_none true = refl
 or_none false = refl
 
 -- a close of a description that is held ends the registration by it
-pub registered_close : (c : Config) (h : History) (sid : Sid) (desc : Desc) (y : Held) (o : ℕ) → holds h sid.0 desc.0 ≡ Some y → registered c (after_accepted h (Do sid (MqClose desc))) o ≡ kept (λ x. eqb desc.0 x.desc.0) (registered c h o)
+pub registered_close : (c : Config) (h : History) (sid : Sid) (desc : Desc) (y : Held) (o : ℕ) → holds h sid.0 desc.0 ≡ Some y → registered c (after_accepted h (Do sid (MqClose desc))) o ≡ unless (λ x. eqb desc.0 x.desc.0) (registered c h o)
 registered_close c h sid desc y o held' = registered_kept c h (Do sid (MqClose desc)) o (λ x. eqb desc.0 x.desc.0) refl (λ x k. or_none (eqb sid.0 x.session.0 && eqb desc.0 x.desc.0) ∙ by_number c h o sid desc y x held' k)
 
 -- a hang-up ends those of its session
-pub registered_hangup : (c : Config) (h : History) (sid : Sid) (o : ℕ) → registered c (after_accepted h (Hangup sid)) o ≡ kept (λ x. eqb sid.0 x.session.0) (registered c h o)
+pub registered_hangup : (c : Config) (h : History) (sid : Sid) (o : ℕ) → registered c (after_accepted h (Hangup sid)) o ≡ unless (λ x. eqb sid.0 x.session.0) (registered c h o)
 registered_hangup c h sid o = registered_kept c h (Hangup sid) o (λ x. eqb sid.0 x.session.0) refl (λ x k. or_none (eqb sid.0 x.session.0))
 
 -- a notify off ends the registration by its description
-pub registered_off : (c : Config) (h : History) (sid : Sid) (desc : Desc) (y : Held) (o : ℕ) → holds h sid.0 desc.0 ≡ Some y → registered c (after_accepted h (Do sid (MqNotify desc false))) o ≡ kept (λ x. eqb desc.0 x.desc.0) (registered c h o)
+pub registered_off : (c : Config) (h : History) (sid : Sid) (desc : Desc) (y : Held) (o : ℕ) → holds h sid.0 desc.0 ≡ Some y → registered c (after_accepted h (Do sid (MqNotify desc false))) o ≡ unless (λ x. eqb desc.0 x.desc.0) (registered c h o)
 registered_off c h sid desc y o held' = registered_kept c h (Do sid (MqNotify desc false)) o (λ x. eqb desc.0 x.desc.0) refl (λ x k. or_none ((eqb sid.0 x.session.0 && eqb desc.0 x.desc.0) || false) ∙ or_none (eqb sid.0 x.session.0 && eqb desc.0 x.desc.0) ∙ by_number c h o sid desc y x held' k)
 
 -- a notify on registers its description with the queue that it gives, and leaves the others
@@ -134,7 +134,7 @@ pub registered_on_other : (c : Config) (h : History) (sid : Sid) (desc : Desc) (
 registered_on_other c h sid desc y o held' other = registered_stays c h (Do sid (MqNotify desc true)) o (rw (held', other) refl) (λ x k. refl)
 
 -- a send ends the registration of the queue where it fires, and leaves the others
-none_idle : (b : Bool) (w : Option Registration) → kept (λ x. b) w ≡ cond b None w
+none_idle : (b : Bool) (w : Option Registration) → unless (λ x. b) w ≡ cond b None w
 none_idle true None = refl
 none_idle true (Some x) = refl
 none_idle false None = refl

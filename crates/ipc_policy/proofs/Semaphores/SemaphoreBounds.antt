@@ -11,11 +11,11 @@ use Rattle.ipc_terms.specs.declared.record.Event.{Event}
 use Rattle.ipc_terms.specs.declared.record.Event.TheVariants.{Hello, Do, Hangup}
 use Rattle.ipc_policy.specs.declared.config.Config.{Config}
 use Rattle.ipc_policy.specs.declared.config.Held.{Held}
-use Rattle.ipc_policy.specs.History.{History, there_is}
+use Rattle.ipc_policy.specs.History.{History, is_some_and}
 use Rattle.ipc_policy.specs.Names.{queue_opening, semaphore_opening, is_bound, creations}
 use Rattle.ipc_policy.specs.Descriptions.{holds}
-use Rattle.ipc_policy.specs.Queues.{Wait, has_none, queue}
-use Rattle.ipc_policy.specs.Semaphores.{SemaphoreAct, Posts, Waits, Tries, Cancels, Idles, Semaphore, semaphore_act, semaphore_after, with_first, semaphore, is_greatest}
+use Rattle.ipc_policy.specs.Queues.{Waiter, has_none, queue}
+use Rattle.ipc_policy.specs.Semaphores.{SemaphoreAct, Posts, Waits, Tries, WithdrawsWait, NoSemaphoreAct, Semaphore, semaphore_act, semaphore_after, with_first, semaphore, is_greatest}
 use Rattle.ipc_policy.specs.Parking.{ParkedKind}
 use Rattle.ipc_policy.specs.Grow.{first_value, is_new}
 use Rattle.ipc_policy.specs.Verdict.{verdict, Legal}
@@ -49,11 +49,11 @@ range_step Tries q room known = record {
   within = let most = known.within in omega arith;
   waiters_wait = λ e. let none = known.waiters_wait e in omega arith;
 }
-range_step (Cancels s) q room known = record {
+range_step (WithdrawsWait s) q room known = record {
   within = known.within;
   waiters_wait = λ e. known.waiters_wait (filter_some (λ w. not (eqb w.session s)) q.waiters e);
 }
-range_step Idles q room known = record { within = known.within; waiters_wait = known.waiters_wait }
+range_step NoSemaphoreAct q room known = record { within = known.within; waiters_wait = known.waiters_wait }
 
 -- a first value in range, where no wait is parked
 range_first : (v : Option ℕ) (q : Semaphore) → IsInRange q → ((n : ℕ) → v ≡ Some n → (n ≤ SEM_VALUE_MAX) × (q.waiters ≡ [])) → IsInRange (with_first v q)
@@ -90,8 +90,8 @@ post_has_room c h o e before legal k =
     let a = act_posts o e h k in
     let legal' : None ≡ verdict c h (Do a.sid (SemPost a.desc)) = rw a.event at legal in
     let there = held_semaphore c h a.sid (SemPost a.desc) a.desc a.x legal' refl a.held in
-    let passes : there_is (λ (x : Held). is_greatest c h x.object) (holds h a.sid.0 a.desc.0) ≡ false = post_below_greatest c h a.sid a.desc (sym legal') in
-    let passes' : is_greatest c h a.x.object ≡ false = ap (there_is (λ (x : Held). is_greatest c h x.object)) (sym a.held) ∙ passes in
+    let passes : is_some_and (λ (x : Held). is_greatest c h x.object) (holds h a.sid.0 a.desc.0) ≡ false = post_below_greatest c h a.sid a.desc (sym legal') in
+    let passes' : is_greatest c h a.x.object ≡ false = ap (is_some_and (λ (x : Held). is_greatest c h x.object)) (sym a.held) ∙ passes in
     subst (λ (n : ℕ). eqb (semaphore h n).value SEM_VALUE_MAX ≡ false) a.object (sym (is_greatest-at c h a.x.object before there) ∙ passes')
 
 one_more : (n m : ℕ) → n ≤ m → eqb n m ≡ false → n + 1 ≤ m
@@ -115,11 +115,11 @@ each_in_range c [] o legal = record { within = omega arith; waiters_wait = λ e.
 each_in_range c (r ∷ h) o legal = range_more c h o legal.1 (each_in_range c h o legal.1) r.event r.rule legal.0
 
 -- a session that is parked in a wait is listed, and so the semaphore has a waiter
-found_some : (s i : ℕ) (xs : List Wait) → option_map (λ (w : Wait). w.place) (find (λ w. eqb w.session s) xs) ≡ Some i → has_none xs ≡ false
+found_some : (s i : ℕ) (xs : List Waiter) → option_map (λ (w : Waiter). w.place) (find (λ w. eqb w.session s) xs) ≡ Some i → has_none xs ≡ false
 found_some s i [] e = absurd cc
 found_some s i (x ∷ xs) e = refl
 
 pub waits_at_zero : WaitsAtZero
 waits_at_zero c h legal s p k kind = value_counted c h p.object legal ∙ (each_in_range c h p.object legal).waiters_wait (found_some s p.place (semaphore h p.object).waiters listed) where
-  listed : option_map (λ (w : Wait). w.place) (find (λ w. eqb w.session s) (semaphore h p.object).waiters) ≡ Some p.place
+  listed : option_map (λ (w : Waiter). w.place) (find (λ w. eqb w.session s) (semaphore h p.object).waiters) ≡ Some p.place
   listed = ap (λ (z : ParkedKind). place_listed z s (queue c h p.object) (semaphore h p.object)) (sym kind) ∙ (calls_listed c h legal).each_parked s p k

@@ -12,12 +12,12 @@ use Rattle.ipc_terms.specs.declared.record.Event.{Event}
 use Rattle.ipc_terms.specs.declared.record.Event.TheVariants.{Hello, Do, Hangup}
 use Rattle.ipc_policy.specs.declared.config.Config.{Config}
 use Rattle.ipc_policy.specs.declared.config.Held.{Held}
-use Rattle.ipc_policy.specs.History.{History, newest, there_is}
+use Rattle.ipc_policy.specs.History.{History, newest, is_some_and}
 use Rattle.ipc_policy.specs.Objects.{object}
 use Rattle.ipc_policy.specs.Descriptions.{holds}
 use Rattle.ipc_policy.specs.Names.{Opening, creation, creations}
 use Rattle.ipc_policy.specs.Queues.{has_none}
-use Rattle.ipc_policy.specs.Semaphores.{SemaphoreAct, Posts, Waits, Tries, Cancels, Idles, Semaphore, semaphore_act, value_after, semaphore_after, with_first, gives_value, semaphore, is_post, is_pass, posts, passes, given_value, value, is_zero, is_greatest}
+use Rattle.ipc_policy.specs.Semaphores.{SemaphoreAct, Posts, Waits, Tries, WithdrawsWait, NoSemaphoreAct, Semaphore, semaphore_act, value_after, semaphore_after, with_first, gives_value, semaphore, is_post, is_pass, posts, passes, given_value, value, is_zero, is_greatest}
 use Rattle.ipc_policy.specs.Verdict.{verdict, Legal}
 use Rattle.ipc_policy.specs.Laws.{EachValueIsCounted}
 use Rattle.ipc_policy.proofs.Directories.Creating.{not_given, created_before}
@@ -36,8 +36,8 @@ count_step (Waits w) q got given posted some known = at (eqb q.value 0) refl whe
   at true e = let none = eqb-true _ _ e in omega arith
   at false e = let other = eqb-false q.value 0 e in grind (arith, nat_tests)
 count_step Tries q got given posted some known = let e = some refl in let other = eqb-false q.value 0 e in grind (arith, nat_tests)
-count_step (Cancels s) q got given posted some known = known
-count_step Idles q got given posted some known = known
+count_step (WithdrawsWait s) q got given posted some known = known
+count_step NoSemaphoreAct q got given posted some known = known
 
 -- nothing is posted to what was not created, and nobody gets anything of it
 pub record Untouched (o : ℕ) (e : Event) (h : History) : Type 0 where
@@ -92,7 +92,7 @@ unfolding value
 value_at h o known = less (semaphore h o).value (passes h o) (given_value h o + posts h o) known
 
 -- where there is a semaphore, it is at 0 exactly where its value is 0, and has room for no post exactly at the greatest
-test_is : (b : Bool) (x : Option ℕ) → is_some x ≡ true → there_is (λ first_value. b) x ≡ b
+test_is : (b : Bool) (x : Option ℕ) → is_some x ≡ true → is_some_and (λ first_value. b) x ≡ b
 test_is b None e = absurd cc
 test_is b (Some n) e = refl
 
@@ -105,8 +105,8 @@ try_has_value c h o e known legal k =
     let a = act_tries o e h k in
     let legal' : None ≡ verdict c h (Do a.sid (SemTryWait a.desc)) = rw a.event at legal in
     let there = held_semaphore c h a.sid (SemTryWait a.desc) a.desc a.x legal' refl a.held in
-    let passes : there_is (λ (x : Held). is_zero c h x.object) (holds h a.sid.0 a.desc.0) ≡ false = try_above_zero c h a.sid a.desc (sym legal') in
-    let passes' : is_zero c h a.x.object ≡ false = ap (there_is (λ (x : Held). is_zero c h x.object)) (sym a.held) ∙ passes in
+    let passes : is_some_and (λ (x : Held). is_zero c h x.object) (holds h a.sid.0 a.desc.0) ≡ false = try_above_zero c h a.sid a.desc (sym legal') in
+    let passes' : is_zero c h a.x.object ≡ false = ap (is_some_and (λ (x : Held). is_zero c h x.object)) (sym a.held) ∙ passes in
     subst (λ (n : ℕ). eqb (semaphore h n).value 0 ≡ false) a.object (sym (zero_at c h a.x.object (value_at h a.x.object (known a.x.object)) there) ∙ passes')
 
 counted_more : (c : Config) (h : History) (o : ℕ) → ((i : ℕ) → IsCounted h i) → (e : Event) (r : Option Rule) → r ≡ verdict c h e → IsCounted (record { event = e; rule = r } ∷ h) o
