@@ -159,9 +159,6 @@ opener_live c h (Do sid call) asked k accepted = absurd cc
 opener_live c h (Hello found) asked k accepted = absurd cc
 opener_live c h (Hangup sid) asked k accepted = absurd cc
 
-pub opener_row : (c : Config) (h : History) (e : Event) (asked : Opening) (xs : List Session) (sid : Sid) (row : Session) → SessionsAgree c h xs → opening e ≡ Some asked → verdict c h e ≡ None → sid ≡ asked.session → slice_get xs sid.0 ≡ Some row → row.is_live ≡ true
-opener_row c h e asked xs sid row a is accepted same there = sym (ap is_live_row there) ∙ a.lives sid.0 ∙ subst (λ (s : Sid). live h s.0 ≡ true) (sym same) (opener_live c h e asked is accepted)
-
 pub leaver_within : (c : Config) (h : History) (t : TablesView) (sid : Sid) → Agrees c h t → verdict c h (Hangup sid) ≡ None → sid.0 < length t.sessions
 leaver_within c h t sid a e = within_live t.sessions sid.0 (a.sessions.lives sid.0 ∙ leaver_live c h sid e)
 

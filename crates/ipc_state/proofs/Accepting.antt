@@ -1,7 +1,7 @@
 -- What each accepted event does to the tables keeps them the history's.
 use Rattle.std.proofs.Common.{◌≡◌, ℕ, find, filter, ◌%◌, ◌<◌, Bool, true, false, not, eqb, cond, List, [], ◌∷◌, length, Option, Some, None, is_some, refl, sym, ap, subst, ◌∙◌}
 use Rattle.std.specs.Option.{option_map}
-use Rattle.std.proofs.lemmas.Bool.{eqb-true, eq-eqb, ne_eqb}
+use Rattle.std.proofs.lemmas.Bool.{eqb-true, ne_eqb}
 use Rattle.ipc_terms.specs.declared.rule.Rule.{Rule}
 use Rattle.ipc_terms.specs.declared.ids.Uid.{Uid}
 use Rattle.ipc_terms.specs.declared.ids.Sid.{Sid}
@@ -135,7 +135,7 @@ agrees_as c h k t q a =
     let u : Untouched c h k = record { named' = q.named; held' = q.held; opens' = q.opens; bindings' = q.bindings; directory' = q.directory; creations' = q.creations; object' = q.object; facts' = q.facts } in
     left_alone c h k t t.sessions t.objects u q.is_nonblock
     (charges_kept c h k t.charges q.limit q.charged a.charges)
-    (record { users = λ s. a.sessions.users s ∙ sym (q.user s); masks = λ s row is lives. a.sessions.masks s row is lives ∙ sym (q.mask s); lives = λ s. a.sessions.lives s ∙ sym (q.live s); parks = λ s. a.sessions.parks s ∙ sym (ap (option_map (λ (p : Parked). p.object)) (q.parked s)); count = a.sessions.count ∙ sym q.hellos })
+    (record { users = λ s. a.sessions.users s ∙ sym (q.user s); masks = λ s row is. a.sessions.masks s row is ∙ sym (q.mask s); lives = λ s. a.sessions.lives s ∙ sym (q.live s); parks = λ s. a.sessions.parks s ∙ sym (ap (option_map (λ (p : Parked). p.object)) (q.parked s)); count = a.sessions.count ∙ sym q.hellos })
     (objects_same c h k t u (λ o. inside_same c h k o (q.queue o) (q.registered o) (q.semaphore o)) a) a
 
 -- an accepted hello
@@ -515,7 +515,7 @@ hung c h t u sid core w =
     let e = Hangup sid in
     let g = grows c h e in
     gone c h (after_accepted h e) e t (changed hung_up u.sessions sid.0) u.objects t.queues t.semaphores _ (without_calls c h sid) (λ x. false) (λ i x. eqb sid.0 x.session.0) g g.named_by g.held_by g.open_count g.creation_count g.object_of (λ o. facts_made c h e (record { owner = λ m. refl; group = λ m. refl; mode = λ m. refl }) o) (hangup_inside c h sid) (λ o. refl) (λ s i. eqb sid.0 s) (registered_hangup c h sid) (λ i y. refl) w.rows core.legal (λ v. limit_left c h e v refl)
-    (sessions_ended c h u.sessions sid (λ s. cond (eqb sid.0 s) None (parked_object c h s)) g (column_by_hangup c h sid) (ap (λ b. cond b None (parked_object c h sid.0)) (eq-eqb sid.0 sid.0 refl)) w.sessions)
+    (sessions_ended c h u.sessions sid (λ s. cond (eqb sid.0 s) None (parked_object c h s)) g (column_by_hangup c h sid) w.sessions)
     (directory_kept h (after_accepted h e) Mq t.queues (g.bindings_of Mq) (directory_left h e (record { owner = λ m. refl; group = λ m. refl; mode = λ m. refl }) Mq) a.queues)
     (directory_kept h (after_accepted h e) Sem t.semaphores (g.bindings_of Sem) (directory_left h e (record { owner = λ m. refl; group = λ m. refl; mode = λ m. refl }) Sem) a.semaphores)
     (descriptions_dropped h (after_accepted h e) t.descriptions (is_of sid.0) (λ i x. eqb sid.0 x.session.0) (λ i x. refl) g.held_by g.nonblock_of g.open_count a.descriptions)
@@ -549,7 +549,7 @@ core_new c in_range = record {
   in_range = in_range;
   legal = tt;
   agrees = record {
-    sessions = record { users = λ s. refl; masks = λ s row e lives. absurd cc; lives = λ s. refl; parks = λ s. refl; count = refl };
+    sessions = record { users = λ s. refl; masks = λ s row e. absurd cc; lives = λ s. refl; parks = λ s. refl; count = refl };
     queues = record { bound = refl; facts = refl };
     semaphores = record { bound = refl; facts = refl };
     objects = record { rows = refl; count = refl };

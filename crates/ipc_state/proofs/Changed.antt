@@ -33,8 +33,7 @@ use Rattle.ipc_policy.proofs.Histories.Grown.{grows}
 use Rattle.ipc_policy.proofs.Histories.Known.{bound_iff}
 use Rattle.ipc_policy.proofs.Histories.Unforbidden.{unforbidden, off}
 use Rattle.ipc_policy.proofs.Holdings.Holding.{kept_all}
-use Rattle.ipc_names.specs.Directory.{Directory, object_named}
-use Rattle.ipc_tables.specs.TablesView.{TablesView, directory_kept as directory_of}
+use Rattle.ipc_tables.specs.TablesView.{TablesView}
 use Rattle.ipc_tables.specs.Objects.{is_number, facts_at, with_facts}
 use Rattle.ipc_tables.specs.declared.tables.Owned.TheVariants.{Object as OwnedObject, Directory as OwnedDirectory}
 use Rattle.ipc_tables.specs.Steps.{after_facts}
@@ -42,7 +41,7 @@ use Rattle.ipc_state.specs.Agrees.{Agrees, IsCore, SessionsAgree, DescriptionsAg
 use Rattle.ipc_state.specs.Meetings.{by_name, object_bound}
 use Rattle.ipc_state.specs.Changes.{changing, changed_by}
 use Rattle.ipc_state.proofs.Gathered.{gathered_changed}
-use Rattle.ipc_state.proofs.Lookups.{row_other, row_own, found_is, directory_agrees, facts_alive, bound_alive}
+use Rattle.ipc_state.proofs.Lookups.{row_other, row_own, facts_alive, bound_alive}
 use Rattle.ipc_state.proofs.ObjectTables.{directory_kept, objects_kept, row_kept, alive_kept, descriptions_kept}
 use Rattle.ipc_state.proofs.ChargeTables.{charged_same, limit_left, charges_kept}
 use Rattle.ipc_state.proofs.Opens.{Ends, made_left}

@@ -27,7 +27,7 @@ use Rattle.ipc_policy.specs.Verdict.{Legal}
 use Rattle.ipc_policy.proofs.Histories.Known.{bound_iff}
 use Rattle.ipc_policy.specs.Rules.{is_some_and, object_held, is_full, is_empty}
 use Rattle.ipc_state.specs.Agrees.{IsCore, DescriptionsAgree, held_in, queue_meant}
-use Rattle.ipc_state.proofs.Lookups.{found_is, facts_found, directory_agrees}
+use Rattle.ipc_state.proofs.Lookups.{mapped_some, found_is, facts_found, directory_agrees}
 use Rattle.ipc_state.proofs.QueueLookups.{holds_is, number_is, object_is, queue_is, semaphore_is, held_full_is, held_empty_is, held_test_is, nonblock_is}
 use Rattle.ipc_state.proofs.RegistrationTables.{kept_desc, read_by, registration_read}
 use Rattle.ipc_state.specs.Meetings.{description, by_description, by_name, object_by, queue_held, semaphore_held}
@@ -136,16 +136,12 @@ registered_is : (w : Option Tickets) → is_some_and (λ (q : Tickets). is_some 
 registered_is None = refl
 registered_is (Some q) = refl
 
-mapped_there : {X Y : Type 0} (f : X → Y) (w : Option X) → is_some (option_map f w) ≡ is_some w
-mapped_there f None = refl
-mapped_there f (Some x) = refl
-
 registered_held : (c : Config) (h : History) (w : Option Held) → Legal c h → is_some_and (λ (q : Tickets). is_some q.registered) (option_and_then (queue_meant c h) (option_map (λ (x : Held). x.object) w)) ≡ is_some_and (λ (x : Held). is_some (registered c h x.object)) w
 registered_held c h None legal = refl
 registered_held c h (Some x) legal =
     registered_is (queue_meant c h x.object)
     ∙ ap is_some (kept_desc c h x.object legal)
-    ∙ mapped_there (λ (y : Registration). y.desc) (registered c h x.object)
+    ∙ mapped_some (λ (y : Registration). y.desc) (registered c h x.object)
 
 pub registered_meant : (c : Config) (h : History) (e : Event) → Legal c h → is_some_and (λ (q : Tickets). is_some q.registered) (by_description (queue_held c h) e) ≡ is_some_and (λ (x : Held). is_some (registered c h x.object)) (by_description (holds h) e)
 registered_meant c h e legal = at (description e) where

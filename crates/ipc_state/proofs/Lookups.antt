@@ -16,7 +16,7 @@ use Rattle.ipc_policy.specs.declared.config.Config.{Config}
 use Rattle.ipc_policy.specs.declared.config.Held.{Held}
 use Rattle.ipc_terms.specs.declared.object.Object.{Object}
 use Rattle.ipc_policy.specs.History.{History, gathered_below, any_below}
-use Rattle.ipc_policy.specs.Sessions.{cred, live, mask}
+use Rattle.ipc_policy.specs.Sessions.{cred, mask}
 use Rattle.ipc_policy.specs.Names.{Opening, creations, bound}
 use Rattle.ipc_policy.specs.Objects.{object, facts}
 use Rattle.ipc_policy.specs.Descriptions.{opens, if_of, held, holds, held_count, is_nonblock}
@@ -35,7 +35,7 @@ use Rattle.ipc_descr.specs.declared.row.Row.{Row}
 use Rattle.ipc_descr.specs.Descriptions.{Descriptions, is_desc, is_of, is_to, is_open}
 use Rattle.ipc_tables.specs.Objects.{bytes_taken, is_number, row_at, facts_at, queue_in, queue_at, semaphore_in, semaphore_at}
 use Rattle.ipc_tables.specs.declared.rows.Body.{Body}
-use Rattle.ipc_tables.specs.TablesView.{TablesView, directory_kept, parked_on_at, is_live_row, is_alive}
+use Rattle.ipc_tables.specs.TablesView.{TablesView, directory_kept, parked_on_at, is_alive}
 use Rattle.ipc_terms.specs.Objects.{of_queue, as_queue, of_semaphore, as_semaphore}
 use Rattle.ipc_terms.specs.declared.object.Kind.{Kind}
 use Rattle.ipc_terms.specs.declared.object.Kind.TheVariants.{Queue as QueueKind, Semaphore as SemaphoreKind}
@@ -55,12 +55,12 @@ pub cred_is : (c : Config) (h : History) (xs : List Session) (s : ℕ) → Sessi
 unfolding cred
 cred_is c h xs s a = then_map (λ (row : Session). row.user) (cred_of c.users) (slice_get xs s) ∙ ap (option_and_then (cred_of c.users)) (a.users s)
 
-pub mask_is : (c : Config) (h : History) (xs : List Session) (s : ℕ) (row : Session) → SessionsAgree c h xs → Some row ≡ slice_get xs s → live h s ≡ true → row.mask ≡ record { 0 = mask h s }
-mask_is c h xs s row a is lives =
+pub mask_is : (c : Config) (h : History) (xs : List Session) (s : ℕ) (row : Session) → SessionsAgree c h xs → Some row ≡ slice_get xs s → row.mask ≡ record { 0 = mask h s }
+mask_is c h xs s row a is =
     let mode : ℕ → Mode = λ n. record { 0 = n } in
-    ap mode (a.masks s row (sym is) (ap is_live_row is ∙ a.lives s ∙ lives))
+    ap mode (a.masks s row (sym is))
 
-mapped_some : {X Y : Type 0} (f : X → Y) (o : Option X) → is_some (option_map f o) ≡ is_some o
+pub mapped_some : {X Y : Type 0} (f : X → Y) (o : Option X) → is_some (option_map f o) ≡ is_some o
 mapped_some f None = refl
 mapped_some f (Some x) = refl
 

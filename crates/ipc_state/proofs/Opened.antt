@@ -13,7 +13,8 @@ use Rattle.ipc_terms.specs.declared.ids.Family.TheVariants.{Mq, Sem}
 use Rattle.ipc_terms.specs.declared.record.Event.{Event}
 use Rattle.ipc_access.specs.declared.class.Cred.{Cred}
 use Rattle.ipc_policy.specs.declared.config.Config.{Config}
-use Rattle.ipc_policy.specs.History.{History, after_accepted, any_below}
+use Rattle.ipc_policy.specs.declared.config.Held.{Held}
+use Rattle.ipc_policy.specs.History.{History, after_accepted, unless, any_below}
 use Rattle.ipc_policy.specs.Sessions.{cred, mask}
 use Rattle.ipc_policy.specs.Names.{Opening, Naming, nonblock_asked, unlinks, is_bound, creations, bound}
 use Rattle.ipc_policy.specs.Objects.{made_by, first_facts}
@@ -29,11 +30,12 @@ use Rattle.ipc_policy.proofs.Directories.Creating.{not_created_empty, not_create
 use Rattle.ipc_policy.proofs.Blocked.ParkedSteps.{parked_by_others, queue_by_others}
 use Rattle.ipc_policy.proofs.Blocked.WaitSteps.{semaphore_by_others}
 use Rattle.ipc_names.specs.Directory.{Directory}
-use Rattle.ipc_descr.specs.Descriptions.{is_of, is_desc}
-use Rattle.ipc_tables.specs.TablesView.{TablesView}
-use Rattle.ipc_tables.specs.Steps.{with_binding, without_binding, with_object, after_found, after_created, after_close, after_unlink}
+use Rattle.ipc_descr.specs.Descriptions.{Descriptions, is_of, is_desc}
+use Rattle.ipc_tables.specs.Charging.{settled}
+use Rattle.ipc_tables.specs.TablesView.{TablesView, is_kept}
+use Rattle.ipc_tables.specs.Steps.{with_binding, without_binding, with_object, living, after_found, after_created, after_close, after_unlink}
 use Rattle.ipc_tables.specs.declared.tables.Grant.{Grant}
-use Rattle.ipc_state.specs.Agrees.{Agrees, IsCore, SessionsAgree, DirectoryAgrees, inside}
+use Rattle.ipc_state.specs.Agrees.{Agrees, IsCore, SessionsAgree, DirectoryAgrees, DescriptionsAgree, inside}
 use Rattle.ipc_state.proofs.ChargeTables.{charged_same, limit_left, charges_kept, charges_created}
 use Rattle.ipc_state.proofs.Lookups.{bound_alive}
 use Rattle.ipc_state.proofs.SessionTables.{sessions_kept}
@@ -181,31 +183,42 @@ agrees_created c h t e asked who p a new none is =
 pub ends_inside : (c : Config) (h : History) (e : Event) (o : ℕ) → Ends e → inside c (after_accepted h e) o ≡ record (inside c h o) { registered = registered c (after_accepted h e) o }
 ends_inside c h e o p = within c h e o p.apart.still (made_left e p.none o _ _ _ _)
 
+-- an event that ends descriptions or names, by the directories and the descriptions that it leaves
+gone_by : (c : Config) (h : History) (t : TablesView) (e : Event) (queues' semaphores' : Directory) (d : Descriptions) (w : ℕ → Held → Bool) (v : ℕ → ℕ → Bool) → Ends e → GivesNothing e → IsCore c h t → ((i : ℕ) → held (after_accepted h e) i ≡ unless (w i) (held h i)) → ((o : ℕ) → registered c (after_accepted h e) o ≡ unless (λ x. v x.session.0 x.desc.0) (registered c h o)) → ((i : ℕ) (y : Held) → w i y ≡ v y.session.0 i) → DirectoryAgrees (after_accepted h e) Mq queues' → DirectoryAgrees (after_accepted h e) Sem semaphores' → DescriptionsAgree (after_accepted h e) d → Agrees c (after_accepted h e) (record t { queues = queues'; semaphores = semaphores'; objects = living queues' semaphores' d.rows t.objects; descriptions = d; charges = settled (is_kept queues' semaphores' d.rows) t.objects t.charges })
+gone_by c h t e queues' semaphores' d w v p gives core held' registered' by_session mq sem descriptions' =
+    let a = core.agrees in
+    let g = grows c h e in
+    gone c h (after_accepted h e) e t t.sessions t.objects queues' semaphores' d (inside c h) (λ asked. unlinks asked.family asked.name e) w g
+    (λ o. g.named_by o ∙ p.named' o _ _ _)
+    held'
+    (g.open_count ∙ p.opens' _)
+    (g.creation_count ∙ p.creations' _ _)
+    (λ o. g.object_of o ∙ made_left e p.none o _ _ _ _)
+    (λ o. facts_made c h e gives o ∙ made_left e p.none o _ _ _ _)
+    (λ o. ends_inside c h e o p)
+    (λ o. refl)
+    v
+    registered'
+    by_session
+    a.objects.rows
+    core.legal
+    (λ u. limit_left c h e u (p.apart.limit' u h))
+    (sessions_apart c h e t p.apart a)
+    mq
+    sem
+    descriptions'
+    a
+
 -- an accepted close
 pub agrees_closed : (c : Config) (h : History) (t : TablesView) (e : Event) (sid : Sid) (desc : Desc) → Closes e sid desc → IsCore c h t → Agrees c (after_accepted h e) (after_close t sid.0 desc.0)
 agrees_closed c h t e sid desc p core =
     let a = core.agrees in
     let g = grows c h e in
-    gone c h (after_accepted h e) e t t.sessions t.objects t.queues t.semaphores _ (inside c h) (λ asked. unlinks asked.family asked.name e) (λ i x. eqb sid.0 x.session.0 && eqb desc.0 i) g
-    (λ o. g.named_by o ∙ p.ends.named' o _ _ _)
-    (λ i. g.held_by i ∙ p.held' i _ _ _ _)
-    (g.open_count ∙ p.ends.opens' _)
-    (g.creation_count ∙ p.ends.creations' _ _)
-    (λ o. g.object_of o ∙ made_left e p.ends.none o _ _ _ _)
-    (λ o. facts_made c h e p.gives o ∙ made_left e p.ends.none o _ _ _ _)
-    (λ o. ends_inside c h e o p.ends)
-    (λ o. refl)
-    (λ s i. eqb sid.0 s && eqb desc.0 i)
-    (p.registered' c h)
-    (λ i y. refl)
-    a.objects.rows
-    core.legal
-    (λ u. limit_left c h e u (p.ends.apart.limit' u h))
-    (sessions_apart c h e t p.ends.apart a)
+    let held' = λ (i : ℕ). g.held_by i ∙ p.held' i _ _ _ _ in
+    gone_by c h t e t.queues t.semaphores _ (λ i x. eqb sid.0 x.session.0 && eqb desc.0 i) (λ s i. eqb sid.0 s && eqb desc.0 i) p.ends p.gives core held' (p.registered' c h) (λ i y. refl)
     (directory_same h e Mq t.queues p.gives (g.bindings_of Mq ∙ p.bindings' Mq _ _ _) a.queues)
     (directory_same h e Sem t.semaphores p.gives (g.bindings_of Sem ∙ p.bindings' Sem _ _ _) a.semaphores)
-    (descriptions_dropped h (after_accepted h e) t.descriptions (λ row. is_of sid.0 row && is_desc desc.0 row) (λ i x. eqb sid.0 x.session.0 && eqb desc.0 i) (λ i x. refl) (λ i. g.held_by i ∙ p.held' i _ _ _ _) (λ s d. g.nonblock_of s d ∙ p.ends.nonblock' s d _ _) (g.open_count ∙ p.ends.opens' _) a.descriptions)
-    a
+    (descriptions_dropped h (after_accepted h e) t.descriptions (λ row. is_of sid.0 row && is_desc desc.0 row) (λ i x. eqb sid.0 x.session.0 && eqb desc.0 i) (λ i x. refl) held' (λ s d. g.nonblock_of s d ∙ p.ends.nonblock' s d _ _) (g.open_count ∙ p.ends.opens' _) a.descriptions)
 
 -- the name is gone from its family's directory
 names_unbound : (c : Config) (h : History) (t : TablesView) (e : Event) (f : Family) (name : List ℕ) → GivesNothing e → Agrees c h t → ((g : Family) → bindings (after_accepted h e) g ≡ filter (λ (x : Binding). not (same_family f g && same_name x.name name)) (bindings h g)) → DirectoryAgrees (after_accepted h e) Mq (without_binding f name t).queues × DirectoryAgrees (after_accepted h e) Sem (without_binding f name t).semaphores
@@ -230,23 +243,7 @@ agrees_unlinked c h t e what p core =
     let names = names_unbound c h t e what.family what.name p.gives a (λ f. g.bindings_of f ∙ p.bindings' f _ _ _) in
     let held' = λ (i : ℕ). g.held_by i ∙ p.held' i _ _ _ _ in
     let u = without_binding what.family what.name t in
-    rw (left_of what.family what.name t) (gone c h (after_accepted h e) e t t.sessions t.objects u.queues u.semaphores t.descriptions (inside c h) (λ asked. unlinks asked.family asked.name e) (λ i x. false) g
-    (λ o. g.named_by o ∙ p.ends.named' o _ _ _)
-    held'
-    (g.open_count ∙ p.ends.opens' _)
-    (g.creation_count ∙ p.ends.creations' _ _)
-    (λ o. g.object_of o ∙ made_left e p.ends.none o _ _ _ _)
-    (λ o. facts_made c h e p.gives o ∙ made_left e p.ends.none o _ _ _ _)
-    (λ o. ends_inside c h e o p.ends)
-    (λ o. refl)
-    (λ s i. false)
-    (p.registered' c h)
-    (λ i y. refl)
-    a.objects.rows
-    core.legal
-    (λ u. limit_left c h e u (p.ends.apart.limit' u h))
-    (sessions_apart c h e t p.ends.apart a)
+    rw (left_of what.family what.name t) (gone_by c h t e u.queues u.semaphores t.descriptions (λ i x. false) (λ s i. false) p.ends p.gives core held' (p.registered' c h) (λ i y. refl)
     names.0
     names.1
-    (descriptions_kept h (after_accepted h e) t.descriptions (λ i. held' i ∙ kept_all (held h i)) (λ s d. g.nonblock_of s d ∙ p.ends.nonblock' s d _ _) (g.open_count ∙ p.ends.opens' _) a.descriptions)
-    a)
+    (descriptions_kept h (after_accepted h e) t.descriptions (λ i. held' i ∙ kept_all (held h i)) (λ s d. g.nonblock_of s d ∙ p.ends.nonblock' s d _ _) (g.open_count ∙ p.ends.opens' _) a.descriptions))

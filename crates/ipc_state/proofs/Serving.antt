@@ -8,11 +8,12 @@ use Rattle.ipc_terms.specs.Lists.{first}
 use Rattle.ipc_terms.specs.History.{Message, message_at}
 use Rattle.ipc_terms.specs.declared.ids.Sid.{Sid}
 use Rattle.ipc_terms.specs.declared.ids.Desc.{Desc}
+use Rattle.ipc_terms.specs.declared.call.Call.{Call}
 use Rattle.ipc_terms.specs.declared.call.Call.TheVariants.{MqSend, MqReceive}
+use Rattle.ipc_terms.specs.declared.rule.Rule.TheVariants.{BadDescr}
 use Rattle.ipc_terms.specs.declared.record.Event.TheVariants.{Do}
 use Rattle.ipc_queue.specs.declared.queue.Ticket.{Ticket}
-use Rattle.ipc_queue.specs.declared.queue.ParkedSend.{ParkedSend}
-use Rattle.ipc_queue.specs.Tickets.{Tickets, fired, outcome_by_receiver, send_outcome, sent, outcome_by_next, receive_outcome, received, withdrawn}
+use Rattle.ipc_queue.specs.Tickets.{fired, outcome_by_receiver, send_outcome, sent, outcome_by_next, receive_outcome, received, withdrawn}
 use Rattle.ipc_policy.specs.declared.config.Config.{Config}
 use Rattle.ipc_policy.specs.declared.config.Held.{Held}
 use Rattle.ipc_terms.specs.declared.call.Attributes.{Attributes}
@@ -29,7 +30,9 @@ use Rattle.ipc_policy.specs.Registrations.{fires, registered}
 use Rattle.ipc_policy.proofs.Queues.RegisteredSteps.{registered_stays, registered_send}
 use Rattle.ipc_policy.specs.Queues.{Send, Waiter, Sends, Receives, Withdraws, NoAct, Queue, next, has_none, is_filled, maxmsg_of, attributes, maxmsg, queue, queue_after, contents, senders, receivers, is_full, is_empty}
 use Rattle.ipc_policy.specs.Parking.{Parked, parked}
-use Rattle.ipc_policy.specs.Verdict.{Legal}
+use Rattle.ipc_policy.specs.declared.asking.Described.{Described}
+use Rattle.ipc_policy.specs.Rules.{forbids, bad_descr, described, not_held}
+use Rattle.ipc_policy.specs.Verdict.{verdict, Legal}
 use Rattle.ipc_policy.proofs.Lists.EachItem.{each_first, each_map}
 use Rattle.ipc_policy.proofs.Lists.EntryOrder.{next_some}
 use Rattle.ipc_policy.proofs.Queues.Keeping.{sent_once}
@@ -46,10 +49,11 @@ use Rattle.ipc_tables.specs.TablesView.{TablesView}
 use Rattle.ipc_tables.specs.Steps.{parked_by_send, parked_by_receive}
 use Rattle.ipc_state.specs.Agrees.{Agrees, IsCore, SessionsAgree, sender_of, receiver_of, tickets_of}
 use Rattle.ipc_state.proofs.Mapped.{longest_mapped}
-use Rattle.ipc_state.proofs.Lookups.{queue_alive}
+use Rattle.ipc_state.specs.Meetings.{by_description, object_by}
+use Rattle.ipc_state.proofs.Lookups.{mapped_some, queue_alive}
 use Rattle.ipc_state.proofs.QueueLookups.{holds_alive}
-use Rattle.ipc_policy.proofs.Histories.Unforbidden.{IsFree}
-use Rattle.ipc_state.proofs.Accepted.{within_live, not_bad_queue, not_bad_semaphore, limits_some}
+use Rattle.ipc_policy.proofs.Histories.Unforbidden.{IsFree, unforbidden}
+use Rattle.ipc_state.proofs.Accepted.{within_live, not_bad_held, not_bad_queue, not_bad_semaphore, limits_some}
 use Rattle.ipc_state.proofs.QueueSteps.{IsOnce, left_registered, full_same, next_same, sent_is, received_is, withdrawn_is}
 use Rattle.ipc_state.proofs.ParkedColumn.{parked_object, column_after}
 use Rattle.ipc_state.proofs.SessionTables.{Columns, columns_of, columns_moved}
@@ -252,7 +256,10 @@ semaphore_here c h t s d o a free is = here_at as_semaphore c h t s d o a free.l
 pub queue_stands : (c : Config) (h : History) (t : TablesView) (s d o : ℕ) → Legal c h → Agrees c h t → IsHereQueue c h t s d o → is_some (queue_at t.objects o) ≡ true
 queue_stands c h t s d o legal a here = subst (λ (i : ℕ). is_some (queue_at t.objects i) ≡ true) here.same (ap is_some (queue_there c h t here.x.object here.given legal a here.lives here.made))
 
--- what is held has a number
-pub number_there : (w : Option Held) → is_some w ≡ true → option_map (λ (x : Held). x.object) w ≡ None → ⊥
-number_there None e k = cc
-number_there (Some x) e k = cc
+-- an accepted call that names a description is by one that gives an object
+pub object_there : (c : Config) (h : History) (sid : Sid) (call : Call) → is_some (described call) ≡ true → verdict c h (Do sid call) ≡ None → is_some (by_description (object_by h) (Do sid call)) ≡ true
+unfolding forbids bad_descr
+object_there c h sid call named accepted = at (described call) named (unforbidden c h (Do sid call) accepted BadDescr) where
+  at : (w : Option Described) → is_some w ≡ true → is_some_and (λ (x : Described). not_held c h sid.0 x.family x.desc.0) w ≡ false → is_some (option_and_then (λ (x : Described). object_by h sid.0 x.desc.0) w) ≡ true
+  at None some free = absurd cc
+  at (Some x) some free = mapped_some (λ (y : Held). y.object) (holds h sid.0 x.desc.0) ∙ not_bad_held c h sid.0 x.family x.desc.0 free

@@ -1,5 +1,5 @@
 -- What the tables have to do with the history: each is what the policy's values give, in the order of their numbers.
-use Rattle.std.specs.Prelude.{◌≡◌, Bool, true, ℕ, List, length, map, slice_get, Option, Some, None, if◌then◌else◌}
+use Rattle.std.specs.Prelude.{◌≡◌, Bool, ℕ, List, length, map, slice_get, Option, Some, None, if◌then◌else◌}
 use Rattle.std.specs.Option.{option_map}
 use Rattle.ipc_terms.specs.declared.facts.Facts.{Facts}
 use Rattle.ipc_terms.specs.declared.ids.Sid.{Sid}
@@ -43,10 +43,10 @@ use Rattle.ipc_policy.specs.Charges.{charged, limit}
 use Rattle.ipc_policy.specs.Verdict.{Legal}
 use Rattle.ipc_state.specs.Ranges.{first_bad}
 
--- sessions stand at their numbers, each with its user, its mask while it is live, whether it is, and what its call is parked on
+-- sessions stand at their numbers, each with its user, its mask, whether it is live, and what its call is parked on
 pub record SessionsAgree (c : Config) (h : History) (sessions : List Session) : Type 0 where
   pub users : (s : ℕ) → option_map (λ row. row.user) (slice_get sessions s) ≡ user h s
-  pub masks : (s : ℕ) (row : Session) → slice_get sessions s ≡ Some row → row.is_live ≡ true → row.mask.0 ≡ mask h s
+  pub masks : (s : ℕ) (row : Session) → slice_get sessions s ≡ Some row → row.mask.0 ≡ mask h s
   pub lives : (s : ℕ) → live_at sessions s ≡ live h s
   pub parks : (s : ℕ) → parked_on_at sessions s ≡ option_map (λ p. p.object) (parked c h s)
   pub count : length sessions ≡ hellos h

@@ -1,11 +1,12 @@
 //! What an accepted event does to the tables.
 
-ghost use Rattle.std.specs.Prelude.{◌≡◌, false, ◌+◌, ◌^◌, ◌<◌, ◌∷◌, length, None, IsSome, OnOk, OnErr};
+ghost use Rattle.std.specs.Prelude.{◌≡◌, false, ◌+◌, ◌^◌, ◌<◌, ◌∷◌, length, Some, None, IsSome, OnOk, OnErr};
 ghost use Rattle.ipc_terms.specs.declared.record.Event.TheVariants.{Hello, Do, Hangup};
-ghost use Rattle.ipc_terms.specs.declared.call.Call.TheVariants.{Umask, MqSend, MqReceive, MqSetattr, SemPost, SemWait, SemTryWait, SetLimit, MqNotify, Interrupt};
+ghost use Rattle.ipc_terms.specs.declared.call.Call.TheVariants.{Umask, MqSetattr, SetLimit, Interrupt};
 ghost use Rattle.ipc_policy.specs.History.{after_accepted};
 ghost use Rattle.ipc_policy.specs.Names.{opening, nonblock_asked};
 ghost use Rattle.ipc_policy.specs.Objects.{made_by, first_facts};
+ghost use Rattle.ipc_policy.specs.Rules.{described};
 ghost use Rattle.ipc_policy.specs.Verdict.{verdict};
 ghost use Rattle.ipc_state.specs.Agrees.{Agrees, IsCore};
 ghost use Rattle.ipc_state.specs.Meetings.{by_description, by_name, object_by, object_bound};
@@ -18,8 +19,7 @@ use ipc_access::Cred;
 use ipc_policy::{Config, Opening, kind_of, opening_of};
 use ipc_tables::{Grant, Tables};
 use ipc_terms::{
-    Asked, Bytes, Call, Desc, Event, Facts, Family, Mode, NoMemory, Object, OpenFlags, Rule, Sid,
-    Uid,
+    Asked, Call, Desc, Event, Facts, Family, Mode, NoMemory, Object, OpenFlags, Rule, Sid, Uid,
 };
 use ipc_trail::Trail;
 use std::alloc::Global;
@@ -72,17 +72,19 @@ fn accept(
             Call::MqOpen(_) | Call::SemOpen(_) => {
                 accept_open(alloc, tables, config, past, event, meant.bound)
             }
-            Call::MqSend {
-                desc,
-                priority,
-                bytes,
-            } => accept_send(
-                tables, config, past, *sid, *desc, *priority, bytes, meant.held,
-            ),
-            Call::MqReceive { desc, length } => {
-                accept_receive(tables, config, past, *sid, *desc, *length, meant.held)
+            Call::MqSend { priority, .. } => {
+                let object = object_held(config, past, *sid, call, meant.held);
+                tables.send(object, past.len() as u64, *priority, *sid)?;
+                Ok(())
             }
-            Call::SemWait(desc) => accept_wait(tables, config, past, *sid, *desc, meant.held),
+            Call::MqReceive { .. } => {
+                tables.receive(object_held(config, past, *sid, call, meant.held), *sid)?;
+                Ok(())
+            }
+            Call::SemWait(_) => {
+                tables.wait(object_held(config, past, *sid, call, meant.held), *sid)?;
+                Ok(())
+            }
             _ => {
                 accept_in_place(tables, config, past, *sid, call, meant);
                 Ok(())
@@ -117,10 +119,11 @@ fn accept_in_place(
             accept_setattr(tables, config, past, sid, *desc, *nonblock);
         }
         Call::MqNotify { desc, on } => {
-            accept_notify(tables, config, past, sid, *desc, *on, meant.held);
+            let object = object_held(config, past, sid, call, meant.held);
+            tables.set_registered(object, *desc, *on);
         }
-        Call::SemPost(desc) => accept_post(tables, config, past, sid, *desc, meant.held),
-        Call::SemTryWait(desc) => accept_try_wait(tables, config, past, sid, *desc, meant.held),
+        Call::SemPost(_) => tables.post(object_held(config, past, sid, call, meant.held)),
+        Call::SemTryWait(_) => tables.try_wait(object_held(config, past, sid, call, meant.held)),
         Call::MqClose(desc) => tables.close(sid, *desc),
         Call::SemClose(desc) => tables.close(sid, *desc),
         Call::MqUnlink(name) => tables.unlink(Family::Mq, name),
@@ -144,6 +147,19 @@ fn accept_in_place(
         | Call::MqReceive { .. }
         | Call::SemWait(_) => unreachable!(),
     }
+}
+
+/// The object that the session has by the description that its call names, which is accepted.
+fn object_held(config: &Config, past: &Trail, sid: Sid, call: &Call, held: Option<u64>) -> u64
+    requires named { IsSome (described call.now) }
+    requires accepted { verdict config.now past.now.history (Do sid call.now) ≡ None }
+    requires held { held ≡ by_description (object_by past.now.history) (Do sid call.now) }
+    ensures { held ≡ Some result }
+{
+    let Some(object) = held else {
+        unreachable!();
+    };
+    object
 }
 
 fn accept_hello(
@@ -174,52 +190,6 @@ fn accept_umask(tables: &mut Tables, config: &Config, past: &Trail, sid: Sid, ma
     tables.set_mask(sid, Mode(mask.0 % 0o1000));
 }
 
-fn accept_send(
-    tables: &mut Tables,
-    config: &Config,
-    past: &Trail,
-    sid: Sid,
-    desc: Desc,
-    priority: u32,
-    bytes: &Bytes,
-    held: Option<u64>,
-) -> Result<(), NoMemory>
-    requires core { IsCore config.now past.now.history tables.old }
-    requires accepted { verdict config.now past.now.history (Do sid (MqSend desc priority bytes.now)) ≡ None }
-    requires held { held ≡ object_by past.now.history sid.0 desc.0 }
-    requires room { length past.now.history + 1 < 2 ^ 63 }
-    ensures ok { OnOk result (Agrees config.now (after_accepted past.now.history (Do sid (MqSend desc priority bytes.now))) tables.new) }
-    ensures err { OnErr result (tables.new ≡ tables.old) }
-{
-    let Some(object) = held else {
-        unreachable!();
-    };
-    tables.send(object, past.len() as u64, priority, sid)?;
-    Ok(())
-}
-
-fn accept_receive(
-    tables: &mut Tables,
-    config: &Config,
-    past: &Trail,
-    sid: Sid,
-    desc: Desc,
-    length: u32,
-    held: Option<u64>,
-) -> Result<(), NoMemory>
-    requires core { IsCore config.now past.now.history tables.old }
-    requires accepted { verdict config.now past.now.history (Do sid (MqReceive desc length)) ≡ None }
-    requires held { held ≡ object_by past.now.history sid.0 desc.0 }
-    ensures ok { OnOk result (Agrees config.now (after_accepted past.now.history (Do sid (MqReceive desc length))) tables.new) }
-    ensures err { OnErr result (tables.new ≡ tables.old) }
-{
-    let Some(object) = held else {
-        unreachable!();
-    };
-    tables.receive(object, sid)?;
-    Ok(())
-}
-
 fn accept_setattr(
     tables: &mut Tables,
     config: &Config,
@@ -235,91 +205,12 @@ fn accept_setattr(
     tables.set_nonblock(sid, desc, nonblock);
 }
 
-fn accept_notify(
-    tables: &mut Tables,
-    config: &Config,
-    past: &Trail,
-    sid: Sid,
-    desc: Desc,
-    on: bool,
-    held: Option<u64>,
-)
-    requires core { IsCore config.now past.now.history tables.old }
-    requires accepted { verdict config.now past.now.history (Do sid (MqNotify desc on)) ≡ None }
-    requires held { held ≡ object_by past.now.history sid.0 desc.0 }
-    ensures { Agrees config.now (after_accepted past.now.history (Do sid (MqNotify desc on))) tables.new }
-{
-    let Some(object) = held else {
-        unreachable!();
-    };
-    tables.set_registered(object, desc, on);
-}
-
 fn accept_limit(tables: &mut Tables, config: &Config, past: &Trail, sid: Sid, uid: Uid, bytes: u64)
     requires core { IsCore config.now past.now.history tables.old }
     requires accepted { verdict config.now past.now.history (Do sid (SetLimit uid bytes)) ≡ None }
     ensures { Agrees config.now (after_accepted past.now.history (Do sid (SetLimit uid bytes))) tables.new }
 {
     tables.set_limit(uid, bytes);
-}
-
-fn accept_post(
-    tables: &mut Tables,
-    config: &Config,
-    past: &Trail,
-    sid: Sid,
-    desc: Desc,
-    held: Option<u64>,
-)
-    requires core { IsCore config.now past.now.history tables.old }
-    requires accepted { verdict config.now past.now.history (Do sid (SemPost desc)) ≡ None }
-    requires held { held ≡ object_by past.now.history sid.0 desc.0 }
-    ensures { Agrees config.now (after_accepted past.now.history (Do sid (SemPost desc))) tables.new }
-{
-    let Some(object) = held else {
-        unreachable!();
-    };
-    tables.post(object);
-}
-
-fn accept_wait(
-    tables: &mut Tables,
-    config: &Config,
-    past: &Trail,
-    sid: Sid,
-    desc: Desc,
-    held: Option<u64>,
-) -> Result<(), NoMemory>
-    requires core { IsCore config.now past.now.history tables.old }
-    requires accepted { verdict config.now past.now.history (Do sid (SemWait desc)) ≡ None }
-    requires held { held ≡ object_by past.now.history sid.0 desc.0 }
-    ensures ok { OnOk result (Agrees config.now (after_accepted past.now.history (Do sid (SemWait desc))) tables.new) }
-    ensures err { OnErr result (tables.new ≡ tables.old) }
-{
-    let Some(object) = held else {
-        unreachable!();
-    };
-    tables.wait(object, sid)?;
-    Ok(())
-}
-
-fn accept_try_wait(
-    tables: &mut Tables,
-    config: &Config,
-    past: &Trail,
-    sid: Sid,
-    desc: Desc,
-    held: Option<u64>,
-)
-    requires core { IsCore config.now past.now.history tables.old }
-    requires accepted { verdict config.now past.now.history (Do sid (SemTryWait desc)) ≡ None }
-    requires held { held ≡ object_by past.now.history sid.0 desc.0 }
-    ensures { Agrees config.now (after_accepted past.now.history (Do sid (SemTryWait desc))) tables.new }
-{
-    let Some(object) = held else {
-        unreachable!();
-    };
-    tables.try_wait(object);
 }
 
 fn accept_interrupt(tables: &mut Tables, config: &Config, past: &Trail, sid: Sid)

@@ -1,7 +1,6 @@
 pub mod CallTables
 pub mod SessionRowsLemmas
 pub mod CoveredCharges
-pub mod HeldRegistrations
 pub mod Numbering
 pub mod Touching
 pub mod Settling
@@ -10,3 +9,5 @@ pub mod StandingLemmas
 pub mod HangingUp
 pub mod RowChanges
 pub mod Releasing
+pub mod Parts
+pub mod TableChanges

@@ -1,6 +1,5 @@
 -- Objects that stand at their numbers: what the calls of their map make of the list of their rows.
 use Rattle.std.proofs.Common.{◌≡◌, Bool, true, false, cond, ℕ, ◌+◌, ◌≤◌, ◌<◌, ◌==◌, List, [], ◌∷◌, ◌++◌, Some, None, refl, sym, ap, ◌∙◌, arith, find, count_by, length}
-use Rattle.std.specs.List.{AllByRecursion}
 use Rattle.std.specs.Option.{option_map, unwrap_or}
 use Rattle.std.specs.Map.{lookup, set_value, remove_entry, values_of}
 use Rattle.std.specs.BTreeMap.{is_at, insert_entry}
@@ -62,15 +61,6 @@ numbered_by_test test low high row next entry entries false e same h rest = (h.0
 pub set_numbered : (test : ℕ → Bool) (low high : ℕ) (row next : ObjectRow) (entries : List (ℕ × ObjectRow)) → lookup test entries ≡ Some row → next.number ≡ row.number → Numbered low high entries → Numbered low high (set_value test entries next)
 set_numbered test low high row next [] e same h = h
 set_numbered test low high row next (entry ∷ entries) e same h = numbered_by_test test low high row next entry entries (test entry.0) e same h (λ k. set_numbered test (entry.0 + 1) high row next entries k same h.2)
-
-all_by_test : (P : ObjectRow → Type 0) (test : ℕ → Bool) (row next : ObjectRow) (entry : ℕ × ObjectRow) (entries : List (ℕ × ObjectRow)) (b : Bool) → cond b (Some entry.1) (lookup test entries) ≡ Some row → (P row → P next) → AllByRecursion P (values_of (entry ∷ entries)) → (lookup test entries ≡ Some row → AllByRecursion P (values_of (set_value test entries next))) → AllByRecursion P (values_of (cond b ((entry.0, next) ∷ entries) (entry ∷ set_value test entries next)))
-all_by_test P test row next entry entries true e keeps all rest = let here : entry.1 ≡ row = cc in (keeps (rw here at all.0), all.1)
-all_by_test P test row next entry entries false e keeps all rest = (all.0, rest e)
-
--- what holds of all rows holds of them still
-pub set_all : (P : ObjectRow → Type 0) (test : ℕ → Bool) (row next : ObjectRow) (entries : List (ℕ × ObjectRow)) → lookup test entries ≡ Some row → (P row → P next) → AllByRecursion P (values_of entries) → AllByRecursion P (values_of (set_value test entries next))
-set_all P test row next [] e keeps all = all
-set_all P test row next (entry ∷ entries) e keeps all = all_by_test P test row next entry entries (test entry.0) e keeps all (λ k. set_all P test row next entries k keeps all.1)
 
 pub set_count : (test : ℕ → Bool) (row next : ObjectRow) (entries : List (ℕ × ObjectRow)) → lookup test entries ≡ Some row → is_queue next ≡ is_queue row → count_by is_queue (values_of (set_value test entries next)) ≡ count_by is_queue (values_of entries)
 set_count test row next entries e same =

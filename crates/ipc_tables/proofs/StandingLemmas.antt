@@ -1,11 +1,12 @@
 -- What holds of the tables between calls, after each kind of change.
-use Rattle.std.proofs.Common.{◌≡◌, Bool, true, false, cond, ℕ, ◌+◌, ◌==◌, ◌||◌, List, [], ◌∷◌, ◌++◌, Option, Some, None, refl, sym, ap, ◌∙◌, find, filter, map, is_some, length, count_by, if◌then◌else◌}
+use Rattle.std.proofs.Common.{◌≡◌, Bool, true, false, cond, ℕ, ◌+◌, ◌==◌, ◌||◌, List, [], ◌∷◌, ◌++◌, Option, Some, None, refl, sym, ap, ◌∙◌, arith, find, filter, map, is_some, length, count_by, if◌then◌else◌}
 use Rattle.std.specs.List.{AllByRecursion, list_any}
 use Rattle.std.specs.Option.{option_map, option_and_then}
 use Rattle.std.specs.Map.{lookup, set_value, values_of}
 use Rattle.std.specs.BTreeMap.{is_at, insert_entry}
 use Rattle.std.specs.Ordering.{nat_cmp}
 use Rattle.std.proofs.lemmas.Bool.{or_left, or_right, eq-eqb}
+use Rattle.std.proofs.lemmas.Bool.Decides.{nat_tests}
 use Rattle.std.proofs.lemmas.List.Sums.{sum_by_push}
 use Rattle.ipc_terms.specs.Lists.{changed_first}
 use Rattle.ipc_terms.specs.declared.binding.Binding.{Binding}
@@ -24,20 +25,16 @@ use Rattle.ipc_tables.specs.declared.objects.Objects.{Objects}
 use Rattle.ipc_tables.specs.declared.rows.Body.{Body}
 use Rattle.ipc_tables.specs.declared.rows.Body.TheVariants.{Queue as QueueBody, Semaphore as SemaphoreBody}
 use Rattle.ipc_tables.specs.declared.rows.ObjectRow.{ObjectRow}
-use Rattle.ipc_tables.specs.Objects.{is_queue, queue_in, registered_in, with_body, with_counter, with_queue, with_semaphore, with_facts, with_withdrawal, without_call, held_by, with_held}
+use Rattle.ipc_tables.specs.declared.tables.Tables.TheInside.{Inside}
+use Rattle.ipc_tables.specs.Objects.{is_number, is_queue, queue_in, registered_in, with_body, with_counter, with_queue, with_semaphore, with_facts, with_withdrawal, without_call, held_by, with_held}
 use Rattle.ipc_tables.specs.TablesView.{is_alive, is_kept}
+use Rattle.ipc_tables.specs.Lending.{HasRows}
 use Rattle.ipc_tables.specs.Standing.{rows_in, IsCounted, BoundOnce, IsOwn, IsStanding}
-use Rattle.ipc_tables.proofs.Numbering.{found_number, set_numbered, set_all, set_count, inserted_last, numbered_last, values_last}
+use Rattle.ipc_tables.proofs.Numbering.{set_numbered, set_count, inserted_last, numbered_last, values_last}
 use Rattle.ipc_tables.proofs.Touching.{all_mapped, all_filtered, names_equal}
 use Rattle.ipc_tables.proofs.Narrowing.{released_none, released}
 
 -- ---- a row changes
-
--- the row keeps its number, what it is, and, if it has a registration, that one
-pub record Tame (next row : ObjectRow) : Type 0 where
-  pub number : next.number ≡ row.number
-  pub kind : is_queue next ≡ is_queue row
-  pub registered : (desc : Desc) → registered_in next.body ≡ Some desc → registered_in row.body ≡ Some desc
 
 -- what one row of the map is set to
 pub record Sets (o : ℕ) (row next : ObjectRow) (entries after : List (ℕ × ObjectRow)) : Type 0 where
@@ -50,14 +47,37 @@ counted_still o row next objects after number kind set created count is = record
   counted = rw (set.sets) (count ∙ is.counted ∙ sym (set_count (is_at (nat_cmp o)) row next objects.rows.entries set.there kind));
 }
 
+-- the object keeps its number, and what is registered there is its own still
+pub record Keeps (rows : List Row) (o : ℕ) (change : ObjectRow → ObjectRow) : Type 0 where
+  pub number : (row : ObjectRow) → (change row).number ≡ row.number
+  pub own : (row : ObjectRow) → row.number ≡ o → IsOwn rows row → IsOwn rows (change row)
+
+changed_by_test : (P : ObjectRow → Type 0) (o : ℕ) (change : ObjectRow → ObjectRow) (row : ObjectRow) (rows : List ObjectRow) (b : Bool) → (row.number == o) ≡ b → (row.number ≡ o → P row → P (change row)) → AllByRecursion P (row ∷ rows) → AllByRecursion P (changed_first (is_number o) change rows) → AllByRecursion P (cond b (change row ∷ rows) (row ∷ changed_first (is_number o) change rows))
+changed_by_test P o change row rows true is keeps all rest = let same : row.number ≡ o = grind (arith, nat_tests) in (keeps same all.0, all.1)
+changed_by_test P o change row rows false is keeps all rest = (all.0, rest)
+
+all_changed : (P : ObjectRow → Type 0) (o : ℕ) (change : ObjectRow → ObjectRow) (rows : List ObjectRow) → ((row : ObjectRow) → row.number ≡ o → P row → P (change row)) → AllByRecursion P rows → AllByRecursion P (changed_first (is_number o) change rows)
+all_changed P o change [] keeps all = all
+all_changed P o change (row ∷ rows) keeps all = changed_by_test P o change row rows (is_number o row) refl (keeps row) all (all_changed P o change rows keeps all.1)
+
 -- so all stands as it did
-pub changed_stands : (queues semaphores : Directory) (rows : List Row) (o : ℕ) (row next : ObjectRow) (objects after : Objects) → Tame next row → Sets o row next objects.rows.entries after.rows.entries → after.created ≡ objects.created → after.queue_count ≡ objects.queue_count → IsStanding queues semaphores rows objects → IsStanding queues semaphores rows after
-changed_stands queues semaphores rows o row next objects after tame set created count is = record {
-  counted = counted_still o row next objects after tame.number tame.kind set created count is.counted;
+pub changed_stands : (inside : Inside) (o : ℕ) (change : ObjectRow → ObjectRow) (after : Objects) → Keeps inside.descriptions.rows o change → HasRows (changed_first (is_number o) change (rows_in inside.objects)) inside.objects after → IsStanding inside.queues inside.semaphores inside.descriptions.rows inside.objects → IsStanding inside.queues inside.semaphores inside.descriptions.rows after
+changed_stands inside o change after keeps has is = record {
+  counted = has.counted;
   queue_names = is.queue_names;
   semaphore_names = is.semaphore_names;
-  kept = rw (set.sets) (set_all (λ r. is_kept queues semaphores rows r ≡ true) (is_at (nat_cmp o)) row next objects.rows.entries set.there (λ k. ap (is_alive queues semaphores rows) tame.number ∙ k) is.kept);
-  own = rw (set.sets) (set_all (IsOwn rows) (is_at (nat_cmp o)) row next objects.rows.entries set.there (λ own desc e. own desc (tame.registered desc e) ∙ ap Some (sym tame.number)) is.own);
+  kept = rw (has.rows_are) (all_changed (λ r. is_kept inside.queues inside.semaphores inside.descriptions.rows r ≡ true) o change (rows_in inside.objects) (λ row same k. ap (is_alive inside.queues inside.semaphores inside.descriptions.rows) (keeps.number row) ∙ k) is.kept);
+  own = rw (has.rows_are) (all_changed (IsOwn inside.descriptions.rows) o change (rows_in inside.objects) keeps.own is.own);
+}
+
+-- and where no row changed
+pub unchanged_stands : (inside : Inside) (after : Objects) → HasRows (rows_in inside.objects) inside.objects after → IsStanding inside.queues inside.semaphores inside.descriptions.rows inside.objects → IsStanding inside.queues inside.semaphores inside.descriptions.rows after
+unchanged_stands inside after has is = record {
+  counted = has.counted;
+  queue_names = is.queue_names;
+  semaphore_names = is.semaphore_names;
+  kept = rw (has.rows_are) is.kept;
+  own = rw (has.rows_are) is.own;
 }
 
 -- a queue that changes: its registration stays, or is gone
@@ -65,27 +85,19 @@ tame_body : (change : Tickets → Tickets) (body : Body) → ((q : Tickets) (des
 tame_body change (QueueBody q) stays desc e = stays q desc e
 tame_body change (SemaphoreBody q) stays desc e = e
 
-kind_body : (change : Tickets → Tickets) (body : Body) → is_some (queue_in (with_body change body)) ≡ is_some (queue_in body)
-kind_body change (QueueBody q) = refl
-kind_body change (SemaphoreBody q) = refl
-
-pub tame_queue : (change : Tickets → Tickets) (row : ObjectRow) → ((q : Tickets) (desc : Desc) → (change q).registered ≡ Some desc → q.registered ≡ Some desc) → Tame (with_queue change row) row
-tame_queue change row stays = record { number = refl; kind = kind_body change row.body; registered = tame_body change row.body stays }
+keeps_queue : (rows : List Row) (o : ℕ) (change : Tickets → Tickets) → ((q : Tickets) (desc : Desc) → (change q).registered ≡ Some desc → q.registered ≡ Some desc) → Keeps rows o (with_queue change)
+keeps_queue rows o change stays = record { number = λ row. refl; own = λ row same own desc e. own desc (tame_body change row.body stays desc e) }
 
 tame_counter : (change : Counter → Counter) (body : Body) (desc : Desc) → registered_in (with_counter change body) ≡ Some desc → registered_in body ≡ Some desc
 tame_counter change (QueueBody q) desc e = e
 tame_counter change (SemaphoreBody q) desc e = e
 
-kind_counter : (change : Counter → Counter) (body : Body) → is_some (queue_in (with_counter change body)) ≡ is_some (queue_in body)
-kind_counter change (QueueBody q) = refl
-kind_counter change (SemaphoreBody q) = refl
-
 -- a semaphore that changes
-pub tame_semaphore : (change : Counter → Counter) (row : ObjectRow) → Tame (with_semaphore change row) row
-tame_semaphore change row = record { number = refl; kind = kind_counter change row.body; registered = tame_counter change row.body }
+pub keeps_semaphore : (rows : List Row) (o : ℕ) (change : Counter → Counter) → Keeps rows o (with_semaphore change)
+keeps_semaphore rows o change = record { number = λ row. refl; own = λ row same own desc e. own desc (tame_counter change row.body desc e) }
 
-pub tame_facts : (facts : Facts) (row : ObjectRow) → Tame (with_facts facts row) row
-tame_facts facts row = record { number = refl; kind = refl; registered = λ desc e. e }
+pub keeps_facts : (rows : List Row) (o : ℕ) (facts : Facts) → Keeps rows o (with_facts facts)
+keeps_facts rows o facts = record { number = λ row. refl; own = λ row same own. own }
 
 -- a send
 sent_by_tests : (ticket : Ticket) (who : Sid) (q : Tickets) (desc : Desc) (full none : Bool) → (if full then with_sender (record { ticket = ticket; session = who }) q else with_ticket ticket (record q { registered = if none then None else q.registered })).registered ≡ Some desc → q.registered ≡ Some desc
@@ -101,8 +113,8 @@ sent_registered : (ticket : Ticket) (who : Sid) (q : Tickets) (desc : Desc) → 
 unfolding sent
 sent_registered ticket who q desc e = sent_by ticket who q desc q.receivers e
 
-pub tame_send : (ticket : Ticket) (who : Sid) (row : ObjectRow) → Tame (with_queue (sent ticket who) row) row
-tame_send ticket who row = tame_queue (sent ticket who) row (sent_registered ticket who)
+pub keeps_send : (rows : List Row) (o : ℕ) (ticket : Ticket) (who : Sid) → Keeps rows o (with_queue (sent ticket who))
+keeps_send rows o ticket who = keeps_queue rows o (sent ticket who) (sent_registered ticket who)
 
 -- a receive
 admitted_registered : (q : Tickets) (senders : List ParkedSend) → (admitted q senders).registered ≡ q.registered
@@ -117,8 +129,8 @@ received_registered : (who : Sid) (q : Tickets) (desc : Desc) → (received who 
 unfolding received
 received_registered who q desc e = sym (received_by_next who q (next_ticket q.tickets)) ∙ e
 
-pub tame_receive : (who : Sid) (row : ObjectRow) → Tame (with_queue (received who) row) row
-tame_receive who row = tame_queue (received who) row (received_registered who)
+pub keeps_receive : (rows : List Row) (o : ℕ) (who : Sid) → Keeps rows o (with_queue (received who))
+keeps_receive rows o who = keeps_queue rows o (received who) (received_registered who)
 
 -- a withdrawal
 withdrawn_registered : (who : Sid) (q : Tickets) (desc : Desc) → (withdrawn who q).registered ≡ Some desc → q.registered ≡ Some desc
@@ -129,12 +141,12 @@ withdrawn_body : (who : Sid) (body : Body) (desc : Desc) → registered_in (with
 withdrawn_body who (QueueBody q) desc e = withdrawn_registered who q desc e
 withdrawn_body who (SemaphoreBody q) desc e = e
 
-withdrawn_kind : (who : Sid) (body : Body) → is_some (queue_in (without_call who body)) ≡ is_some (queue_in body)
+pub withdrawn_kind : (who : Sid) (body : Body) → is_some (queue_in (without_call who body)) ≡ is_some (queue_in body)
 withdrawn_kind who (QueueBody q) = refl
 withdrawn_kind who (SemaphoreBody q) = refl
 
-pub tame_withdrawal : (who : Sid) (row : ObjectRow) → Tame (with_withdrawal who row) row
-tame_withdrawal who row = record { number = refl; kind = withdrawn_kind who row.body; registered = withdrawn_body who row.body }
+pub keeps_withdrawal : (rows : List Row) (o : ℕ) (who : Sid) → Keeps rows o (with_withdrawal who)
+keeps_withdrawal rows o who = record { number = λ row. refl; own = λ row same own desc e. own desc (withdrawn_body who row.body desc e) }
 
 -- a registration less
 abbrev left_of : Bool → Desc → Option Desc
@@ -161,8 +173,8 @@ left_some gone (Some other) desc e = left_by_test (other.0 == gone.0) other desc
 unregistered_registered : (gone : Desc) (q : Tickets) (desc : Desc) → (without_registration gone q).registered ≡ Some desc → q.registered ≡ Some desc
 unregistered_registered gone q desc e = left_some gone q.registered desc (sym (unregistered_is gone q q.registered refl) ∙ e)
 
-pub tame_unregistered : (gone : Desc) (row : ObjectRow) → Tame (with_queue (without_registration gone) row) row
-tame_unregistered gone row = tame_queue (without_registration gone) row (unregistered_registered gone)
+keeps_unregistered : (rows : List Row) (o : ℕ) (gone : Desc) → Keeps rows o (with_queue (without_registration gone))
+keeps_unregistered rows o gone = keeps_queue rows o (without_registration gone) (unregistered_registered gone)
 
 -- ---- a registration more
 
@@ -184,17 +196,20 @@ own_body : (Own : Desc → Type 0) (desc : Desc) (body : Body) → ((other : Des
 own_body Own desc (QueueBody q) own new d e = own_first Own desc d q.registered own new (sym (registered_is desc q q.registered refl) ∙ e)
 own_body Own desc (SemaphoreBody q) own new d e = cc
 
-pub registered_stands : (queues semaphores : Directory) (rows : List Row) (o : ℕ) (desc : Desc) (row : ObjectRow) (objects after : Objects) → option_map (λ r. r.object) (find (is_desc desc.0) rows) ≡ Some o → Sets o row (with_queue (with_registration desc) row) objects.rows.entries after.rows.entries → after.created ≡ objects.created → after.queue_count ≡ objects.queue_count → IsStanding queues semaphores rows objects → IsStanding queues semaphores rows after
-registered_stands queues semaphores rows o desc row objects after gives set created count is = record {
-  counted = counted_still o row (with_queue (with_registration desc) row) objects after refl (kind_body (with_registration desc) row.body) set created count is.counted;
-  queue_names = is.queue_names;
-  semaphore_names = is.semaphore_names;
-  kept = rw (set.sets) (set_all (λ r. is_kept queues semaphores rows r ≡ true) (is_at (nat_cmp o)) row (with_queue (with_registration desc) row) objects.rows.entries set.there (λ k. k) is.kept);
-  own =
-      let number : row.number ≡ o = found_number o 0 objects.created row objects.rows.entries is.counted.numbered set.there in
-      let new = gives ∙ ap Some (sym number) in
-      rw (set.sets) (set_all (IsOwn rows) (is_at (nat_cmp o)) row (with_queue (with_registration desc) row) objects.rows.entries set.there (λ own d e. own_body (λ x. option_map (λ r. r.object) (find (is_desc x.0) rows) ≡ Some row.number) desc row.body own new d e) is.own);
+keeps_registration : (rows : List Row) (o : ℕ) (desc : Desc) → option_map (λ r. r.object) (find (is_desc desc.0) rows) ≡ Some o → Keeps rows o (with_queue (with_registration desc))
+keeps_registration rows o desc gives = record {
+  number = λ row. refl;
+  own = λ row same own d e. own_body (λ x. option_map (λ r. r.object) (find (is_desc x.0) rows) ≡ Some row.number) desc row.body own (gives ∙ ap Some (sym same)) d e;
 }
+
+-- registered, or taken back
+abbrev pub registered_by : Desc → Bool → Tickets → Tickets
+registered_by desc true = with_registration desc
+registered_by desc false = without_registration desc
+
+pub keeps_registered : (rows : List Row) (o : ℕ) (desc : Desc) (on : Bool) → (on ≡ true → option_map (λ r. r.object) (find (is_desc desc.0) rows) ≡ Some o) → Keeps rows o (with_queue (registered_by desc on))
+keeps_registered rows o desc true gives = keeps_registration rows o desc (gives refl)
+keeps_registered rows o desc false gives = keeps_unregistered rows o desc
 
 -- ---- a description or a name more
 

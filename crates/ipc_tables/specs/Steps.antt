@@ -1,5 +1,5 @@
 -- What each call does to the tables.
-use Rattle.std.specs.Prelude.{◌≡◌, Bool, true, false, ℕ, ◌+◌, ◌<◌, List, [], ◌∷◌, ◌++◌, length, filter, map, Option, Some, None, option_and_then}
+use Rattle.std.specs.Prelude.{Bool, true, false, ℕ, ◌+◌, List, [], ◌∷◌, ◌++◌, filter, map, Option, Some, None, option_and_then}
 use Rattle.std.specs.Option.{option_map}
 use Rattle.ipc_terms.specs.Lists.{first, changed, changed_first}
 use Rattle.ipc_terms.specs.Objects.{family_of}
@@ -17,12 +17,11 @@ use Rattle.ipc_access.specs.declared.users.User.{User}
 use Rattle.ipc_descr.specs.Charges.{uncharged, with_limit}
 use Rattle.ipc_descr.specs.Descriptions.{with_open, is_desc, without_desc, without_session, with_nonblock}
 use Rattle.ipc_queue.specs.declared.queue.Ticket.{Ticket}
-use Rattle.ipc_queue.specs.declared.queue.ParkedSend.{ParkedSend}
 use Rattle.ipc_queue.specs.declared.queue.SendOutcome.{SendOutcome}
 use Rattle.ipc_queue.specs.declared.queue.SendOutcome.TheVariants.{HandedTo, Parked as SendParks}
 use Rattle.ipc_queue.specs.declared.queue.ReceiveOutcome.{ReceiveOutcome}
 use Rattle.ipc_queue.specs.declared.queue.ReceiveOutcome.TheVariants.{TookAndAdmitted, Parked as ReceiveParks}
-use Rattle.ipc_queue.specs.Tickets.{Tickets, with_registration, without_registration, send_outcome, sent, receive_outcome, received}
+use Rattle.ipc_queue.specs.Tickets.{with_registration, without_registration, send_outcome, sent, receive_outcome, received}
 use Rattle.ipc_sem.specs.declared.semaphore.WaitOutcome.{WaitOutcome}
 use Rattle.ipc_sem.specs.declared.semaphore.WaitOutcome.TheVariants.{Parked as WaitParks}
 use Rattle.ipc_sem.specs.Counters.{posted, wait_outcome, waited, tried}
@@ -54,9 +53,9 @@ with_mask mask row = record row { mask = mask }
 abbrev pub with_parked : Option ℕ → Session → Session
 with_parked object row = record row { parked_on = object }
 
--- of a session that hung up its user is left: it has the mask octal 022 again, and is parked on nothing
+-- a session that hung up keeps its user and its mask
 abbrev pub hung_up : Session → Session
-hung_up row = record { user = row.user; mask = record { 0 = 18 }; is_live = false; parked_on = None }
+hung_up row = record row { is_live = false }
 
 -- a session that starts has the mask octal 022
 abbrev pub first_row : Uid → Session

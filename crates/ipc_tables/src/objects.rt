@@ -1,7 +1,8 @@
 //! The objects that are alive, and which of them a call ends.
 
 ghost use Rattle.std.specs.Prelude.{◌≡◌, map, filter};
-ghost use Rattle.ipc_tables.specs.Objects.{HasRoom, bytes_taken, with_held};
+ghost use Rattle.std.specs.Option.{option_copied_mut};
+ghost use Rattle.ipc_tables.specs.Objects.{HasRoom, bytes_taken, queue_at, semaphore_at, with_held};
 ghost use Rattle.ipc_tables.specs.TablesView.{is_alive, is_kept};
 ghost use Rattle.ipc_tables.specs.Charging.{Covered, settled};
 ghost use Rattle.ipc_tables.specs.Standing.{rows_in, IsCounted, OthersKept, OthersHeld};
@@ -9,6 +10,8 @@ ghost use Rattle.ipc_tables.specs.Standing.{rows_in, IsCounted, OthersKept, Othe
 use crate::rows::ObjectRow;
 use ipc_descr::{Charges, Descrs, bytes_of};
 use ipc_names::NameDir;
+use ipc_queue::Queue;
+use ipc_sem::Sem;
 use ipc_terms::Kind;
 use std::collections::BTreeMap;
 
@@ -25,6 +28,27 @@ pub struct Objects {
 }
 
 impl Objects {
+    ghost use Rattle.std.specs.Borrow.{sem};
+    ghost use Rattle.ipc_tables.specs.Lending.{LendsQueue, LendsSemaphore};
+
+    /// The queue that the object is, while it is alive, to be changed.
+    pub fn queue_mut(&mut self, object: u64) -> Option<&mut Queue>
+        requires { IsCounted self.old }
+        ensures* writes_back { sem 𝓛 (LendsQueue self.entry object result) }
+        ensures value { option_copied_mut result ≡ queue_at (rows_in self.old) object }
+    {
+        self.rows.get_mut(&object)?.body.queue_mut()
+    }
+
+    /// The semaphore that the object is, while it is alive, to be changed.
+    pub fn semaphore_mut(&mut self, object: u64) -> Option<&mut Sem>
+        requires { IsCounted self.old }
+        ensures* writes_back { sem 𝓛 (LendsSemaphore self.entry object result) }
+        ensures value { option_copied_mut result ≡ semaphore_at (rows_in self.old) object }
+    {
+        self.rows.get_mut(&object)?.body.semaphore_mut()
+    }
+
     /// Removes the object that was touched if nothing keeps it, and gives its creator back what it took.
     pub fn remove_dead(
         &mut self,
@@ -76,11 +100,14 @@ impl Objects {
 fn release_row(row: &mut ObjectRow, descriptions: &Descrs)
     ensures { row.new ≡ with_held descriptions.now.rows row.old }
 {
-    let Some(desc) = row.body.registered() else {
+    let Some(queue) = row.body.queue_mut() else {
+        return;
+    };
+    let Some(desc) = queue.registered() else {
         return;
     };
     if descriptions.holder(desc).is_none() {
-        row.body.unregister(desc);
+        queue.unregister(desc);
     }
 }
 

@@ -9,7 +9,7 @@ use ipc_terms::{Mode, NoMemory, Sid, Uid};
 use std::alloc::Global;
 use std::marker::Model;
 
-/// The mask of a session that has set none, and of one that has ended: octal 022.
+/// The mask of a session that has set none: octal 022.
 const FIRST_MASK: Mode = Mode(0o22);
 
 /// The sessions, which stand at their numbers.
@@ -85,14 +85,12 @@ impl Sessions {
         }
     }
 
-    /// Ends the session: of what was kept of it its user is left.
+    /// Ends the session. Its user and its mask stay.
     pub(crate) fn end(&mut self, sid: Sid)
         ensures { self.new ≡ changed hung_up self.old sid.0 }
     {
         if let Some(row) = self.rows.get_mut(sid.0 as usize) {
-            row.mask = FIRST_MASK;
             row.is_live = false;
-            row.parked_on = None;
         }
     }
 }

@@ -271,10 +271,10 @@ impl Tables {
         ensures ok { OnOk result (self.new ≡ after_send self.old object (record { place = ticket; priority = priority }) sid) }
         ensures err { OnErr result (self.new ≡ self.old) }
     {
-        let Some(row) = self.objects.rows.get_mut(&object) else {
+        let Some(queue) = self.objects.queue_mut(object) else {
             unreachable!();
         };
-        match row.body.send(ticket, priority, sid)? {
+        match queue.send(ticket, priority, sid)? {
             SendOutcome::Queued => {}
             SendOutcome::QueuedAndNotice(_) => {}
             SendOutcome::HandedTo(receiver) => self.sessions.set_parked(receiver, None),
@@ -290,10 +290,10 @@ impl Tables {
         ensures ok { OnOk result (self.new ≡ after_receive self.old object sid) }
         ensures err { OnErr result (self.new ≡ self.old) }
     {
-        let Some(row) = self.objects.rows.get_mut(&object) else {
+        let Some(queue) = self.objects.queue_mut(object) else {
             unreachable!();
         };
-        match row.body.receive(sid)? {
+        match queue.receive(sid)? {
             ReceiveOutcome::Took(_) => {}
             ReceiveOutcome::TookAndAdmitted(_, sender) => {
                 self.sessions.set_parked(sender, None);
@@ -308,10 +308,13 @@ impl Tables {
         requires { option_map overflows (semaphore_at self.old.objects object) ≡ Some false }
         ensures { self.new ≡ after_post self.old object }
     {
-        let Some(row) = self.objects.rows.get_mut(&object) else {
+        let Some(semaphore) = self.objects.semaphore_mut(object) else {
             unreachable!();
         };
-        if let Some(waiter) = row.body.post() {
+        let Ok(served) = semaphore.post() else {
+            unreachable!();
+        };
+        if let Some(waiter) = served {
             self.sessions.set_parked(waiter, None);
         }
     }
@@ -322,10 +325,10 @@ impl Tables {
         ensures ok { OnOk result (self.new ≡ after_wait self.old object sid) }
         ensures err { OnErr result (self.new ≡ self.old) }
     {
-        let Some(row) = self.objects.rows.get_mut(&object) else {
+        let Some(semaphore) = self.objects.semaphore_mut(object) else {
             unreachable!();
         };
-        match row.body.wait(sid)? {
+        match semaphore.wait(sid)? {
             WaitOutcome::Passed => {}
             WaitOutcome::Parked => self.sessions.set_parked(sid, Some(object)),
         }
@@ -336,8 +339,8 @@ impl Tables {
     pub fn try_wait(&mut self, object: u64)
         ensures { self.new ≡ after_try self.old object }
     {
-        if let Some(row) = self.objects.rows.get_mut(&object) {
-            row.body.try_wait();
+        if let Some(semaphore) = self.objects.semaphore_mut(object) {
+            semaphore.try_wait();
         }
     }
 
@@ -363,13 +366,13 @@ impl Tables {
         requires { on ≡ true → option_map (λ row. row.object) (find (is_desc desc.0) self.old.descriptions.rows) ≡ Some object }
         ensures { self.new ≡ after_notify self.old object desc on }
     {
-        let Some(row) = self.objects.rows.get_mut(&object) else {
+        let Some(queue) = self.objects.queue_mut(object) else {
             return;
         };
         if on {
-            row.body.register(desc);
+            queue.register(desc);
         } else {
-            row.body.unregister(desc);
+            queue.unregister(desc);
         }
     }
 

@@ -16,5 +16,4 @@ unreachable-requires c =
 pub returns : goal.returns
 returns c =
     let met = c.self.invariant in
-    let lives : live c.self.inside.trail.now.history (caller c.self.inside.event.now).0 ≡ true = ap (λ (m : Meeting). live m.history (caller m.event).0) c.self.view_is ∙ c.requires in
-    rw (← c.self.view_is) (mask_is _ _ _ (caller c.self.inside.event.now).0 c.in-Some.session met.core.agrees.sessions (sym c.in-Some.is ∙ met.of_session) lives)
+    rw (← c.self.view_is) (mask_is _ _ _ (caller c.self.inside.event.now).0 c.in-Some.session met.core.agrees.sessions (sym c.in-Some.is ∙ met.of_session))

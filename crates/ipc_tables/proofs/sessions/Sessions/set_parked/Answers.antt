@@ -1,6 +1,3 @@
-use Rattle.std.proofs.Common.{◌≡◌, Some, None, slice_get, arith}
-use Rattle.std.proofs.lemmas.Option.{gets}
-use Rattle.std.proofs.lemmas.Grind.{common_steps}
 use Rattle.ipc_tables.specs.Steps.{with_parked}
 use Rattle.ipc_tables.proofs.SessionRowsLemmas.{row_set, row_past}
 use Rattle.ipc_tables.proofs.sessions.Sessions.set_parked.Goals as goal
@@ -10,10 +7,6 @@ pub returns : goal.returns
 returns c =
     let rows = c.self.inside.rows.items in
     rw (← c.self.view_is) (elim c.match-get_mut.branch [
-      | in-Some w ↦
-          let found : slice_get rows c.args.sid.0 ≡ Some w.in-Some.row.now = grind (arith, common_steps, gets) in
-          rw w.self-inside-is (row_set (with_parked c.args.object) rows c.args.sid.0 w.in-Some.row.now found)
-      | in_default w ↦
-          let none : slice_get rows c.args.sid.0 ≡ None = grind (arith, common_steps, gets) in
-          rw w.self-inside-is (row_past (with_parked c.args.object) rows c.args.sid.0 none)
+      | in-Some w ↦ rw w.self-inside-is (row_set (with_parked c.args.object) rows c.args.sid.0 c.get_mut.result w.in-Some.row c.get_mut.ensures.item w.in-Some.is)
+      | in_default w ↦ rw w.self-inside-is (row_past (with_parked c.args.object) rows c.args.sid.0 c.get_mut.result c.get_mut.ensures.item w.in_default.is)
     ])

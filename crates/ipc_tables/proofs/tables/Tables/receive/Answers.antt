@@ -1,72 +1,59 @@
-use Rattle.std.proofs.Common.{◌≡◌, ℕ, List, Some, is_some, refl, sym, ap, ◌∙◌}
-use Rattle.std.specs.Map.{lookup, values_of}
-use Rattle.std.specs.BTreeMap.{is_at}
-use Rattle.std.specs.Ordering.{nat_cmp}
-use Rattle.std.specs.Option.{option_map, option_copied_mut}
-use Rattle.ipc_queue.specs.Tickets.{receive_outcome, received}
-use Rattle.ipc_tables.specs.declared.rows.ObjectRow.{ObjectRow}
+use Rattle.std.proofs.Common.{◌≡◌, List, Some, refl, sym, ap, ◌∙◌}
+use Rattle.std.specs.Option.{option_copied_mut}
+use Rattle.ipc_terms.specs.Lists.{changed_first}
+use Rattle.ipc_queue.specs.declared.queue.ReceiveOutcome.{ReceiveOutcome}
+use Rattle.ipc_queue.specs.Tickets.{received}
 use Rattle.ipc_tables.specs.contracts.tables.Tables.{the_view}
-use Rattle.ipc_tables.specs.Objects.{queue_at, queue_in, with_queue}
+use Rattle.ipc_tables.specs.declared.rows.Session.{Session}
+use Rattle.ipc_tables.specs.Lending.{HasRows}
+use Rattle.ipc_tables.specs.Objects.{is_number, with_queue}
+use Rattle.ipc_tables.specs.Standing.{rows_in, IsStanding}
+use Rattle.ipc_tables.specs.Steps.{parked_by_receive, after_receive}
 use Rattle.ipc_tables.specs.TablesView.{TablesView}
-use Rattle.ipc_tables.specs.Standing.{rows_in}
-use Rattle.ipc_tables.proofs.CallTables.{no_row, at_row, after_receive_is}
-use Rattle.ipc_tables.proofs.StandingLemmas.{Sets, tame_receive, changed_stands, same_stands}
-use Rattle.ipc_tables.proofs.RowChanges.{row_there, sets_body, rows_changed, with_objects, entries_same, on_err}
+use Rattle.ipc_tables.proofs.CallTables.{after_receive_is}
+use Rattle.ipc_tables.proofs.Parts.{part_changed, part_same, queue_part}
+use Rattle.ipc_tables.proofs.TableChanges.{on_err, seen}
+use Rattle.ipc_tables.proofs.StandingLemmas.{keeps_receive, changed_stands, unchanged_stands}
 use Rattle.ipc_tables.proofs.tables.Tables.receive.Goals as goal
-use Rattle.ipc_tables.proofs.tables.Tables.receive.Goals.{In-Some, In_ok-receive, After-receive}
+use Rattle.ipc_tables.proofs.tables.Tables.receive.Goals.{In_ok-receive, In_err-receive}
 
--- the object's row
-there : (c : In-Some) → lookup (is_at (nat_cmp c.args.object)) c.self.inside.objects.rows.entries ≡ Some c.in-Some.row.now
-there c = sym c.get_mut.ensures.value ∙ ap option_copied_mut c.in-Some.is
+rows_after : (c : In_ok-receive) → HasRows (changed_first (is_number c.args.object) (with_queue (received c.args.sid)) (rows_in c.self.inside.objects)) c.self.inside.objects (c.queue_mut.follows.lender c.receive.new.self)
+rows_after c = part_changed queue_part c.args.object c.self.inside.objects _ c.queue_mut.result c.queue_mut.ensures.value (received c.args.sid) c.in-Some.queue c.receive.new.self c.in-Some.is c.in_ok-receive.ensures.ok (c.queue_mut.follows.holds c.receive.new.self)
 
-queue_there : (c : In-Some) → queue_at c.args.self.now.objects c.args.object ≡ queue_in c.in-Some.row.now.body
-queue_there c = sym (ap (λ (t : TablesView). queue_at t.objects c.args.object) c.self.view_is) ∙ at_row queue_in (rows_in c.self.inside.objects) c.args.object c.in-Some.row.now (row_there c.args.object c.self.inside.objects _ c.self.invariant.counted (there c))
+stands : (c : In_ok-receive) → IsStanding c.self.inside.queues c.self.inside.semaphores c.self.inside.descriptions.rows (c.queue_mut.follows.lender c.receive.new.self)
+stands c = changed_stands c.self.inside c.args.object (with_queue (received c.args.sid)) (c.queue_mut.follows.lender c.receive.new.self) (keeps_receive c.self.inside.descriptions.rows c.args.object c.args.sid) (rows_after c) c.self.invariant
 
-pub unreachable-requires : goal.unreachable-requires
-unreachable-requires c =
-    let none = row_there c.args.object c.self.inside.objects _ c.self.invariant.counted (sym c.get_mut.ensures.value ∙ ap option_copied_mut c.in_default.is) in
-    no_row queue_in (rows_in c.self.inside.objects) c.args.object none (ap (λ (t : TablesView). is_some (queue_at t.objects c.args.object)) c.self.view_is ∙ c.requires)
+-- the tables after it, by its outcome
+tables_after : (c : In_ok-receive) (ss : List Session) (out : ReceiveOutcome) → c.in_ok-receive.field-0 ≡ out → ss ≡ parked_by_receive c.args.object c.args.sid (Some out) c.self.inside.sessions → the_view (record c.self.inside { sessions = ss; objects = c.queue_mut.follows.lender c.receive.new.self }) ≡ after_receive c.args.self.now c.args.object c.args.sid
+tables_after c ss out is parked =
+    seen c.self.inside ss _ _ (rows_after c)
+    ∙ after_receive_is (the_view c.self.inside) c.args.object c.args.sid ss c.in-Some.queue.now out (sym c.queue_mut.ensures.value ∙ ap option_copied_mut c.in-Some.is) (sym is ∙ c.in_ok-receive.ensures.outcome) parked
+    ∙ ap (λ (t : TablesView). after_receive t c.args.object c.args.sid) c.self.view_is
 
-pub receive-requires : goal.receive-requires
-receive-requires c = ap is_some (sym (queue_there (goal.at.receive-requires c).In-Some)) ∙ c.requires
-
--- where memory is wanted it is as it was
-unchanged : (c : After-receive) → c.receive.new.self ≡ c.in-Some.row.now.body → (c.get_mut.follows.lender (record c.in-Some.row.now { body = c.receive.new.self })).entries ≡ c.self.inside.objects.rows.entries
-unchanged c same = entries_same c.args.object c.in-Some.row.now c.receive.new.self c.self.inside.objects.rows.entries _ (sym c.get_mut.ensures.value ∙ ap option_copied_mut c.in-Some.is) (c.get_mut.follows.holds (record c.in-Some.row.now { body = c.receive.new.self })).0 same
+-- where memory is refused nothing changes
+rows_same : (c : In_err-receive) → HasRows (rows_in c.self.inside.objects) c.self.inside.objects (c.queue_mut.follows.lender c.receive.new.self)
+rows_same c = part_same queue_part c.args.object c.self.inside.objects _ c.queue_mut.result c.queue_mut.ensures.value c.in-Some.queue c.receive.new.self c.in-Some.is c.in_err-receive.ensures.err (c.queue_mut.follows.holds c.receive.new.self)
 
 pub invariant_of-self : goal.invariant_of-self
-invariant_of-self c = same_stands c.self.inside.queues c.self.inside.semaphores c.self.inside.descriptions.rows c.self.inside.objects _ (unchanged (goal.at.invariant_of-self c).After-receive c.in_err-receive.ensures.err) refl refl c.self.invariant
+invariant_of-self c = unchanged_stands c.self.inside _ (rows_same (goal.at.invariant_of-self c).In_err-receive) c.self.invariant
 
 pub returns-in_err-receive-clause-err : goal.returns-in_err-receive-clause-err
-returns-in_err-receive-clause-err c = on_err c.from_residual.result (ap (λ (es : List (ℕ × ObjectRow)). with_objects (the_view c.self.inside) (values_of es)) (unchanged (goal.at.returns-in_err-receive-clause-err c).After-receive c.in_err-receive.ensures.err) ∙ c.self.view_is)
-
--- what stands in it now
-sets : (c : In_ok-receive) → Sets c.args.object c.in-Some.row.now (with_queue (received c.args.sid) c.in-Some.row.now) c.self.inside.objects.rows.entries (c.get_mut.follows.lender (record c.in-Some.row.now { body = c.receive.new.self })).entries
-sets c = sets_body c.args.object c.in-Some.row.now c.receive.new.self _ c.self.inside.objects.rows.entries _ (sym c.get_mut.ensures.value ∙ ap option_copied_mut c.in-Some.is) (c.get_mut.follows.holds (record c.in-Some.row.now { body = c.receive.new.self })).0 c.in_ok-receive.ensures.ok
+returns-in_err-receive-clause-err c = on_err c.from_residual.result (seen c.self.inside c.self.inside.sessions _ _ (rows_same (goal.at.returns-in_err-receive-clause-err c).In_err-receive) ∙ c.self.view_is)
 
 pub invariant_of-self-in-Took : goal.invariant_of-self-in-Took
-invariant_of-self-in-Took c = changed_stands c.self.inside.queues c.self.inside.semaphores c.self.inside.descriptions.rows c.args.object c.in-Some.row.now _ c.self.inside.objects _ (tame_receive c.args.sid c.in-Some.row.now) (sets (goal.at.invariant_of-self-in-Took c).In_ok-receive) refl refl c.self.invariant
+invariant_of-self-in-Took c = stands (goal.at.invariant_of-self-in-Took c).In_ok-receive
 
 pub invariant_of-self-in-TookAndAdmitted : goal.invariant_of-self-in-TookAndAdmitted
-invariant_of-self-in-TookAndAdmitted c = changed_stands c.self.inside.queues c.self.inside.semaphores c.self.inside.descriptions.rows c.args.object c.in-Some.row.now _ c.self.inside.objects _ (tame_receive c.args.sid c.in-Some.row.now) (sets (goal.at.invariant_of-self-in-TookAndAdmitted c).In_ok-receive) refl refl c.self.invariant
+invariant_of-self-in-TookAndAdmitted c = stands (goal.at.invariant_of-self-in-TookAndAdmitted c).In_ok-receive
 
 pub invariant_of-self-in-Parked : goal.invariant_of-self-in-Parked
-invariant_of-self-in-Parked c = changed_stands c.self.inside.queues c.self.inside.semaphores c.self.inside.descriptions.rows c.args.object c.in-Some.row.now _ c.self.inside.objects _ (tame_receive c.args.sid c.in-Some.row.now) (sets (goal.at.invariant_of-self-in-Parked c).In_ok-receive) refl refl c.self.invariant
+invariant_of-self-in-Parked c = stands (goal.at.invariant_of-self-in-Parked c).In_ok-receive
 
 pub returns-in-Took-clause-ok : goal.returns-in-Took-clause-ok
-returns-in-Took-clause-ok c =
-    let inside = c.self.inside in
-    let outcome = ap Some (sym c.in-Took.is) ∙ c.in_ok-receive.ensures.outcome ∙ ap (option_map receive_outcome) (sym (queue_there (goal.at.returns-in-Took-clause-ok c).In-Some)) ∙ sym (ap (λ (t : TablesView). option_map receive_outcome (queue_at t.objects c.args.object)) c.self.view_is) in
-    rw (← c.self.view_is) (after_receive_is (the_view inside) c.args.object c.args.sid _ _ _ outcome refl (rows_changed c.args.object (with_queue (received c.args.sid)) c.in-Some.row.now inside.objects _ c.self.invariant.counted (sets (goal.at.returns-in-Took-clause-ok c).In_ok-receive)))
+returns-in-Took-clause-ok c = tables_after (goal.at.returns-in-Took-clause-ok c).In_ok-receive _ _ c.in-Took.is refl
 
 pub returns-in-TookAndAdmitted-clause-ok : goal.returns-in-TookAndAdmitted-clause-ok
-returns-in-TookAndAdmitted-clause-ok c =
-    let inside = c.self.inside in
-    let outcome = ap Some (sym c.in-TookAndAdmitted.is) ∙ c.in_ok-receive.ensures.outcome ∙ ap (option_map receive_outcome) (sym (queue_there (goal.at.returns-in-TookAndAdmitted-clause-ok c).In-Some)) ∙ sym (ap (λ (t : TablesView). option_map receive_outcome (queue_at t.objects c.args.object)) c.self.view_is) in
-    rw (← c.self.view_is) (after_receive_is (the_view inside) c.args.object c.args.sid _ _ _ outcome c.set_parked.ensures (rows_changed c.args.object (with_queue (received c.args.sid)) c.in-Some.row.now inside.objects _ c.self.invariant.counted (sets (goal.at.returns-in-TookAndAdmitted-clause-ok c).In_ok-receive)))
+returns-in-TookAndAdmitted-clause-ok c = tables_after (goal.at.returns-in-TookAndAdmitted-clause-ok c).In_ok-receive _ _ c.in-TookAndAdmitted.is c.set_parked.ensures
 
 pub returns-in-Parked-clause-ok : goal.returns-in-Parked-clause-ok
-returns-in-Parked-clause-ok c =
-    let inside = c.self.inside in
-    let outcome = ap Some (sym c.in-Parked.is) ∙ c.in_ok-receive.ensures.outcome ∙ ap (option_map receive_outcome) (sym (queue_there (goal.at.returns-in-Parked-clause-ok c).In-Some)) ∙ sym (ap (λ (t : TablesView). option_map receive_outcome (queue_at t.objects c.args.object)) c.self.view_is) in
-    rw (← c.self.view_is) (after_receive_is (the_view inside) c.args.object c.args.sid _ _ _ outcome c.set_parked-in-Parked.ensures (rows_changed c.args.object (with_queue (received c.args.sid)) c.in-Some.row.now inside.objects _ c.self.invariant.counted (sets (goal.at.returns-in-Parked-clause-ok c).In_ok-receive)))
+returns-in-Parked-clause-ok c = tables_after (goal.at.returns-in-Parked-clause-ok c).In_ok-receive _ _ c.in-Parked.is c.set_parked-in-Parked.ensures
