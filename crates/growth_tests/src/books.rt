@@ -1,4 +1,4 @@
-//! Books.
+//! Books, and what two seats do at one.
 
 ghost use Rattle.std.specs.Prelude.{◌≡◌, ◌^◌};
 
@@ -7,7 +7,8 @@ use crate::fault::Fault;
 use crate::made::{are_lines, call, config};
 use crate::subject::{Outcome, Subject, go};
 use ipc_book::{Book, CloseFault, Seat};
-use ipc_terms::Sid;
+use ipc_terms::{Answer, NoMemory, Sid};
+use ipc_trail::Receipt;
 use std::alloc::Global;
 use std::marker::Brand;
 use std::sync::ledger::{Blank, Ledger};
@@ -40,7 +41,7 @@ impl Step {
     }
 }
 
-pub static STEPS: [Step; 17] = [
+static STEPS: [Step; 17] = [
     Hello(Bob, b"zz", 31),
     Call(Bob, "umask 000", 1),
     Hello(Ann, b"ka1", 0),
@@ -67,17 +68,96 @@ pub static STEPS: [Step; 17] = [
 ];
 
 /// How many records the trail has in the end.
-pub const RECORDS: usize = 14;
+const RECORDS: usize = 14;
 
 /// How often a case is begun, and a book closed.
 pub const TRIES: usize = 3;
 
-/// A book, and two seats at it.
-#[derive(Drop)]
-struct Desk<'b, 's, L: Ledger> {
-    book: &'b mut Book<L>,
-    ann: &'s mut Seat<L>,
-    bob: &'s mut Seat<L>,
+/// A book that serves seats, whoever has it.
+pub trait Serves: Drop {
+    type Seat: Drop;
+
+    /// What is seen of the book and of two seats.
+    type Seen: PartialEq + Drop;
+
+    fn new_seat(&mut self, alloc: Global) -> Result<Self::Seat, NoMemory>;
+
+    /// Comes with a key, on a seat without a session.
+    fn hello(&mut self, alloc: Global, seat: &mut Self::Seat, key: &[u8]) -> Result<Receipt, Fault>;
+
+    fn call(
+        &mut self,
+        alloc: Global,
+        who: Who,
+        seat: &mut Self::Seat,
+        asked: ipc_terms::Call,
+    ) -> Result<Receipt, Fault>;
+
+    fn hang_up(&mut self, alloc: Global, seat: &mut Self::Seat) -> Result<Receipt, Fault>;
+
+    fn answers(&mut self, seat: &Self::Seat) -> Vec<Answer>;
+
+    fn seen(&self, alloc: Global, ann: &Self::Seat, bob: &Self::Seat) -> Result<Self::Seen, Fault>;
+
+    /// Closes the book with the seats: how many records its trail has.
+    fn close_with(
+        self,
+        alloc: Global,
+        seats: Vec<Self::Seat>,
+    ) -> Result<usize, (CloseFault, Self, Vec<Self::Seat>)>;
+}
+
+impl<L: Ledger> Serves for Book<L> {
+    type Seat = Seat<L>;
+
+    /// What is seen of the core, and of each seat.
+    type Seen = (String, (Option<Sid>, usize), (Option<Sid>, usize));
+
+    fn new_seat(&mut self, alloc: Global) -> Result<Seat<L>, NoMemory> {
+        self.seat(alloc)
+    }
+
+    fn hello(&mut self, alloc: Global, seat: &mut Seat<L>, key: &[u8]) -> Result<Receipt, Fault> {
+        if seat.sid().is_some() {
+            return Err(Fault::Otherwise);
+        }
+        Ok(self.hello_for(alloc, seat, key)?)
+    }
+
+    fn call(
+        &mut self,
+        alloc: Global,
+        _who: Who,
+        seat: &mut Seat<L>,
+        asked: ipc_terms::Call,
+    ) -> Result<Receipt, Fault> {
+        Ok(self.step_for(alloc, seat, asked)?)
+    }
+
+    fn hang_up(&mut self, alloc: Global, seat: &mut Seat<L>) -> Result<Receipt, Fault> {
+        Ok(self.hang_up_for(alloc, seat)?)
+    }
+
+    fn answers(&mut self, seat: &Seat<L>) -> Vec<Answer> {
+        self.collect(seat)
+    }
+
+    fn seen(&self, alloc: Global, ann: &Seat<L>, bob: &Seat<L>) -> Result<Self::Seen, Fault> {
+        let ann = (ann.sid(), ann.len());
+        let bob = (bob.sid(), bob.len());
+        Ok((seen_of(self.core(), alloc)?, ann, bob))
+    }
+
+    fn close_with(
+        self,
+        alloc: Global,
+        seats: Vec<Seat<L>>,
+    ) -> Result<usize, (CloseFault, Self, Vec<Seat<L>>)> {
+        match self.close(alloc, seats) {
+            Ok(closed) => Ok(closed.core().trail().len()),
+            Err(fault) => Err(fault),
+        }
+    }
 }
 
 /// A new book.
@@ -90,9 +170,9 @@ pub fn book_of<L: Ledger>(alloc: Global, blank: Blank) -> Result<Book<L>, Fault>
 }
 
 /// A seat. One that is refused memory is asked for again, and is none of those that the book wants back.
-fn seat<L: Ledger>(book: &mut Book<L>, alloc: Global) -> Result<Seat<L>, Fault> {
+pub fn seat_at<B: Serves>(book: &mut B, alloc: Global) -> Result<B::Seat, Fault> {
     for _ in 0..TRIES {
-        if let Ok(seat) = book.seat(alloc) {
+        if let Ok(seat) = book.new_seat(alloc) {
             return Ok(seat);
         }
     }
@@ -100,76 +180,44 @@ fn seat<L: Ledger>(book: &mut Book<L>, alloc: Global) -> Result<Seat<L>, Fault> 
 }
 
 /// Two seats.
-fn seats_at<L: Ledger>(book: &mut Book<L>, alloc: Global) -> Result<Vec<Seat<L>>, Fault> {
+fn seats_at<B: Serves>(book: &mut B, alloc: Global) -> Result<Vec<B::Seat>, Fault> {
     let mut seats = Vec::new(alloc);
-    seats.push(seat(book, alloc)?)?;
-    seats.push(seat(book, alloc)?)?;
+    seats.push(seat_at(book, alloc)?)?;
+    seats.push(seat_at(book, alloc)?)?;
     Ok(seats)
 }
 
-/// Comes with a key, and says whether the rule of this number refuses it.
-fn comes<L: Ledger>(
-    book: &mut Book<L>,
-    alloc: Global,
-    seat: &mut Seat<L>,
-    key: &[u8],
-    rule: u16,
-) -> Result<bool, Fault> {
-    Ok(seat.sid().is_none() && book.hello_for(alloc, seat, key)?.rule == rule)
-}
-
-/// Makes the call of a command, and says whether the rule of this number refuses it.
-fn calls<L: Ledger>(
-    book: &mut Book<L>,
-    alloc: Global,
-    seat: &mut Seat<L>,
-    command: &str,
-    rule: u16,
-) -> Result<bool, Fault> {
-    let asked = call(alloc, command)?;
-    Ok(book.step_for(alloc, seat, asked)?.rule == rule)
-}
-
-/// Hangs up, and says whether the rule of this number refuses it.
-fn hangs_up<L: Ledger>(
-    book: &mut Book<L>,
-    alloc: Global,
-    seat: &mut Seat<L>,
-    rule: u16,
-) -> Result<bool, Fault> {
-    Ok(book.hang_up_for(alloc, seat)?.rule == rule)
-}
-
-/// Whether these are the lines of what the seat collects.
-fn collects<L: Ledger>(
-    book: &mut Book<L>,
-    alloc: Global,
-    seat: &Seat<L>,
-    lines: &str,
-) -> Result<bool, Fault> {
-    are_lines(alloc, &book.collect(seat), lines)
-}
-
-/// Makes the step on a seat, and says whether it gives what it must.
-fn give<L: Ledger>(
-    book: &mut Book<L>,
-    seat: &mut Seat<L>,
+/// Makes the step on a seat, and says whether it gives what it must: the rule of its number refuses it, or these are the
+/// lines of what the seat collects.
+fn give<B: Serves>(
+    book: &mut B,
+    seat: &mut B::Seat,
     alloc: Global,
     step: &Step,
 ) -> Result<bool, Fault> {
     match *step {
-        Hello(_, key, rule) => comes(book, alloc, seat, key, rule),
-        Call(_, command, rule) => calls(book, alloc, seat, command, rule),
-        HangUp(_, rule) => hangs_up(book, alloc, seat, rule),
-        Collect(_, lines) => collects(book, alloc, seat, lines),
+        Hello(_, key, rule) => Ok(book.hello(alloc, seat, key)?.rule == rule),
+        Call(who, command, rule) => {
+            let asked = call(alloc, command)?;
+            Ok(book.call(alloc, who, seat, asked)?.rule == rule)
+        }
+        HangUp(_, rule) => Ok(book.hang_up(alloc, seat)?.rule == rule),
+        Collect(_, lines) => are_lines(alloc, &book.answers(seat), lines),
     }
 }
 
-impl<L: Ledger> Subject for Desk<'_, '_, L> {
+/// A book, and two seats at it.
+#[derive(Drop)]
+struct Desk<'b, 's, B: Serves> {
+    book: &'b mut B,
+    ann: &'s mut B::Seat,
+    bob: &'s mut B::Seat,
+}
+
+impl<B: Serves> Subject for Desk<'_, '_, B> {
     type Step = Step;
 
-    /// What is seen of the core, and of each seat.
-    type Seen = (String, (Option<Sid>, usize), (Option<Sid>, usize));
+    type Seen = B::Seen;
 
     fn gives(&mut self, alloc: Global, step: &Step) -> Result<bool, Fault> {
         match step.who() {
@@ -178,23 +226,21 @@ impl<L: Ledger> Subject for Desk<'_, '_, L> {
         }
     }
 
-    fn seen(&self, alloc: Global, _step: &Step) -> Result<Self::Seen, Fault> {
-        let ann = (self.ann.sid(), self.ann.len());
-        let bob = (self.bob.sid(), self.bob.len());
-        Ok((seen_of(self.book.core(), alloc)?, ann, bob))
+    fn seen(&self, alloc: Global, _step: &Step) -> Result<B::Seen, Fault> {
+        self.book.seen(alloc, self.ann, self.bob)
     }
 }
 
 /// Closes the book with the seats, until that is not refused memory. How many records its trail has, if it closes.
-fn records_of<L: Ledger>(
+pub fn records_of<B: Serves>(
     alloc: Global,
-    book: Book<L>,
-    seats: Vec<Seat<L>>,
+    book: B,
+    seats: Vec<B::Seat>,
 ) -> Result<Option<usize>, Fault> {
     let (mut book, mut seats) = (book, seats);
     for _ in 0..TRIES {
-        match book.close(alloc, seats) {
-            Ok(closed) => return Ok(Some(closed.core().trail().len())),
+        match book.close_with(alloc, seats) {
+            Ok(records) => return Ok(Some(records)),
             Err((CloseFault::NoMemory, same, given_back)) => {
                 book = same;
                 seats = given_back;
@@ -206,7 +252,7 @@ fn records_of<L: Ledger>(
 }
 
 /// Makes the steps on the book and its two seats.
-fn go_at<L: Ledger>(book: &mut Book<L>, seats: &mut [Seat<L>], alloc: Global) -> Outcome {
+fn go_at<B: Serves>(book: &mut B, seats: &mut [B::Seat], alloc: Global) -> Outcome {
     match seats {
         [ann, bob] => {
             let mut desk = Desk { book, ann, bob };
@@ -217,7 +263,7 @@ fn go_at<L: Ledger>(book: &mut Book<L>, seats: &mut [Seat<L>], alloc: Global) ->
 }
 
 /// Makes two seats at the book, the steps, and closes the book: its trail is to be whole.
-fn go_with<L: Ledger>(alloc: Global, mut book: Book<L>) -> Outcome {
+pub fn go_with<B: Serves>(alloc: Global, mut book: B) -> Outcome {
     let mut seats = match seats_at(&mut book, alloc) {
         Ok(seats) => seats,
         Err(fault) => return Err((0, fault.of_case())),

@@ -3,12 +3,11 @@
 
 ghost use Rattle.std.specs.Prelude.{◌≡◌, ◌^◌, None};
 
-use crate::books::TRIES;
+use crate::books::{TRIES, book_of, records_of, seat_at};
 use crate::fault::Fault;
-use crate::made::config;
-use crate::shares::{records_of, seat};
+use crate::shares::Hall;
 use crate::subject::Outcome;
-use ipc_book::{Book, Seat, Shared};
+use ipc_book::{Seat, Shared};
 use ipc_server::{Ending, Link, Listen, OpenGate, WorkersFault, run_workers, serve_connection};
 use std::alloc::Global;
 use std::io;
@@ -124,16 +123,16 @@ impl<'a> Listen for Door<'a> {
 
 /// Serves the talk on one seat, which comes back without a session.
 fn serve_alone<L: Ledger + Send + Sync, R: Threads + Wait + Sync>(
-    rt: &R,
+    hall: &mut Hall<'_, L, R>,
     alloc: Global,
-    book: &Shared<L>,
     talk: &Talk,
 ) -> Result<Vec<Seat<L>>, Fault> {
     let mut seats = Vec::with_capacity(alloc, 1)?;
-    let seat = seat(book, rt, alloc)?;
+    let seat = seat_at(hall, alloc)?;
     if seat.sid().is_some() {
         return Err(Fault::Otherwise);
     }
+    let (rt, book) = (hall.rt, &hall.book);
     let served = serve_connection(rt, alloc, book, seat, 0, REQUESTS, Line(talk), &OpenGate);
     let is_over = served.seat.sid().is_none();
     let is_right = match served.ending {
@@ -183,13 +182,14 @@ fn serve_in<L: Ledger + Send + Sync, R: Threads + Wait + Sync>(
     requires parts { blank.parts ≡ L.parts }
     requires many { blank.parts ≡ 2 ^ 63 }
 {
-    let book: Shared<L> = Shared::new(Book::new(alloc, config(alloc)?, blank)?);
+    let book: Shared<L> = Shared::new(book_of(alloc, blank)?);
+    let mut hall = Hall { rt, book };
     let talk = Talk::new();
     let seats = match way {
-        Way::Alone => serve_alone(rt, alloc, &book, &talk)?,
-        Way::ByWorkers => serve_by_workers(rt, alloc, &book, &talk)?,
+        Way::Alone => serve_alone(&mut hall, alloc, &talk)?,
+        Way::ByWorkers => serve_by_workers(rt, alloc, &hall.book, &talk)?,
     };
-    match records_of(alloc, book, seats)? {
+    match records_of(alloc, hall, seats)? {
         Some(RECORDS) if talk.is_whole() => Ok(true),
         // The connection ended early, and is to be served in a new book.
         Some(records) if !talk.is_whole() && records <= RECORDS => Err(Fault::Anew),

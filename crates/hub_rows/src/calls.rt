@@ -1,9 +1,10 @@
 //! Calls on several connections of a hub, and what each answers.
 
 use crate::answers::{Call, line_of};
-use crate::common::{bytes_of, first_difference, new_hub, read};
+use crate::common::{bytes_of, new_hub};
 use anyhow::Result;
 use ipc_hub::{Conn, Hub};
+use row_files::{first_difference, read};
 use std::alloc::{AllocError, Global};
 use std::rt::Files;
 

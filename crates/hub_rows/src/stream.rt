@@ -1,10 +1,11 @@
 //! One stream, and what a hub answers to it.
 
 use crate::answers::{Call, put_lines};
-use crate::common::{bytes_of, first_difference, new_hub, read};
+use crate::common::{bytes_of, new_hub};
 use crate::feeds::Feeds;
 use anyhow::Result;
 use ipc_hub::Hub;
+use row_files::{first_difference, read};
 use std::alloc::{AllocError, Global};
 use std::rt::Files;
 

@@ -43,12 +43,9 @@ same_fault : {A : Type 0} → (x y : StepFault) → ◌≡◌ {A = Result A Step
 same_fault x y e = cc
 
 -- the same fault, of another type of results
-pub stale_across : {A : Type 0} → {B : Type 0} → (a a' : CoreView) (list list' : List Entry) (r : Result A StepFault) (r' : Result B StepFault) (fault : StepFault) → r ≡ Err fault → r' ≡ Err fault → a ≡ a' → list ≡ list' → StaleExactly a list r → StaleExactly a' list' r'
-stale_across a a' list list' r r' fault is is' p q h =
-    subst (λ v. StaleExactly v list' r') p (subst (λ l. StaleExactly a l r') q there) where
-      there : StaleExactly a list r'
-      there seen found =
-          ((λ e. (h seen found).0 (is ∙ ap Err (same_fault fault (Stale seen found) (sym is' ∙ e)))), (λ t. is' ∙ ap Err (same_fault fault (Stale seen found) (sym is ∙ (h seen found).1 t))))
+pub stale_across : {A : Type 0} → {B : Type 0} → (a : CoreView) (list : List Entry) (r : Result A StepFault) (r' : Result B StepFault) (fault : StepFault) → r ≡ Err fault → r' ≡ Err fault → StaleExactly a list r → StaleExactly a list r'
+stale_across a list r r' fault is is' h seen found =
+    ((λ e. (h seen found).0 (is ∙ ap Err (same_fault fault (Stale seen found) (sym is' ∙ e)))), (λ t. is' ∙ ap Err (same_fault fault (Stale seen found) (sym is ∙ (h seen found).1 t))))
 
 -- the same result, of what the views show
 pub stale_moved : {A : Type 0} → (a a' : CoreView) (list list' : List Entry) (r : Result A StepFault) → a ≡ a' → list ≡ list' → StaleExactly a list r → StaleExactly a' list' r

@@ -18,16 +18,16 @@ pub hello_told : (c : Config) (h : History) (found : Option Uid) → verdict c h
 hello_told c h found is = ap (session_at 0) (hello_answered c h found is)
 
 -- and the seat has it
-pub sid_started : (a a' : CoreView) (found found' : Option Uid) (v : Option Rule) (was now : Option Sid) → a ≡ a' → found ≡ found' → v ≡ verdict a.config a.history (Hello found) → is_none v ≡ true → now ≡ Some (record { 0 = hellos a.history }) → now ≡ session_after a' (Hello found') was
-sid_started a a' found found' None was now p q same is at =
-    at ∙ ap (λ w. session_ruled w (hellos a.history) (Hello found) was) same ∙ (λ i. session_after (p i) (Hello (q i)) was)
-sid_started a a' found found' (Some rule) was now p q same is at = absurd cc
+pub sid_started : (a : CoreView) (found found' : Option Uid) (v : Option Rule) (was now : Option Sid) → found ≡ found' → v ≡ verdict a.config a.history (Hello found) → is_none v ≡ true → now ≡ Some (record { 0 = hellos a.history }) → now ≡ session_after a (Hello found') was
+sid_started a found found' None was now q same is at =
+    at ∙ ap (λ w. session_ruled w (hellos a.history) (Hello found) was) same ∙ ap (λ u. session_after a (Hello u) was) q
+sid_started a found found' (Some rule) was now q same is at = absurd cc
 
 -- a refused event leaves the seat's session
-pub sid_stays : (a a' : CoreView) (found found' : Option Uid) (v : Option Rule) (was was' now : Option Sid) → a ≡ a' → found ≡ found' → was ≡ was' → v ≡ verdict a.config a.history (Hello found) → is_none v ≡ false → now ≡ was → now ≡ session_after a' (Hello found') was'
-sid_stays a a' found found' None was was' now p q r same is at = absurd cc
-sid_stays a a' found found' (Some rule) was was' now p q r same is at =
-    at ∙ ap (λ w. session_ruled w (hellos a.history) (Hello found) was) same ∙ (λ i. session_after (p i) (Hello (q i)) (r i))
+pub sid_stays : (a : CoreView) (found found' : Option Uid) (v : Option Rule) (was now : Option Sid) → found ≡ found' → v ≡ verdict a.config a.history (Hello found) → is_none v ≡ false → now ≡ was → now ≡ session_after a (Hello found') was
+sid_stays a found found' None was now q same is at = absurd cc
+sid_stays a found found' (Some rule) was now q same is at =
+    at ∙ ap (λ w. session_ruled w (hellos a.history) (Hello found) was) same ∙ ap (λ u. session_after a (Hello u) was) q
 
 pub none_is : (v : Option Rule) → is_none v ≡ true → v ≡ None
 none_is None e = refl

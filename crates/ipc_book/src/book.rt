@@ -2,10 +2,10 @@
 
 ghost use Rattle.std.specs.Prelude.{◌≡◌, ◌<◌, ◌≤◌, ◌+◌, ◌^◌, ◌≢◌, [], ◌∷◌, ◌++◌, None, Some, length, map, OnOk, OnErr, IfOk, IfErr, IfSome, MatchOption};
 ghost use Rattle.ipc_terms.specs.declared.record.Event.TheVariants.{Hello, Do, Hangup};
-ghost use Rattle.ipc_policy.specs.Verdict.{Legal};
+ghost use Rattle.ipc_policy.specs.Verdict.{Legal, verdict, answers};
 ghost use Rattle.ipc_access.specs.Users.{user_of_key};
 ghost use Rattle.ipc_state.specs.Ranges.{first_bad};
-ghost use Rattle.ipc_core.specs.Outboxes.{BoxesAgree};
+ghost use Rattle.ipc_core.specs.Outboxes.{BoxesAgree, session_at};
 ghost use Rattle.ipc_book.specs.Seats.{Stepped, StaleExactly, FullExactly, without_back, without_full, other_answered, untaken_of, session_of, session_after};
 ghost use Rattle.ipc_book.specs.Locked.{Collects};
 ghost use Rattle.ipc_book.specs.Closing.{AreTheTrail, CloseFaultSays};
@@ -13,7 +13,7 @@ ghost use Rattle.ipc_book.specs.Closing.{AreTheTrail, CloseFaultSays};
 use crate::close::{audit, gather};
 use crate::entry::{CloseFault, OfferFault, StepFault};
 use crate::seat::{Receipts, Seat};
-use crate::stepping::{call_of, enter, enter_or_back, stale};
+use crate::stepping::{call_of, enter, stale};
 use ipc_core::{Config, Core, CoreFault, Posted};
 use ipc_terms::{Answer, Call, Event, NoMemory, Sid};
 use ipc_trail::Receipt;
@@ -118,15 +118,7 @@ impl<L: Ledger> Book<L> {
         ensures seats { self.new.seats ≡ self.old.seats }
     {
         let found = self.core.config().users.find(key);
-        let event = Event::Hello { found };
-        let (receipt, posted) = enter(
-            &mut self.core,
-            &mut self.total,
-            &mut seat.receipts,
-            alloc,
-            event,
-            None,
-        )?;
+        let (receipt, posted) = self.step_event(alloc, seat, Event::Hello { found })?;
         if posted.verdict.is_none() {
             seat.sid = posted.caller;
         }
@@ -148,13 +140,8 @@ impl<L: Ledger> Book<L> {
         ensures seats { self.new.seats ≡ self.old.seats }
     {
         let event = seat.calling(call);
-        match self.step_made(alloc, seat, event, None) {
-            Ok((receipt, _posted)) => Ok(receipt),
-            Err((fault, event)) => {
-                drop(event);
-                Err(fault)
-            }
-        }
+        let (receipt, _posted) = self.step_event(alloc, seat, event)?;
+        Ok(receipt)
     }
 
     /// Steps a call of the seat's session, or of nobody where the seat has none, if the session has fewer
@@ -226,8 +213,32 @@ impl<L: Ledger> Book<L> {
         *self.places.allocator()
     }
 
-    /// Steps an event of a call, of which there may be a copy already. Who has made one spares the book
-    /// the work. An `Err` gives the event back.
+    /// Steps an event. An `Err` drops it.
+    fn step_event(
+        &mut self,
+        alloc: Global,
+        seat: &mut Seat<L>,
+        event: Event,
+    ) -> Result<(Receipt, Posted), StepFault>
+        ensures ok { IfOk result (λ p. Stepped self.old.core self.new.core seat.old.list seat.new.list event p.0) }
+        ensures verdict { IfOk result (λ p. p.1.verdict ≡ verdict self.old.core.config self.old.core.history event) }
+        ensures caller { IfOk result (λ p. p.1.caller ≡ session_at 0 (answers self.old.core.config self.old.core.history event)) }
+        ensures session { seat.new.sid ≡ seat.old.sid }
+        ensures stale { StaleExactly self.old.core seat.old.list result }
+        ensures err { OnErr result ((self.new ≡ self.old) × (seat.new ≡ seat.old)) }
+        ensures seats { self.new.seats ≡ self.old.seats }
+    {
+        match self.step_made(alloc, seat, event, None) {
+            Ok(stepped) => Ok(stepped),
+            Err((fault, event)) => {
+                drop(event);
+                Err(fault)
+            }
+        }
+    }
+
+    /// Steps an event, of which there may be a copy already. Who has made one spares the book the work. An
+    /// `Err` gives the event back.
     pub(crate) fn step_made(
         &mut self,
         alloc: Global,
@@ -237,6 +248,8 @@ impl<L: Ledger> Book<L> {
     ) -> Result<(Receipt, Posted), (StepFault, Event)>
         requires { IfSome ready (λ copy. copy ≡ event) }
         ensures ok { IfOk result (λ p. Stepped self.old.core self.new.core seat.old.list seat.new.list event p.0) }
+        ensures verdict { IfOk result (λ p. p.1.verdict ≡ verdict self.old.core.config self.old.core.history event) }
+        ensures caller { IfOk result (λ p. p.1.caller ≡ session_at 0 (answers self.old.core.config self.old.core.history event)) }
         ensures other { IfOk result (λ p. p.1.other ≡ other_answered self.old.core event) }
         ensures session { seat.new.sid ≡ seat.old.sid }
         ensures stale { StaleExactly self.old.core seat.old.list (without_back result) }
@@ -244,7 +257,7 @@ impl<L: Ledger> Book<L> {
         ensures back { IfErr result (λ p. p.1 ≡ event) }
         ensures seats { self.new.seats ≡ self.old.seats }
     {
-        enter_or_back(
+        enter(
             &mut self.core,
             &mut self.total,
             &mut seat.receipts,
@@ -265,15 +278,7 @@ impl<L: Ledger> Book<L> {
         ensures seats { self.new.seats ≡ self.old.seats }
     {
         let sid = seat.sid.unwrap_or(Sid::NOBODY);
-        let event = Event::Hangup { sid };
-        let (receipt, posted) = enter(
-            &mut self.core,
-            &mut self.total,
-            &mut seat.receipts,
-            alloc,
-            event,
-            None,
-        )?;
+        let (receipt, posted) = self.step_event(alloc, seat, Event::Hangup { sid })?;
         if posted.verdict.is_none() {
             seat.sid = None;
         }

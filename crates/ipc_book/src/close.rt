@@ -1,6 +1,6 @@
 //! The comparison of the seats' lists with the trail.
 
-ghost use Rattle.std.specs.Prelude.{◌≡◌, ◌≢◌, ◌<◌, ◌≤◌, ◌+◌, ◌↔◌, ℕ, List, None, [], ◌∷◌, ◌++◌, Some, Err, true, false, length, min, slice_get, slice_index, IsTrue, OnOk, MatchOption, ⊤};
+ghost use Rattle.std.specs.Prelude.{◌≡◌, ◌≢◌, ◌<◌, ◌≤◌, ◌+◌, ◌↔◌, ℕ, List, None, [], ◌∷◌, ◌++◌, Some, Err, true, false, length, min, slice_get, slice_index, IsTrue, IfOk, OnOk, MatchOption, ⊤};
 ghost use Rattle.ipc_book.specs.Seats.{SeatView, IsInOrder};
 ghost use Rattle.ipc_book.specs.Closing.{IsInTrail, AllInTrail, Counted, AreTheTrail, FirstMissing, all_kept};
 ghost use Rattle.ipc_book.specs.declared.entry.Entry.{Entry as Listed};
@@ -10,6 +10,7 @@ use crate::entry::{CloseFault, Entry};
 use crate::events::same_event;
 use crate::seat::{Receipts, Seat};
 use ipc_core::Core;
+use ipc_terms::NoMemory;
 use std::alloc::Global;
 use std::sync::ledger::{Ledger, Share};
 
@@ -102,6 +103,25 @@ fn first_amiss(counts: &[u8]) -> Option<usize>
     None
 }
 
+/// One count a place for what all seats keep, and whether all of it stands.
+fn counts_of<L: Ledger>(
+    core: &Core,
+    alloc: Global,
+    seats: &Vec<Seat<L>>,
+) -> Result<(Vec<u8>, bool), NoMemory>
+    ensures places { IfOk result (λ t. length t.0.items ≡ length core.now.history) }
+    ensures counted { IfOk result (λ t. Counted core.now.history t.0.items (all_kept seats.now.items)) }
+    ensures stand { IfOk result (λ t. t.1 ≡ true → AllInTrail core.now.history (all_kept seats.now.items)) }
+    ensures fall { IfOk result (λ t. t.1 ≡ false → AllInTrail core.now.history (all_kept seats.now.items) → ⊥) }
+    ensures order { OnOk result ((i : ℕ) (s : SeatView) → slice_get seats.now.items i ≡ Some s → IsInOrder s.list) }
+{
+    let Ok(mut counts) = vec![in alloc; 0u8; core.trail().len()] else {
+        return Err(NoMemory);
+    };
+    let all = tally_all(core, seats, counts.as_mut_slice());
+    Ok((counts, all))
+}
+
 /// Compares what the seats keep with the trail, by one count a place.
 pub(crate) fn audit<L: Ledger>(
     core: &Core,
@@ -112,20 +132,13 @@ pub(crate) fn audit<L: Ledger>(
     ensures missing { (p : ℕ) → result ≡ Err (Missing p) → FirstMissing core.now.history (all_kept seats.now.items) p }
     ensures none_out { (n : ℕ) → result ≡ Err (SeatOut n) → ⊥ }
 {
-    let length = core.trail().len();
-    let Ok(mut counts) = vec![in alloc; 0u8; length] else {
+    let Ok((counts, all)) = counts_of(core, alloc, seats) else {
         return Err(CloseFault::NoMemory);
     };
-    let all = tally_all(core, seats, counts.as_mut_slice());
     match first_amiss(counts.as_slice()) {
         Some(p) => Err(CloseFault::Missing(p as u64)),
-        None => {
-            if all {
-                Ok(())
-            } else {
-                Err(CloseFault::Missing(length as u64))
-            }
-        }
+        None if all => Ok(()),
+        None => Err(CloseFault::Missing(counts.len() as u64)),
     }
 }
 

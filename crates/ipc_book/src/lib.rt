@@ -16,6 +16,3 @@ pub use book::Book;
 pub use entry::{CloseFault, Entry, OfferFault, StepFault};
 pub use seat::Seat;
 pub use shared::Shared;
-
-#[cfg(test)]
-mod tests;

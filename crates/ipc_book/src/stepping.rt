@@ -55,35 +55,9 @@ pub(crate) fn call_of(event: Event) -> Call
     call
 }
 
-/// Steps an event, of which there may be a copy already. An `Err` drops both.
-pub(crate) fn enter<L: Ledger>(
-    core: &mut Core,
-    total: &mut Total<L>,
-    receipts: &mut Receipts<L>,
-    alloc: Global,
-    event: Event,
-    ready: Option<Event>,
-) -> Result<(Receipt, Posted), StepFault>
-    requires { IfSome ready (λ copy. copy ≡ event) }
-    ensures ok { IfOk result (λ p. Stepped core.old core.new receipts.old.list receipts.new.list event p.0) }
-    ensures verdict { IfOk result (λ p. p.1.verdict ≡ verdict core.old.config core.old.history event) }
-    ensures caller { IfOk result (λ p. p.1.caller ≡ session_at 0 (answers core.old.config core.old.history event)) }
-    ensures stale { StaleExactly core.old receipts.old.list result }
-    ensures total { OnOk result (total.new.total ≡ total.old.total + 1) }
-    ensures err { OnErr result ((core.new ≡ core.old) × (total.new.total ≡ total.old.total) × (receipts.new ≡ receipts.old)) }
-{
-    match enter_or_back(core, total, receipts, alloc, event, ready) {
-        Ok(entered) => Ok(entered),
-        Err((fault, event)) => {
-            drop(event);
-            Err(fault)
-        }
-    }
-}
-
 /// Steps an event, of which there may be a copy already; an `Err` gives the event back. The seat's copy
 /// and its place in the seat are there before the core steps, so nothing can fail after it.
-pub(crate) fn enter_or_back<L: Ledger>(
+pub(crate) fn enter<L: Ledger>(
     core: &mut Core,
     total: &mut Total<L>,
     receipts: &mut Receipts<L>,

@@ -1,7 +1,8 @@
 -- What each call of a hub comes to.
-use Rattle.std.proofs.Common.{rules, ◌≡◌, ℕ, ◌≤◌, Bool, true, false, nat_lt, cond, eqb, ◌||◌, List, [], ◌∷◌, ◌++◌, set, slice_get, Option, Some, None, is_some, refl, sym, ap, subst, ◌∙◌, arith}
+use Rattle.std.proofs.Common.{rules, ◌≡◌, ℕ, ◌<◌, ◌≤◌, Bool, true, false, nat_lt, cond, eqb, ◌||◌, List, [], ◌∷◌, ◌++◌, length, get_or, set, slice_get, Option, Some, None, is_some, refl, sym, ap, subst, ◌∙◌, arith}
 use Rattle.std.specs.Prelude.{is_none, unwrap_or, IsSome}
 use Rattle.std.proofs.lemmas.Bool.{ltb-false}
+use Rattle.ipc_terms.proofs.Lists.{stands_there}
 use Rattle.ipc_terms.specs.declared.ids.Sid.{Sid}
 use Rattle.ipc_terms.specs.declared.ids.Uid.{Uid}
 use Rattle.ipc_terms.specs.declared.rule.Rule.{Rule}
@@ -27,11 +28,12 @@ use Rattle.ipc_wire.specs.declared.request.Request.TheVariants as request
 use Rattle.ipc_wire.specs.Requests.{is_hello_request, same, request_with}
 use Rattle.ipc_wire.specs.Streams.{spell_answer, cut}
 use Rattle.ipc_hub.specs.declared.fed.Fed.{Fed}
+use Rattle.ipc_hub.specs.declared.fed.HubFault.TheVariants.{Ended}
 use Rattle.ipc_hub.specs.Hub.{Connection, Hub, new_connection, untaken_of, untaken, spell_answers}
 use Rattle.ipc_hub.specs.Hub.{session_or_next, event_of, is_hello_refused, hang_up_of, IsOutcome}
 use Rattle.ipc_hub.specs.Sessions.{IsSessionOf, EachHasItsOwn}
 use Rattle.ipc_terms.specs.Sizes.{IsSmall}
-use Rattle.ipc_hub.specs.Hub.{Feeds, HangsUp, Takes, core_after_take}
+use Rattle.ipc_hub.specs.Hub.{Feeds, HangsUp, Takes, core_after_take, fault_of_change}
 use Rattle.ipc_hub.proofs.SessionLemmas.{calls_no_hello, ChangesSessions, IsOpen, none_kept, hangs_up, fed_changes, changed_all, opened_all}
 use Rattle.ipc_policy.proofs.Outcomes.AnswerSizes.{outbox_small}
 use Rattle.ipc_policy.specs.declared.config.TheConstants.{HARD_MSGSIZE_MAX}
@@ -142,13 +144,28 @@ untaken_spelled a x range legal last = all_spelled (untaken a x) (at x.has_refus
   at true = (tt, tt)
   at false = left x.session
 
+-- ---- where a connection stands
+
+is_open : (xs : List Connection) (i : ℕ) (x : Connection) → slice_get xs i ≡ Some x → fault_of_change (slice_get xs i) ≡ None → x.is_over ≡ false
+is_open xs i x there none = at x.is_over refl (sym (ap fault_of_change there) ∙ none) where
+  at : (b : Bool) → x.is_over ≡ b → cond b (Some Ended) None ≡ None → x.is_over ≡ false
+  at true is e = absurd cc
+  at false is e = is
+
+pub found_there : (hub : Hub) (xs : List Connection) (i : ℕ) (x : Connection) → xs ≡ hub.connections → i < length hub.connections → x ≡ get_or xs i x → slice_get xs i ≡ Some x
+found_there hub xs i x same lt is = stands_there xs i x (subst (λ (ys : List Connection). i < length ys) (sym same) lt) is
+
+pub found_open : (hub : Hub) (xs : List Connection) (i n : ℕ) (x : Connection) → xs ≡ hub.connections → i ≡ n → slice_get xs i ≡ Some x → fault_of_change (slice_get hub.connections n) ≡ None → x.is_over ≡ false
+found_open hub xs i n x same at there none =
+    is_open xs i x there (ap (λ (ys : List Connection). fault_of_change (slice_get ys i)) same ∙ ap (λ (k : ℕ). fault_of_change (slice_get hub.connections k)) at ∙ none)
+
 -- ---- the calls, where the hub is seen as its parts
 
-pub fed_is : (old : Hub) (a b : CoreView) (xs : List Connection) (i : ℕ) (x y : Connection) (piece : List ℕ) (fed : Fed) → record { core = a; connections = xs } ≡ old → slice_get xs i ≡ Some x → x.is_over ≡ false → IsOutcome fed a x (cut (is_none x.session) (x.kept ++ piece)) b y → Feeds old i piece fed (record { core = b; connections = set xs i y })
-fed_is old a b xs i x y piece fed is there open' h = subst (λ (o : Hub). Feeds o i piece fed (record { core = b; connections = set xs i y })) is (record { before = x; later = y; changes = record { was = there; others = refl }; open_before = open'; outcome = h })
+pub fed_is : (old : Hub) (a b : CoreView) (xs : List Connection) (i n : ℕ) (x y : Connection) (piece : List ℕ) (fed : Fed) → record { core = a; connections = xs } ≡ old → i ≡ n → slice_get xs i ≡ Some x → x.is_over ≡ false → IsOutcome fed a x (cut (is_none x.session) (x.kept ++ piece)) b y → Feeds old n piece fed (record { core = b; connections = set xs i y })
+fed_is old a b xs i n x y piece fed is at there open' h = subst (λ (k : ℕ). Feeds old k piece fed (record { core = b; connections = set xs i y })) at (subst (λ (o : Hub). Feeds o i piece fed (record { core = b; connections = set xs i y })) is (record { before = x; later = y; changes = record { was = there; others = refl }; open_before = open'; outcome = h }))
 
-pub hung_up_is : (old : Hub) (a b : CoreView) (xs : List Connection) (i : ℕ) (x y : Connection) → record { core = a; connections = xs } ≡ old → slice_get xs i ≡ Some x → x.is_over ≡ false → b ≡ after_steps (hang_up_of x.session) a → y ≡ record x { kept = []; is_over = true } → HangsUp old i (record { core = b; connections = set xs i y })
-hung_up_is old a b xs i x y is there open' now e = subst (λ (o : Hub). HangsUp o i (record { core = b; connections = set xs i y })) is (record { before = x; changes = record { was = there; others = ap (set xs i) e }; open_before = open'; core = now })
+pub hung_up_is : (old : Hub) (a b : CoreView) (xs : List Connection) (i n : ℕ) (x y : Connection) → record { core = a; connections = xs } ≡ old → i ≡ n → slice_get xs i ≡ Some x → x.is_over ≡ false → b ≡ after_steps (hang_up_of x.session) a → y ≡ record x { kept = []; is_over = true } → HangsUp old n (record { core = b; connections = set xs i y })
+hung_up_is old a b xs i n x y is at there open' now e = subst (λ (k : ℕ). HangsUp old k (record { core = b; connections = set xs i y })) at (subst (λ (o : Hub). HangsUp o i (record { core = b; connections = set xs i y })) is (record { before = x; changes = record { was = there; others = ap (set xs i) e }; open_before = open'; core = now }))
 
-pub taken_is : (old : Hub) (a b : CoreView) (xs : List Connection) (i : ℕ) (x y : Connection) (bytes : List ℕ) → record { core = a; connections = xs } ≡ old → slice_get xs i ≡ Some x → b ≡ core_after_take a x.session → y ≡ record x { has_refusal = false } → spell_answers (untaken a x) ≡ Some bytes → Takes old i bytes (record { core = b; connections = set xs i y })
-taken_is old a b xs i x y bytes is there now e given = subst (λ (o : Hub). Takes o i bytes (record { core = b; connections = set xs i y })) is (record { before = x; changes = record { was = there; others = ap (set xs i) e }; given = given; core = now })
+pub taken_is : (old : Hub) (a b : CoreView) (xs : List Connection) (i n : ℕ) (x y : Connection) (bytes : List ℕ) → record { core = a; connections = xs } ≡ old → i ≡ n → slice_get xs i ≡ Some x → b ≡ core_after_take a x.session → y ≡ record x { has_refusal = false } → spell_answers (untaken a x) ≡ Some bytes → Takes old n bytes (record { core = b; connections = set xs i y })
+taken_is old a b xs i n x y bytes is at there now e given = subst (λ (k : ℕ). Takes old k bytes (record { core = b; connections = set xs i y })) at (subst (λ (o : Hub). Takes o i bytes (record { core = b; connections = set xs i y })) is (record { before = x; changes = record { was = there; others = ap (set xs i) e }; given = given; core = now }))

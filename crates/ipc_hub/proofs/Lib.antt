@@ -3,6 +3,7 @@ pub mod StepLemmas
 pub mod SessionLemmas
 pub mod HubLemmas
 pub mod FrameLists
+pub mod CallLists
 pub mod LawLemmas
 pub mod RunLemmas
 pub mod StreamLemmas

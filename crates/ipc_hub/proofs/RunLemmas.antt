@@ -1,13 +1,11 @@
 -- Whatever calls a hub makes, what a connection gave and what it has left are the outbox of its session.
-use Rattle.std.proofs.Common.{◌≡◌, ℕ, Bool, true, false, eqb, cond, List, [], ◌∷◌, ◌++◌, length, take, set, slice_get, Option, Some, None, refl, sym, ap, subst, ◌∙◌, append_assoc, arith}
+use Rattle.std.proofs.Common.{◌≡◌, ℕ, Bool, true, false, eqb, cond, List, [], ◌∷◌, ◌++◌, take, slice_get, Option, Some, None, refl, sym, ap, subst, ◌∙◌, append_assoc, arith}
 use Rattle.std.specs.Prelude.{IsSome, is_none}
-use Rattle.std.specs.Option.{option_or}
-use Rattle.std.proofs.lemmas.Bool.{eqb-true, eq-eqb, ne_eqb}
+use Rattle.std.proofs.lemmas.Bool.{eq-eqb, ne_eqb}
 use Rattle.std.proofs.lemmas.List.{append-nil}
 use Rattle.ipc_terms.specs.declared.ids.Sid.{Sid}
 use Rattle.ipc_terms.specs.declared.call.Answer.{Answer}
 use Rattle.ipc_terms.specs.declared.record.Event.{Event}
-use Rattle.ipc_terms.proofs.Lists.{slice_get_push, slice_past}
 use Rattle.ipc_policy.specs.declared.config.Config.{Config}
 use Rattle.ipc_policy.specs.Sessions.{hellos}
 use Rattle.ipc_policy.specs.Verdict.{Legal, outbox}
@@ -24,12 +22,13 @@ use Rattle.ipc_wire.specs.Streams.{Cut, cut, spell_answer}
 use Rattle.ipc_hub.specs.declared.fed.Fed.{Fed}
 use Rattle.ipc_hub.specs.declared.fed.Fed.TheVariants.{Done, Short, Over}
 use Rattle.ipc_hub.specs.declared.fed.End.TheVariants.{Wire, BadKey}
-use Rattle.ipc_hub.specs.Hub.{Connection, Hub, new_connection, new_hub, with_connection, untaken_of, untaken, spell_answers, events_of, hang_up_of, IsOutcome, core_after_take, ChangesOnly, Feeds, HangsUp, Takes}
+use Rattle.ipc_hub.specs.Hub.{Connection, Hub, new_hub, with_connection, untaken_of, untaken, spell_answers, events_of, hang_up_of, IsOutcome, core_after_take, ChangesOnly, Feeds, HangsUp, Takes}
 use Rattle.ipc_hub.specs.Sessions.{EachHasItsOwn}
-use Rattle.ipc_hub.specs.Laws.{Call, Opened, TookPiece, HungUp, Gave, Makes, MakesAll, output_of, GivesOutbox, EachOutputIsTheOutbox}
+use Rattle.ipc_hub.specs.Laws.{Call, Opened, TookPiece, HungUp, Gave, Makes, output_of, GivesOutbox, EachOutputIsTheOutbox}
 use Rattle.ipc_core.proofs.LawLemmas.{all_is_kept}
 use Rattle.ipc_hub.proofs.StepLemmas.{config_kept}
-use Rattle.ipc_hub.proofs.SessionLemmas.{ChangesSessions, Which, Own, Other, which, get_set, none_kept, hangs_up, fed_changes, changed_all, opened_all, none_at_all}
+use Rattle.ipc_hub.proofs.SessionLemmas.{ChangesSessions, Which, Own, Other, AfterOpening, Fresh, Stood, which_now, after_opening, none_before, fresh_has_none, get_set, none_kept, hangs_up, fed_changes, changed_all, opened_all, none_at_all}
+use Rattle.ipc_hub.proofs.CallLists.{nothing_more, along_calls}
 use Rattle.ipc_hub.proofs.HubLemmas.{open_at, takes_changes, same_history, untaken_spelled}
 
 -- ---- the answers that a session took
@@ -183,12 +182,9 @@ taken_well old new i x y w only s now m = record {
 changed_accounted : (old new : Hub) (j : ℕ) (x y : Connection) (out : List ℕ) (i : ℕ) (given : List ℕ) → IsWell old → ChangesOnly old new j x y → ChangesSessions old.core x new.core y → ChangesOutput old.core x new.core y out → IsAccounted old i given → IsAccounted new i (given ++ cond (eqb j i) out [])
 changed_accounted old new j x y out i given w only m o h = record {
   absent = λ e. at_absent (eqb j i) refl (sym (at_set i) ∙ e);
-  silent = λ z e none on. at_silent z none on (which old.connections j x y i z only.was (set_is ∙ e));
-  spoken = λ z sid e own. at_spoken z sid own (which old.connections j x y i z only.was (set_is ∙ e));
+  silent = λ z e none on. at_silent z none on (which_now old new j x y i z only e);
+  spoken = λ z sid e own. at_spoken z sid own (which_now old new j x y i z only e);
 } where
-  set_is : slice_get (set old.connections j y) i ≡ slice_get new.connections i
-  set_is = sym (ap (λ (zs : List Connection). slice_get zs i) only.others)
-
   at_set : (k : ℕ) → slice_get new.connections k ≡ cond (eqb j k) (Some y) (slice_get old.connections k)
   at_set k = ap (λ (zs : List Connection). slice_get zs k) only.others ∙ get_set old.connections j x y k only.was
 
@@ -235,30 +231,17 @@ changed_accounted old new j x y out i given w only m o h = record {
 -- a connection that is opened
 opened_accounted : (old new : Hub) (i : ℕ) (given : List ℕ) → new ≡ with_connection old → IsAccounted old i given → IsAccounted new i given
 opened_accounted old new i given is h = subst (λ (z : Hub). IsAccounted z i given) (sym is) (record {
-  absent = λ e. at_absent (eqb (length old.connections) i) (sym pushed ∙ e);
-  silent = λ x e none on. at_silent x none on (eqb (length old.connections) i) refl (sym pushed ∙ e);
-  spoken = λ x sid e own. at_spoken x sid own (eqb (length old.connections) i) (sym pushed ∙ e);
+  absent = λ e. h.absent (none_before old.connections i e);
+  silent = λ x e none on. at_silent x none on (after_opening old.connections i x e);
+  spoken = λ x sid e own. at_spoken x sid own (after_opening old.connections i x e);
 }) where
-  pushed : slice_get (old.connections ++ new_connection ∷ []) i ≡ option_or (cond (eqb (length old.connections) i) (Some new_connection) None) (slice_get old.connections i)
-  pushed = slice_get_push old.connections new_connection i
+  at_silent : (x : Connection) → x.session ≡ None → x.is_over ≡ false → AfterOpening old.connections i x → given ≡ []
+  at_silent x none on (Fresh past is') = h.absent past
+  at_silent x none on (Stood e) = h.silent x e none on
 
-  at_absent : (b : Bool) → option_or (cond b (Some new_connection) None) (slice_get old.connections i) ≡ None → given ≡ []
-  at_absent true e = absurd cc
-  at_absent false e = h.absent e
-
-  at_silent : (x : Connection) → x.session ≡ None → x.is_over ≡ false → (b : Bool) → eqb (length old.connections) i ≡ b → option_or (cond b (Some new_connection) None) (slice_get old.connections i) ≡ Some x → given ≡ []
-  at_silent x none on true k e = h.absent (slice_past old.connections i (let n : length old.connections ≡ i = eqb-true _ _ k in omega arith))
-  at_silent x none on false k e = h.silent x e none on
-
-  some_is : (x y : Connection) → Some x ≡ Some y → x ≡ y
-  some_is x y e = cc
-
-  no_own : (x : Connection) (sid : Sid) → new_connection ≡ x → x.session ≡ Some sid → ⊥
-  no_own x sid is' own = let wrong : ◌≡◌ {A = Option Sid} None (Some sid) = ap (λ (v : Connection). v.session) is' ∙ own in cc
-
-  at_spoken : (x : Connection) (sid : Sid) → x.session ≡ Some sid → (b : Bool) → option_or (cond b (Some new_connection) None) (slice_get old.connections i) ≡ Some x → HasGiven old.core sid given
-  at_spoken x sid own true e = absurd (no_own x sid (some_is _ _ e) own)
-  at_spoken x sid own false e = h.spoken x sid e own
+  at_spoken : (x : Connection) (sid : Sid) → x.session ≡ Some sid → AfterOpening old.connections i x → HasGiven old.core sid given
+  at_spoken x sid own (Fresh past is') = absurd (fresh_has_none x sid is' own)
+  at_spoken x sid own (Stood e) = h.spoken x sid e own
 
 pub opened_well : (old new : Hub) → new ≡ with_connection old → IsWell old → IsWell new
 opened_well old new is w = subst IsWell (sym is) (record { legal = w.legal; agree = w.agree; sessions = opened_all old.core old.connections w.sessions; in_range = w.in_range })
@@ -345,20 +328,11 @@ output_is i (Gave j bytes) calls = at (eqb j i) where
   at true = refl
   at false = refl
 
-nothing_given : (hub : Hub) (i : ℕ) (given : List ℕ) → IsKept hub i given → IsKept hub i (given ++ [])
-nothing_given hub i given k = subst (λ (bytes : List ℕ). IsKept hub i bytes) (sym (append-nil given)) k
-
-call_kept : (call : Call) (old new : Hub) (i : ℕ) (given : List ℕ) → Makes call old new → IsKept old i given → IsKept new i (given ++ given_by i call)
-call_kept Opened old new i given made k = nothing_given new i given (record { well = opened_well old new made k.well; accounted = opened_accounted old new i given made k.accounted })
-call_kept (TookPiece j piece fed) old new i given made k = nothing_given new i given (fed_kept old new j piece fed i given made k)
-call_kept (HungUp j) old new i given made k = nothing_given new i given (hung_up_kept old new j i given made k)
-call_kept (Gave j bytes) old new i given made k = taken_kept old new j bytes i given made k
-
-calls_kept : (calls : List Call) (old new : Hub) (i : ℕ) (given : List ℕ) → MakesAll calls old new → IsKept old i given → IsKept new i (given ++ output_of i calls)
-calls_kept [] old new i given made k = subst (λ (z : Hub). IsKept z i (given ++ [])) (sym made) (nothing_given old i given k)
-calls_kept (call ∷ calls) old new i given made k =
-    let all : (given ++ given_by i call) ++ output_of i calls ≡ given ++ output_of i (call ∷ calls) = append_assoc given (given_by i call) (output_of i calls) ∙ ap (λ (bytes : List ℕ). given ++ bytes) (sym (output_is i call calls)) in
-    subst (λ (bytes : List ℕ). IsKept new i bytes) all (calls_kept calls made.0 new i (given ++ given_by i call) made.1.1 (call_kept call old made.0 i given made.1.0 k))
+call_kept : (i : ℕ) (call : Call) (old new : Hub) (given : List ℕ) → Makes call old new → IsKept old i given → IsKept new i (given ++ given_by i call)
+call_kept i Opened old new given made k = nothing_more (λ (z : Hub) (bytes : List ℕ). IsKept z i bytes) new given (record { well = opened_well old new made k.well; accounted = opened_accounted old new i given made k.accounted })
+call_kept i (TookPiece j piece fed) old new given made k = nothing_more (λ (z : Hub) (bytes : List ℕ). IsKept z i bytes) new given (fed_kept old new j piece fed i given made k)
+call_kept i (HungUp j) old new given made k = nothing_more (λ (z : Hub) (bytes : List ℕ). IsKept z i bytes) new given (hung_up_kept old new j i given made k)
+call_kept i (Gave j bytes) old new given made k = taken_kept old new j bytes i given made k
 
 new_kept : (c : Config) (i : ℕ) → first_bad c.limits ≡ None → IsKept (new_hub c) i []
 new_kept c i range = record {
@@ -387,4 +361,4 @@ outbox_given hub i x sid given k there own =
     box_is false e = rw e (ap (untaken_of hub.core) own)
 
 pub each_output : EachOutputIsTheOutbox
-each_output c calls hub i x sid range made there own = outbox_given hub i x sid (output_of i calls) (calls_kept calls (new_hub c) hub i [] made (new_kept c i range)) there own
+each_output c calls hub i x sid range made there own = outbox_given hub i x sid (output_of i calls) (along_calls (λ (z : Hub) (bytes : List ℕ). IsKept z i bytes) (given_by i) (output_of i) refl (output_is i) (call_kept i) calls (new_hub c) hub [] made (new_kept c i range)) there own

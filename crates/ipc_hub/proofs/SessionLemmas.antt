@@ -1,5 +1,5 @@
 -- Each call of a hub leaves each session to its own connection.
-use Rattle.std.proofs.Common.{◌≡◌, ℕ, zero, suc, ◌+◌, ◌<◌, ◌≤◌, Bool, true, false, not, ◌&&◌, eqb, cond, ◌⊎◌, inl, inr, List, [], ◌∷◌, ◌++◌, length, take, set, slice_get, Option, Some, None, refl, sym, ap, subst, ◌∙◌, arith}
+use Rattle.std.proofs.Common.{◌≡◌, ℕ, zero, suc, ◌+◌, ◌<◌, ◌≤◌, Bool, true, false, not, ◌&&◌, eqb, cond, List, [], ◌∷◌, ◌++◌, length, take, set, slice_get, Option, Some, None, refl, sym, ap, subst, ◌∙◌, arith}
 use Rattle.std.specs.Prelude.{is_none, is_some, unwrap_or}
 use Rattle.std.specs.Option.{option_or}
 use Rattle.std.proofs.lemmas.Bool.{eqb-true, eqb-false, ne_eqb}
@@ -9,7 +9,7 @@ use Rattle.ipc_terms.specs.declared.call.Call.{Call}
 use Rattle.ipc_terms.specs.declared.call.Call.TheVariants as call
 use Rattle.ipc_terms.specs.declared.record.Event.{Event}
 use Rattle.ipc_terms.specs.declared.record.Event.TheVariants as event
-use Rattle.ipc_terms.proofs.Lists.{slice_get_push, eqb_suc}
+use Rattle.ipc_terms.proofs.Lists.{slice_get_push, slice_past, eqb_suc}
 use Rattle.ipc_policy.specs.Sessions.{hellos, live}
 use Rattle.ipc_policy.specs.Verdict.{verdict}
 use Rattle.ipc_core.specs.Outboxes.{after_step, after_steps}
@@ -22,7 +22,7 @@ use Rattle.ipc_wire.proofs.OrderLemmas.{one_hello}
 use Rattle.ipc_hub.specs.declared.fed.Fed.{Fed}
 use Rattle.ipc_hub.specs.declared.fed.Fed.TheVariants.{Done, Short, Over}
 use Rattle.ipc_hub.specs.declared.fed.End.TheVariants.{Wire, BadKey}
-use Rattle.ipc_hub.specs.Hub.{Connection, new_connection}
+use Rattle.ipc_hub.specs.Hub.{Connection, Hub, ChangesOnly, new_connection}
 use Rattle.ipc_hub.specs.Hub.{event_of, events_of, is_hello_refused, session_after, hang_up_of, Steps, IsOutcome}
 use Rattle.ipc_hub.specs.Sessions.{IsSessionOf, EachHasItsOwn}
 use Rattle.ipc_hub.proofs.SessionSteps.{hellos_later, live_later, events_hang_no_up, hello_lives, hello_counts, hang_up_ends}
@@ -246,6 +246,10 @@ which xs i x y j z there e = at (eqb i j) refl (sym (get_set xs i x y j there) �
   at true k f = Own (eqb-true _ _ k) (some_is _ _ f)
   at false k f = Other (eqb-false _ _ k) f
 
+-- of a hub of which another call changes one
+pub which_now : (old new : Hub) (i : ℕ) (x y : Connection) (j : ℕ) (z : Connection) → ChangesOnly old new i x y → slice_get new.connections j ≡ Some z → Which old.connections i y j z
+which_now old new i x y j z only e = which old.connections i x y j z only.was (sym (ap (λ (zs : List Connection). slice_get zs j) only.others) ∙ e)
+
 pub changed_all : (a b : CoreView) (xs : List Connection) (i : ℕ) (x y : Connection) → EachHasItsOwn a xs → slice_get xs i ≡ Some x → ChangesSessions a x b y → EachHasItsOwn b (set xs i y)
 changed_all a b xs i x y all there m = record {
   own = λ j z sid e k. own_at j z sid k (which xs i x y j z there e);
@@ -280,37 +284,45 @@ changed_all a b xs i x y all there m = record {
   refused_at j z k (Own j_is is) = subst (λ (v : Connection). (v.session ≡ None) × (v.is_over ≡ true)) is (m.refused (ap (λ (v : Connection). v.has_refusal) is ∙ k))
   refused_at j z k (Other ne e) = all.refused j z e k
 
--- a connection that is opened
+-- the connection of a number once one more is opened: the new one, or the one that stood there
+pub data AfterOpening (xs : List Connection) (i : ℕ) (x : Connection) : Type 0 where
+  Fresh : slice_get xs i ≡ None → new_connection ≡ x → AfterOpening xs i x
+  Stood : slice_get xs i ≡ Some x → AfterOpening xs i x
+
+pub after_opening : (xs : List Connection) (i : ℕ) (x : Connection) → slice_get (xs ++ new_connection ∷ []) i ≡ Some x → AfterOpening xs i x
+after_opening xs i x e = at (eqb (length xs) i) refl (sym (slice_get_push xs new_connection i) ∙ e) where
+  at : (b : Bool) → eqb (length xs) i ≡ b → option_or (cond b (Some new_connection) None) (slice_get xs i) ≡ Some x → AfterOpening xs i x
+  at true k f = Fresh (slice_past xs i (let n : length xs ≡ i = eqb-true _ _ k in omega arith)) (some_is _ _ f)
+  at false k f = Stood f
+
+pub none_before : (xs : List Connection) (i : ℕ) → slice_get (xs ++ new_connection ∷ []) i ≡ None → slice_get xs i ≡ None
+none_before xs i e = at (eqb (length xs) i) (sym (slice_get_push xs new_connection i) ∙ e) where
+  at : (b : Bool) → option_or (cond b (Some new_connection) None) (slice_get xs i) ≡ None → slice_get xs i ≡ None
+  at true f = absurd cc
+  at false f = f
+
+-- the new one has no session
+pub fresh_has_none : (x : Connection) (sid : Sid) → new_connection ≡ x → x.session ≡ Some sid → ⊥
+fresh_has_none x sid is own = let wrong : ◌≡◌ {A = Option Sid} None (Some sid) = ap (λ (v : Connection). v.session) is ∙ own in cc
+
 pub opened_all : (a : CoreView) (xs : List Connection) → EachHasItsOwn a xs → EachHasItsOwn a (xs ++ new_connection ∷ [])
 opened_all a xs all = record {
-  own = λ i x sid e k. own_at i x sid k (found i x e);
-  apart = λ i j x y sid e f k l. apart_at i j x y sid k l (found i x e) (found j y f);
-  refused = λ i x e k. refused_at i x k (found i x e);
+  own = λ i x sid e k. own_at i x sid k (after_opening xs i x e);
+  apart = λ i j x y sid e f k l. apart_at i j x y sid k l (after_opening xs i x e) (after_opening xs j y f);
+  refused = λ i x e k. refused_at i x k (after_opening xs i x e);
 } where
-  New : ℕ → Connection → Type 0
-  New i x = (new_connection ≡ x) ⊎ (slice_get xs i ≡ Some x)
+  own_at : (i : ℕ) (x : Connection) (sid : Sid) → x.session ≡ Some sid → AfterOpening xs i x → IsSessionOf a x sid
+  own_at i x sid k (Fresh past is) = absurd (fresh_has_none x sid is k)
+  own_at i x sid k (Stood e) = all.own i x sid e k
 
-  found : (i : ℕ) (x : Connection) → slice_get (xs ++ new_connection ∷ []) i ≡ Some x → New i x
-  found i x e = at (eqb (length xs) i) (sym (slice_get_push xs new_connection i) ∙ e) where
-    at : (b : Bool) → option_or (cond b (Some new_connection) None) (slice_get xs i) ≡ Some x → New i x
-    at true f = inl (some_is _ _ f)
-    at false f = inr f
+  apart_at : (i j : ℕ) (x y : Connection) (sid : Sid) → x.session ≡ Some sid → y.session ≡ Some sid → AfterOpening xs i x → AfterOpening xs j y → i ≡ j
+  apart_at i j x y sid k l (Fresh past is) other = absurd (fresh_has_none x sid is k)
+  apart_at i j x y sid k l (Stood e) (Fresh past is) = absurd (fresh_has_none y sid is l)
+  apart_at i j x y sid k l (Stood e) (Stood f) = all.apart i j x y sid e f k l
 
-  no_session : (x : Connection) (sid : Sid) → new_connection ≡ x → x.session ≡ Some sid → ⊥
-  no_session x sid is k = let wrong : ◌≡◌ {A = Option Sid} None (Some sid) = ap (λ (v : Connection). v.session) is ∙ k in cc
-
-  own_at : (i : ℕ) (x : Connection) (sid : Sid) → x.session ≡ Some sid → New i x → IsSessionOf a x sid
-  own_at i x sid k (inl is) = absurd (no_session x sid is k)
-  own_at i x sid k (inr e) = all.own i x sid e k
-
-  apart_at : (i j : ℕ) (x y : Connection) (sid : Sid) → x.session ≡ Some sid → y.session ≡ Some sid → New i x → New j y → i ≡ j
-  apart_at i j x y sid k l (inl is) other = absurd (no_session x sid is k)
-  apart_at i j x y sid k l (inr e) (inl is) = absurd (no_session y sid is l)
-  apart_at i j x y sid k l (inr e) (inr f) = all.apart i j x y sid e f k l
-
-  refused_at : (i : ℕ) (x : Connection) → x.has_refusal ≡ true → New i x → (x.session ≡ None) × (x.is_over ≡ true)
-  refused_at i x k (inl is) = absurd (let wrong : false ≡ true = ap (λ (v : Connection). v.has_refusal) is ∙ k in cc)
-  refused_at i x k (inr e) = all.refused i x e k
+  refused_at : (i : ℕ) (x : Connection) → x.has_refusal ≡ true → AfterOpening xs i x → (x.session ≡ None) × (x.is_over ≡ true)
+  refused_at i x k (Fresh past is) = absurd (let wrong : false ≡ true = ap (λ (v : Connection). v.has_refusal) is ∙ k in cc)
+  refused_at i x k (Stood e) = all.refused i x e k
 
 -- there are none at the start
 pub none_at_all : (a : CoreView) → EachHasItsOwn a []

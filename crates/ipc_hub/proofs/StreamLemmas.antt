@@ -1,12 +1,10 @@
 -- Whatever calls a hub makes, the trail has of a session the calls of its connection's stream.
-use Rattle.std.proofs.Common.{◌≡◌, ℕ, ◌<◌, ◌≤◌, Bool, true, false, ◌&&◌, eqb, cond, List, [], ◌∷◌, ◌++◌, length, map, take, set, slice_get, Option, Some, None, refl, sym, ap, subst, ◌∙◌, append_assoc, arith}
+use Rattle.std.proofs.Common.{◌≡◌, ℕ, ◌<◌, ◌≤◌, Bool, true, false, ◌&&◌, eqb, cond, List, [], ◌∷◌, ◌++◌, map, take, slice_get, Option, Some, None, refl, sym, ap, subst, ◌∙◌, append_assoc, arith}
 use Rattle.std.specs.Prelude.{is_none}
-use Rattle.std.specs.Option.{option_or}
-use Rattle.std.proofs.lemmas.Bool.{eqb-true, eq-eqb, ne_eqb}
+use Rattle.std.proofs.lemmas.Bool.{eq-eqb, ne_eqb}
 use Rattle.std.proofs.lemmas.List.{append-nil}
 use Rattle.ipc_terms.specs.declared.ids.Sid.{Sid}
 use Rattle.ipc_terms.specs.declared.record.Event.{Event}
-use Rattle.ipc_terms.proofs.Lists.{slice_get_push, slice_past}
 use Rattle.ipc_policy.specs.declared.config.Config.{Config}
 use Rattle.ipc_policy.specs.Sessions.{hellos}
 use Rattle.ipc_state.specs.Ranges.{first_bad}
@@ -22,11 +20,12 @@ use Rattle.ipc_wire.proofs.OrderLemmas.{one_hello}
 use Rattle.ipc_hub.specs.declared.fed.Fed.{Fed}
 use Rattle.ipc_hub.specs.declared.fed.Fed.TheVariants.{Done, Short, Over}
 use Rattle.ipc_hub.specs.declared.fed.End.TheVariants.{Wire, BadKey}
-use Rattle.ipc_hub.specs.Hub.{Connection, Hub, new_connection, new_hub, with_connection, session_or_next, event_of, events_of, hang_up_of, is_hello_refused, session_after, IsOutcome, ChangesOnly, Feeds, HangsUp, Takes}
-use Rattle.ipc_hub.specs.Laws.{Call, Opened, TookPiece, HungUp, Gave, Makes, MakesAll, stream_of, call_in, calls_of, IsStepped, EachStreamIsStepped}
+use Rattle.ipc_hub.specs.Hub.{Connection, Hub, new_hub, with_connection, session_or_next, event_of, events_of, hang_up_of, is_hello_refused, session_after, IsOutcome, ChangesOnly, Feeds, HangsUp, Takes}
+use Rattle.ipc_hub.specs.Laws.{Call, Opened, TookPiece, HungUp, Gave, Makes, stream_of, call_in, calls_of, IsStepped, EachStreamIsStepped}
 use Rattle.ipc_hub.proofs.LawLemmas.{cut_any_way, after_both}
-use Rattle.ipc_hub.proofs.SessionLemmas.{ChangesSessions, Which, Own, Other, which, get_set, calls_no_hello, cut_order}
+use Rattle.ipc_hub.proofs.SessionLemmas.{ChangesSessions, Which, Own, Other, AfterOpening, Fresh, Stood, which_now, after_opening, none_before, fresh_has_none, get_set, calls_no_hello, cut_order}
 use Rattle.ipc_hub.proofs.HubLemmas.{same_history}
+use Rattle.ipc_hub.proofs.CallLists.{nothing_more, along_calls}
 use Rattle.ipc_hub.proofs.RunLemmas.{IsWell, fed_change, hung_up_change, taken_change, opened_well, fed_well, hung_up_well, take_well, new_well}
 
 -- ---- the calls of a session among events
@@ -277,12 +276,9 @@ changed_streamed old new j x y piece i stream well only m o h = record {
   well = well;
   unstarted = o.unstarted h.unstarted;
   absent = λ e. at_absent (eqb j i) refl (sym (ap (λ (zs : List Connection). slice_get zs i) only.others ∙ get_set old.connections j x y i only.was) ∙ e);
-  silent = λ z e none on. at_silent z none on (which old.connections j x y i z only.was (set_is ∙ e));
-  spoken = λ z sid e own. at_spoken z sid own (which old.connections j x y i z only.was (set_is ∙ e));
+  silent = λ z e none on. at_silent z none on (which_now old new j x y i z only e);
+  spoken = λ z sid e own. at_spoken z sid own (which_now old new j x y i z only e);
 } where
-  set_is : slice_get (set old.connections j y) i ≡ slice_get new.connections i
-  set_is = sym (ap (λ (zs : List Connection). slice_get zs i) only.others)
-
   own_piece : j ≡ i → stream ++ cond (eqb j i) piece [] ≡ stream ++ piece
   own_piece e = let k : eqb j i ≡ true = eq-eqb j i e in rw k refl
 
@@ -332,27 +328,17 @@ opened_streamed : (old new : Hub) (i : ℕ) (stream : List ℕ) → new ≡ with
 opened_streamed old new i stream is h = subst (λ (z : Hub). IsStreamed z i stream) (sym is) (record {
   well = opened_well old (with_connection old) refl h.well;
   unstarted = h.unstarted;
-  absent = λ e. at_absent (eqb (length old.connections) i) (sym pushed ∙ e);
-  silent = λ x e none on. at_silent x none on (eqb (length old.connections) i) refl (sym pushed ∙ e);
-  spoken = λ x sid e own. at_spoken x sid own (eqb (length old.connections) i) (sym pushed ∙ e);
+  absent = λ e. h.absent (none_before old.connections i e);
+  silent = λ x e none on. at_silent x none on (after_opening old.connections i x e);
+  spoken = λ x sid e own. at_spoken x sid own (after_opening old.connections i x e);
 }) where
-  pushed : slice_get (old.connections ++ new_connection ∷ []) i ≡ option_or (cond (eqb (length old.connections) i) (Some new_connection) None) (slice_get old.connections i)
-  pushed = slice_get_push old.connections new_connection i
+  at_silent : (x : Connection) → x.session ≡ None → x.is_over ≡ false → AfterOpening old.connections i x → cut true stream ≡ cut true x.kept
+  at_silent x none on (Fresh past is') = ap (cut true) (h.absent past) ∙ ap (λ (v : Connection). cut true v.kept) is'
+  at_silent x none on (Stood e) = h.silent x e none on
 
-  some_is : (x y : Connection) → Some x ≡ Some y → x ≡ y
-  some_is x y e = cc
-
-  at_absent : (b : Bool) → option_or (cond b (Some new_connection) None) (slice_get old.connections i) ≡ None → stream ≡ []
-  at_absent true e = absurd cc
-  at_absent false e = h.absent e
-
-  at_silent : (x : Connection) → x.session ≡ None → x.is_over ≡ false → (b : Bool) → eqb (length old.connections) i ≡ b → option_or (cond b (Some new_connection) None) (slice_get old.connections i) ≡ Some x → cut true stream ≡ cut true x.kept
-  at_silent x none on true k e = ap (cut true) (h.absent (slice_past old.connections i (let n : length old.connections ≡ i = eqb-true _ _ k in omega arith))) ∙ ap (λ (v : Connection). cut true v.kept) (some_is new_connection x e)
-  at_silent x none on false k e = h.silent x e none on
-
-  at_spoken : (x : Connection) (sid : Sid) → x.session ≡ Some sid → (b : Bool) → option_or (cond b (Some new_connection) None) (slice_get old.connections i) ≡ Some x → IsStepped old.core x sid stream
-  at_spoken x sid own true e = absurd (let wrong : ◌≡◌ {A = Option Sid} None (Some sid) = ap (λ (v : Connection). v.session) (some_is new_connection x e) ∙ own in cc)
-  at_spoken x sid own false e = h.spoken x sid e own
+  at_spoken : (x : Connection) (sid : Sid) → x.session ≡ Some sid → AfterOpening old.connections i x → IsStepped old.core x sid stream
+  at_spoken x sid own (Fresh past is') = absurd (fresh_has_none x sid is' own)
+  at_spoken x sid own (Stood e) = h.spoken x sid e own
 
 -- ---- each call
 
@@ -394,23 +380,14 @@ stream_is i (TookPiece j piece fed) calls = at (eqb j i) where
   at true = refl
   at false = refl
 
-nothing_brought : (hub : Hub) (i : ℕ) (stream : List ℕ) → IsStreamed hub i stream → IsStreamed hub i (stream ++ [])
-nothing_brought hub i stream h = subst (λ (bytes : List ℕ). IsStreamed hub i bytes) (sym (append-nil stream)) h
-
-call_streamed : (call : Call) (old new : Hub) (i : ℕ) (stream : List ℕ) → Makes call old new → IsStreamed old i stream → IsStreamed new i (stream ++ brought_by i call)
-call_streamed Opened old new i stream made h = nothing_brought new i stream (opened_streamed old new i stream made h)
-call_streamed (TookPiece j piece fed) old new i stream made h = fed_streamed old new j piece fed i stream made h
-call_streamed (HungUp j) old new i stream made h = nothing_brought new i stream (hung_up_streamed old new j i stream made h)
-call_streamed (Gave j bytes) old new i stream made h = nothing_brought new i stream (taken_streamed old new j bytes i stream made h)
-
-calls_streamed : (calls : List Call) (old new : Hub) (i : ℕ) (stream : List ℕ) → MakesAll calls old new → IsStreamed old i stream → IsStreamed new i (stream ++ stream_of i calls)
-calls_streamed [] old new i stream made h = subst (λ (z : Hub). IsStreamed z i (stream ++ [])) (sym made) (nothing_brought old i stream h)
-calls_streamed (call ∷ calls) old new i stream made h =
-    let all : (stream ++ brought_by i call) ++ stream_of i calls ≡ stream ++ stream_of i (call ∷ calls) = append_assoc stream (brought_by i call) (stream_of i calls) ∙ ap (λ (bytes : List ℕ). stream ++ bytes) (sym (stream_is i call calls)) in
-    subst (λ (bytes : List ℕ). IsStreamed new i bytes) all (calls_streamed calls made.0 new i (stream ++ brought_by i call) made.1.1 (call_streamed call old made.0 i stream made.1.0 h))
+call_streamed : (i : ℕ) (call : Call) (old new : Hub) (stream : List ℕ) → Makes call old new → IsStreamed old i stream → IsStreamed new i (stream ++ brought_by i call)
+call_streamed i Opened old new stream made h = nothing_more (λ (z : Hub) (bytes : List ℕ). IsStreamed z i bytes) new stream (opened_streamed old new i stream made h)
+call_streamed i (TookPiece j piece fed) old new stream made h = fed_streamed old new j piece fed i stream made h
+call_streamed i (HungUp j) old new stream made h = nothing_more (λ (z : Hub) (bytes : List ℕ). IsStreamed z i bytes) new stream (hung_up_streamed old new j i stream made h)
+call_streamed i (Gave j bytes) old new stream made h = nothing_more (λ (z : Hub) (bytes : List ℕ). IsStreamed z i bytes) new stream (taken_streamed old new j bytes i stream made h)
 
 new_streamed : (c : Config) (i : ℕ) → first_bad c.limits ≡ None → IsStreamed (new_hub c) i []
 new_streamed c i range = record { well = new_well c range; unstarted = λ s le. refl; absent = λ e. refl; silent = λ x e none on. absurd cc; spoken = λ x sid e own. absurd cc }
 
 pub each_stream : EachStreamIsStepped
-each_stream c calls hub i x sid range made there own = (calls_streamed calls (new_hub c) hub i [] made (new_streamed c i range)).spoken x sid there own
+each_stream c calls hub i x sid range made there own = (along_calls (λ (z : Hub) (bytes : List ℕ). IsStreamed z i bytes) (brought_by i) (stream_of i) refl (stream_is i) (call_streamed i) calls (new_hub c) hub [] made (new_streamed c i range)).spoken x sid there own

@@ -1,6 +1,6 @@
 //! The hub.
 
-ghost use Rattle.std.specs.Prelude.{◌≡◌, slice_get, None, length, IfOk, IfErr, OnOk, OnErr, MatchOption};
+ghost use Rattle.std.specs.Prelude.{◌≡◌, ◌<◌, slice_get, None, Some, length, IfOk, IfErr, OnOk, OnErr, MatchOption};
 ghost use Rattle.ipc_state.specs.Ranges.{first_bad};
 ghost use Rattle.ipc_policy.specs.Verdict.{Legal};
 ghost use Rattle.ipc_core.specs.Outboxes.{BoxesAgree};
@@ -77,6 +77,32 @@ impl Hub {
         Ok(conn)
     }
 
+    /// Where the connection stands.
+    fn place_of(&self, conn: Conn) -> Result<usize, HubFault>
+        ensures ok { IfOk result (λ i. (i ≡ conn.0) × (i < length self.now.connections)) }
+        ensures none { OnOk result (fault_of_take (slice_get self.now.connections conn.0) ≡ None) }
+        ensures fault { IfErr result (λ fault. fault_of_take (slice_get self.now.connections conn.0) ≡ Some fault) }
+    {
+        let i = conn.0 as usize;
+        if self.connections.len() <= i {
+            return Err(HubFault::NoSuchConn);
+        }
+        Ok(i)
+    }
+
+    /// Where the connection stands, if it is not over.
+    fn open_place_of(&self, conn: Conn) -> Result<usize, HubFault>
+        ensures ok { IfOk result (λ i. (i ≡ conn.0) × (i < length self.now.connections)) }
+        ensures none { OnOk result (fault_of_change (slice_get self.now.connections conn.0) ≡ None) }
+        ensures fault { IfErr result (λ fault. fault_of_change (slice_get self.now.connections conn.0) ≡ Some fault) }
+    {
+        let i = self.place_of(conn)?;
+        if self.connections[i].is_over() {
+            return Err(HubFault::Ended);
+        }
+        Ok(i)
+    }
+
     /// Takes a piece of the connection's stream, and steps the requests of the frames that are whole now. How far
     /// a `Short` went is not said. An `Err` takes nothing of the piece and changes nothing.
     pub fn feed(&mut self, alloc: Global, conn: Conn, piece: &[u8]) -> Result<Fed, HubFault>
@@ -84,14 +110,8 @@ impl Hub {
         ensures err { OnErr result (self.new ≡ self.old) }
         ensures fault { IfErr result (λ fault. IsFaultOr (fault_of_change (slice_get self.old.connections conn.0)) fault) }
     {
-        let i = conn.0 as usize;
-        if self.connections.len() <= i {
-            return Err(HubFault::NoSuchConn);
-        }
+        let i = self.open_place_of(conn)?;
         let connection = &mut self.connections[i];
-        if connection.is_over() {
-            return Err(HubFault::Ended);
-        }
         Ok(connection.feed(&mut self.core, alloc, piece)?)
     }
 
@@ -102,14 +122,8 @@ impl Hub {
         ensures err { OnErr result (self.new ≡ self.old) }
         ensures fault { IfErr result (λ fault. IsFaultOr (fault_of_change (slice_get self.old.connections conn.0)) fault) }
     {
-        let i = conn.0 as usize;
-        if self.connections.len() <= i {
-            return Err(HubFault::NoSuchConn);
-        }
+        let i = self.open_place_of(conn)?;
         let connection = &mut self.connections[i];
-        if connection.is_over() {
-            return Err(HubFault::Ended);
-        }
         Ok(connection.hang_up(&mut self.core, alloc)?)
     }
 
@@ -120,10 +134,7 @@ impl Hub {
         ensures err { OnErr result (self.new ≡ self.old) }
         ensures fault { IfErr result (λ fault. IsFaultOr (fault_of_take (slice_get self.old.connections conn.0)) fault) }
     {
-        let i = conn.0 as usize;
-        if self.connections.len() <= i {
-            return Err(HubFault::NoSuchConn);
-        }
+        let i = self.place_of(conn)?;
         self.core.is_legal();
         self.core.keeps_the_last();
         let connection = &mut self.connections[i];

@@ -42,6 +42,17 @@ impl<L: Ledger, B: Origin> Model for Held<L, B> {
 }
 
 impl<L: Ledger, B: Origin> Held<L, B> {
+    /// A seat with receipts that are the origin.
+    pub(crate) fn new(seat: Seat<L>) -> Held<L, B>
+        requires { seat.list ≡ B.list }
+        ensures { result ≡ seat }
+    {
+        Held {
+            seat,
+            of: PhantomData,
+        }
+    }
+
     /// The session, if there is one.
     pub(crate) fn sid(&self) -> Option<Sid>
         ensures { result ≡ self.now.sid }

@@ -13,7 +13,7 @@ use crate::writing::write_answers;
 use ipc_book::{Bell, Seat, Shared, StepFault};
 use std::alloc::Global;
 use std::io::{Read, Write};
-use std::marker::{Brand, PhantomData};
+use std::marker::Brand;
 use std::sync::ledger::Ledger;
 use std::sync::{Arc, Condvar, Mutex, Wait};
 use std::thread;
@@ -46,7 +46,26 @@ pub fn serve_connection<
     ensures kept { BeginsWith seat.list result.seat.list }
     ensures hung_up { result.ending ≢ StillLive → result.seat.sid ≡ None }
 {
-    serve_from::<L, Brand, R, I, O, G>(rt, alloc, shared, seat, conn, reader, writer, gate)
+    let connection = Connection {
+        shared,
+        gate,
+        conn,
+        alloc,
+        reader,
+        writer,
+    };
+    serve_from::<L, Brand, R, I, O, G>(rt, connection, seat)
+}
+
+/// A connection, and what it is served with.
+#[derive(Drop)]
+struct Connection<'a, L: Ledger, G, I, O> {
+    shared: &'a Shared<L>,
+    gate: &'a G,
+    conn: u64,
+    alloc: Global,
+    reader: I,
+    writer: O,
 }
 
 fn serve_from<
@@ -56,31 +75,19 @@ fn serve_from<
     I: Read + Drop,
     O: Write + Send + Drop,
     G: Gate + Sync,
->(
-    rt: &R,
-    alloc: Global,
-    shared: &Shared<L>,
-    seat: Seat<L>,
-    conn: u64,
-    reader: I,
-    writer: O,
-    gate: &G,
-) -> Served<L>
+>(rt: &R, connection: Connection<'_, L, G, I, O>, seat: Seat<L>) -> Served<L>
     requires none { seat.sid ≡ None }
     requires origin { seat.list ≡ B.list }
     ensures kept { BeginsWith B.list result.seat.list }
     ensures hung_up { result.ending ≢ StillLive → result.seat.sid ≡ None }
 {
-    let Ok(bell) = Arc::new(alloc, Bell::new()) else {
+    let Ok(bell) = Arc::new(connection.alloc, Bell::new()) else {
         return Served {
             seat,
             ending: Ending::NoMemory,
         };
     };
-    let held: Held<L, B> = Held {
-        seat,
-        of: PhantomData,
-    };
+    let held: Held<L, B> = Held::new(seat);
     let chair = Chair {
         place: Mutex::new(Place {
             held,
@@ -91,38 +98,40 @@ fn serve_from<
         has_room: Condvar::new(),
     };
     let desk = Desk {
-        shared,
+        shared: connection.shared,
         chair: &chair,
         bell: &bell,
-        gate,
-        conn,
-        alloc,
+        gate: connection.gate,
+        conn: connection.conn,
+        alloc: connection.alloc,
     };
-    let ending = read_beside_the_writer(rt, &desk, reader, writer);
+    let ending = desk.serve(rt, connection.reader, connection.writer);
     let Chair { place, has_room: _ } = chair;
     let Place { held, failure, .. } = place.into_inner();
-    hang_up(rt, alloc, shared, held, failure.unwrap_or(ending))
+    let ending = failure.unwrap_or(ending);
+    hang_up(rt, connection.alloc, connection.shared, held, ending)
 }
 
-fn read_beside_the_writer<
-    L: Ledger + Send + Sync,
-    B: Origin + Send + Sync,
-    R: Threads + Wait + Sync,
-    I: Read + Drop,
-    O: Write + Send + Drop,
-    G: Gate + Sync,
->(rt: &R, desk: &Desk<'_, L, B, G>, reader: I, writer: O) -> Ending {
-    thread::scope(thread::scope_env(), rt, |scope| {
-        if scope
-            .spawn(move || write_answers(rt, desk, writer))
-            .is_err()
-        {
-            return Ending::NoMemory;
-        }
-        let ending = read_and_step(rt, desk, reader);
-        desk.finish(rt);
-        ending
-    })
+impl<L: Ledger + Send + Sync, B: Origin + Send + Sync, G: Gate + Sync> Desk<'_, L, B, G> {
+    /// Reads and steps on this thread, and writes on another.
+    fn serve<R: Threads + Wait + Sync, I: Read + Drop, O: Write + Send + Drop>(
+        &self,
+        rt: &R,
+        reader: I,
+        writer: O,
+    ) -> Ending {
+        thread::scope(thread::scope_env(), rt, |scope| {
+            if scope
+                .spawn(move || write_answers(rt, self, writer))
+                .is_err()
+            {
+                return Ending::NoMemory;
+            }
+            let ending = read_and_step(rt, self, reader);
+            self.finish(rt);
+            ending
+        })
+    }
 }
 
 /// Hangs the session up, if there is one, and gives the seat back.

@@ -77,7 +77,7 @@ pub fn run_workers<
         gate,
         alloc,
     };
-    let (seats, result) = serve_accepted(rt, &crew, listener, sender, stop_after, seats, handles);
+    let (seats, result) = crew.serve_accepted(rt, listener, sender, stop_after, seats, handles);
     match result {
         Ok(()) => Ok(seats),
         Err(fault) => Err((fault, seats)),
@@ -106,44 +106,82 @@ fn seat_all<L: Ledger, R: Wait>(
     (seats, true)
 }
 
-/// Starts the workers, accepts connections for them, and waits for their ends.
-fn serve_accepted<
-    L: Ledger + Send + Sync,
-    R: Threads + Wait + Sync,
-    C: Link + Send + Sync + Drop,
-    N: Listen<Conn = C>,
-    G: Gate + Sync,
->(
-    rt: &R,
-    crew: &Crew<'_, L, C, G>,
-    listener: &N,
-    sender: Sender<Accepted<C>>,
-    stop_after: Option<u64>,
-    seats: Vec<Seat<L>>,
-    handles: Vec<JoinHandle<Seat<L>>>,
-) -> (Vec<Seat<L>>, Result<(), WorkersFault>)
-    requires none { vec_len handles ≡ 0 }
-    requires room { vec_len seats ≤ vec_capacity handles }
-    ensures { vec_len result.0 ≡ vec_len seats }
-{
-    thread::scope(
-        thread::scope_env(),
-        rt,
-        move |scope| -> (Vec<Seat<L>>, Result<(), WorkersFault>)
-            requires { (vec_len handles ≡ 0) × (vec_len seats ≤ vec_capacity handles) }
-            ensures { vec_len result.0 ≡ vec_len seats }
-        {
-            let mut seats = seats;
-            let mut handles = handles;
-            let started = start_all(rt, scope, crew, sender, &mut seats, &mut handles);
-            let result = match started {
-                Some(sender) => accept_all(rt, listener, sender, stop_after),
-                None => Err(WorkersFault::NoMemory),
+impl<L: Ledger + Send + Sync, C: Link + Send + Sync + Drop, G: Gate + Sync> Crew<'_, L, C, G> {
+    /// Starts the workers, accepts connections for them, and waits for their ends.
+    fn serve_accepted<R: Threads + Wait + Sync, N: Listen<Conn = C>>(
+        &self,
+        rt: &R,
+        listener: &N,
+        sender: Sender<Accepted<C>>,
+        stop_after: Option<u64>,
+        seats: Vec<Seat<L>>,
+        handles: Vec<JoinHandle<Seat<L>>>,
+    ) -> (Vec<Seat<L>>, Result<(), WorkersFault>)
+        requires none { vec_len handles ≡ 0 }
+        requires room { vec_len seats ≤ vec_capacity handles }
+        ensures { vec_len result.0 ≡ vec_len seats }
+    {
+        thread::scope(
+            thread::scope_env(),
+            rt,
+            move |scope| -> (Vec<Seat<L>>, Result<(), WorkersFault>)
+                requires { (vec_len handles ≡ 0) × (vec_len seats ≤ vec_capacity handles) }
+                ensures { vec_len result.0 ≡ vec_len seats }
+            {
+                let mut seats = seats;
+                let mut handles = handles;
+                let started = start_all(rt, scope, self, sender, &mut seats, &mut handles);
+                let result = match started {
+                    Some(sender) => accept_all(rt, listener, sender, stop_after),
+                    None => Err(WorkersFault::NoMemory),
+                };
+                join_all(rt, handles, &mut seats);
+                (seats, result)
+            },
+        )
+    }
+
+    /// Serves connections until no more come, and gives the seat back.
+    fn work<R: Threads + Wait + Sync>(&self, rt: &R, seat: Seat<L>) -> Seat<L> {
+        let mut seat = seat;
+        for _ in rt.forever() {
+            let Ok(accepted) = self.accepted.recv(rt) else {
+                return seat;
             };
-            join_all(rt, handles, &mut seats);
-            (seats, result)
-        },
-    )
+            seat = self.serve_one(rt, seat, accepted);
+        }
+        unreachable!()
+    }
+
+    /// Serves one connection. Where the session before it could not be hung up for want of memory, and still can't be,
+    /// the connection is hung up at once.
+    fn serve_one<R: Threads + Wait + Sync>(
+        &self,
+        rt: &R,
+        seat: Seat<L>,
+        accepted: Accepted<C>,
+    ) -> Seat<L> {
+        let mut seat = seat;
+        if seat.sid().is_some() {
+            let _ = self.shared.hang_up(rt, self.alloc, &mut seat);
+        }
+        if seat.sid().is_some() {
+            return seat;
+        }
+        let reader = LinkReader(&accepted.link);
+        let writer = LinkWriter(&accepted.link);
+        let served = serve_connection(
+            rt,
+            self.alloc,
+            self.shared,
+            seat,
+            accepted.number,
+            reader,
+            writer,
+            self.gate,
+        );
+        served.seat
+    }
 }
 
 /// Starts a worker on each seat. Gives the channel's end back if all were started. Else closes it, and keeps the seats
@@ -168,7 +206,7 @@ fn start_all<
     ensures capacity { vec_capacity seats.old ≤ vec_capacity seats.new }
 {
     while let Some(seat) = seats.pop() {
-        match scope.spawn(move || work(rt, crew, seat)) {
+        match scope.spawn(move || crew.work(rt, seat)) {
             Ok(handle) => handles.push_reserved(handle),
             Err(refused) => {
                 // There is no thread for it, so it ends here, at once: nobody sends any more.
@@ -225,51 +263,4 @@ fn accept_one<R: Wait, N: Listen>(rt: &R, listener: &N) -> Option<N::Conn> {
         }
     }
     unreachable!()
-}
-
-/// Serves connections until no more come, and gives the seat back.
-fn work<
-    L: Ledger + Send + Sync,
-    R: Threads + Wait + Sync,
-    C: Link + Send + Sync + Drop,
-    G: Gate + Sync,
->(rt: &R, crew: &Crew<'_, L, C, G>, seat: Seat<L>) -> Seat<L> {
-    let mut seat = seat;
-    for _ in rt.forever() {
-        let Ok(accepted) = crew.accepted.recv(rt) else {
-            return seat;
-        };
-        seat = serve_one(rt, crew, seat, accepted);
-    }
-    unreachable!()
-}
-
-/// Serves one connection. Where the session before it could not be hung up for want of memory, and still can't be, the
-/// connection is hung up at once.
-fn serve_one<
-    L: Ledger + Send + Sync,
-    R: Threads + Wait + Sync,
-    C: Link + Send + Sync + Drop,
-    G: Gate + Sync,
->(rt: &R, crew: &Crew<'_, L, C, G>, seat: Seat<L>, accepted: Accepted<C>) -> Seat<L> {
-    let mut seat = seat;
-    if seat.sid().is_some() {
-        let _ = crew.shared.hang_up(rt, crew.alloc, &mut seat);
-    }
-    if seat.sid().is_some() {
-        return seat;
-    }
-    let reader = LinkReader(&accepted.link);
-    let writer = LinkWriter(&accepted.link);
-    let served = serve_connection(
-        rt,
-        crew.alloc,
-        crew.shared,
-        seat,
-        accepted.number,
-        reader,
-        writer,
-        crew.gate,
-    );
-    served.seat
 }

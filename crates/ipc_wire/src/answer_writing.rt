@@ -7,10 +7,9 @@ ghost use Rattle.ipc_fields.specs.Terms.{attributes_field};
 ghost use Rattle.ipc_wire.specs.Answers.{facts_field, line_field, answer_fields, answer_body};
 ghost use Rattle.ipc_wire.specs.Streams.{spell_answer};
 
-use crate::request_writing::USUAL_FRAME;
+use crate::framing::{Message, put_message, write_message};
 use ipc_fields::{
-    WriteFault, close_frame, put_attributes, put_bool, put_bytes, put_text, put_u8, put_u16,
-    put_u32, put_u64,
+    WriteFault, put_attributes, put_bool, put_bytes, put_text, put_u8, put_u16, put_u32, put_u64,
 };
 use ipc_terms::{Answer, Attributes, Bytes, Facts, Line, Name};
 use std::alloc::Global;
@@ -132,24 +131,14 @@ fn put_fields(out: &mut Vec<u8>, answer: &Answer) -> Result<(), WriteFault>
     }
 }
 
-#[tactic(auto, using(ipc_fields::proofs::Joins::joins), unfolding(crate::specs::Answers::answer_body))]
-fn put_body(out: &mut Vec<u8>, answer: &Answer) -> Result<(), WriteFault>
-    ensures puts { Puts out.old.items out.new.items result (answer_body answer.now) }
-    ensures begins { Begins out.old.items out.new.items }
-{
-    put_u8(out, answer.op().number())?;
-    put_fields(out, answer)
-}
+impl Message for Answer {
+    ghost body_of = { answer_body };
 
-#[tactic(auto, using(ipc_fields::proofs::Joins::joins))]
-fn put_frame(out: &mut Vec<u8>, answer: &Answer) -> Result<(), WriteFault>
-    ensures puts { Puts out.old.items out.new.items result (spell_answer answer.now) }
-    ensures begins { Begins out.old.items out.new.items }
-{
-    let start = out.len();
-    put_u32(out, 0)?;
-    put_body(out, answer)?;
-    close_frame(out, start)
+    #[tactic(auto, using(ipc_fields::proofs::Joins::joins), unfolding(crate::specs::Answers::answer_body))]
+    fn put_body(&self, out: &mut Vec<u8>) -> Result<(), WriteFault> {
+        put_u8(out, self.op().number())?;
+        put_fields(out, self)
+    }
 }
 
 /// Puts the one frame of an answer behind what stands in the buffer. `TooLong` where a text has more than
@@ -160,14 +149,7 @@ pub fn put_answer(out: &mut Vec<u8>, answer: &Answer) -> Result<(), WriteFault>
     ensures too_long { IsErrOf result WriteFault.TooLong → spell_answer answer.now ≡ None }
     ensures err { OnErr result (out.new.items ≡ out.old.items) }
 {
-    let before = out.len();
-    match put_frame(out, answer) {
-        Ok(()) => Ok(()),
-        Err(fault) => {
-            out.truncate(before);
-            Err(fault)
-        }
-    }
+    put_message(out, answer)
 }
 
 /// The one frame of an answer, as `put_answer` puts it.
@@ -175,7 +157,5 @@ pub fn write_answer(alloc: Global, answer: &Answer) -> Result<Vec<u8>, WriteFaul
     ensures spelled { IfOk result (λ bytes. spell_answer answer.now ≡ Some bytes.items) }
     ensures too_long { IsErrOf result WriteFault.TooLong → spell_answer answer.now ≡ None }
 {
-    let mut frame = Vec::with_capacity(alloc, USUAL_FRAME)?;
-    put_answer(&mut frame, answer)?;
-    Ok(frame)
+    write_message(alloc, answer)
 }

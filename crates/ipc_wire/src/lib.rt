@@ -4,6 +4,7 @@
 mod answer_reading;
 mod answer_writing;
 mod frames;
+mod framing;
 pub mod laws;
 mod opcodes;
 mod request;

@@ -7,18 +7,15 @@ ghost use Rattle.ipc_fields.specs.Terms.{desc_field, family_field, mode_field, u
 ghost use Rattle.ipc_wire.specs.Requests.{queue_open_field, semaphore_open_field, request_fields, request_body};
 ghost use Rattle.ipc_wire.specs.Streams.{spell};
 
+use crate::framing::{Message, put_message, write_message};
 use crate::request::Request;
 use crate::request_reading::{QUEUE_FLAGS, SEMAPHORE_FLAGS};
 use ipc_fields::{
-    WriteFault, close_frame, put_access, put_bool, put_bytes, put_family, put_flags,
-    put_optional_attributes, put_optional_gid, put_optional_uid, put_target, put_text, put_u8,
-    put_u16, put_u32, put_u64,
+    WriteFault, put_access, put_bool, put_bytes, put_family, put_flags, put_optional_attributes,
+    put_optional_gid, put_optional_uid, put_target, put_text, put_u8, put_u16, put_u32, put_u64,
 };
 use ipc_terms::{Bytes, Call, Desc, Family, Gid, Mode, QueueOpen, SemaphoreOpen, Target, Uid};
 use std::alloc::Global;
-
-/// Room for most frames.
-pub(crate) const USUAL_FRAME: usize = 128;
 
 #[tactic(auto, using(ipc_fields::proofs::Joins::joins), unfolding(crate::specs::Requests::queue_open_field))]
 fn put_queue_open(out: &mut Vec<u8>, asked: &QueueOpen) -> Result<(), WriteFault>
@@ -170,24 +167,14 @@ fn put_fields(out: &mut Vec<u8>, request: &Request) -> Result<(), WriteFault>
     }
 }
 
-#[tactic(auto, using(ipc_fields::proofs::Joins::joins), unfolding(crate::specs::Requests::request_body))]
-fn put_body(out: &mut Vec<u8>, request: &Request) -> Result<(), WriteFault>
-    ensures puts { Puts out.old.items out.new.items result (request_body request.now) }
-    ensures begins { Begins out.old.items out.new.items }
-{
-    put_u8(out, request.op().byte())?;
-    put_fields(out, request)
-}
+impl Message for Request {
+    ghost body_of = { request_body };
 
-#[tactic(auto, using(ipc_fields::proofs::Joins::joins))]
-fn put_frame(out: &mut Vec<u8>, request: &Request) -> Result<(), WriteFault>
-    ensures puts { Puts out.old.items out.new.items result (spell request.now) }
-    ensures begins { Begins out.old.items out.new.items }
-{
-    let start = out.len();
-    put_u32(out, 0)?;
-    put_body(out, request)?;
-    close_frame(out, start)
+    #[tactic(auto, using(ipc_fields::proofs::Joins::joins), unfolding(crate::specs::Requests::request_body))]
+    fn put_body(&self, out: &mut Vec<u8>) -> Result<(), WriteFault> {
+        put_u8(out, self.op().byte())?;
+        put_fields(out, self)
+    }
 }
 
 /// Puts the one frame of a request behind what stands in the buffer. Flags that mean nothing to the call
@@ -198,14 +185,7 @@ pub fn put_request(out: &mut Vec<u8>, request: &Request) -> Result<(), WriteFaul
     ensures too_long { IsErrOf result WriteFault.TooLong → spell request.now ≡ None }
     ensures err { OnErr result (out.new.items ≡ out.old.items) }
 {
-    let before = out.len();
-    match put_frame(out, request) {
-        Ok(()) => Ok(()),
-        Err(fault) => {
-            out.truncate(before);
-            Err(fault)
-        }
-    }
+    put_message(out, request)
 }
 
 /// The one frame of a request, as `put_request` puts it.
@@ -213,7 +193,5 @@ pub fn write_request(alloc: Global, request: &Request) -> Result<Vec<u8>, WriteF
     ensures spelled { IfOk result (λ bytes. spell request.now ≡ Some bytes.items) }
     ensures too_long { IsErrOf result WriteFault.TooLong → spell request.now ≡ None }
 {
-    let mut frame = Vec::with_capacity(alloc, USUAL_FRAME)?;
-    put_request(&mut frame, request)?;
-    Ok(frame)
+    write_message(alloc, request)
 }

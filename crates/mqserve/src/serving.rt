@@ -28,28 +28,28 @@ pub fn serve<
         + Wait
         + Sync,
 >(rt: &R, serving: &Serving) -> Result<(), ProgramFault> {
-    serve_by::<Brand, R>(rt, serving, Blank::new(1 << 63))
-}
-
-fn serve_by<
-    L: Ledger + Send + Sync,
-    R: AllocGlobal
-        + Files
-        + Print
-        + Net<Listener = TcpListener, Stream = TcpStream>
-        + Threads
-        + Wait
-        + Sync,
->(rt: &R, serving: &Serving, blank: Blank) -> Result<(), ProgramFault>
-    requires name { blank.name ≡ L.name }
-    requires parts { blank.parts ≡ L.parts }
-    requires many { blank.parts ≡ 2 ^ 63 }
-{
     let users = users_of(rt, serving.users.as_str())?;
     let config = Config {
         users,
         limits: serving.limits,
     };
+    serve_book::<Brand, R>(rt, serving, config, Blank::new(1 << 63))
+}
+
+/// Serves over a new book.
+fn serve_book<
+    L: Ledger + Send + Sync,
+    R: AllocGlobal
+        + Print
+        + Net<Listener = TcpListener, Stream = TcpStream>
+        + Threads
+        + Wait
+        + Sync,
+>(rt: &R, serving: &Serving, config: Config, blank: Blank) -> Result<(), ProgramFault>
+    requires name { blank.name ≡ L.name }
+    requires parts { blank.parts ≡ L.parts }
+    requires many { blank.parts ≡ 2 ^ 63 }
+{
     let book: Book<L> = match Book::new(rt.alloc(), config, blank) {
         Ok(book) => book,
         Err(fault) => return Err(ScriptFault::from(fault).into()),

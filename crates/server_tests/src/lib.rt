@@ -1,17 +1,6 @@
-//! The tests of the server: connections over memory and over loopback, and what they leave in the shared book.
+//! The tests of the server and of the shared book: seats on threads, connections over memory and over loopback, and what
+//! they leave in the book.
 #![tactic(auto)]
 
 #[cfg(test)]
-mod books;
-#[cfg(test)]
-mod fault_tests;
-#[cfg(test)]
-mod hold_tests;
-#[cfg(test)]
-mod loopback_tests;
-#[cfg(test)]
-mod memory_tests;
-#[cfg(test)]
-mod signs;
-#[cfg(test)]
-mod streams;
+mod tests;

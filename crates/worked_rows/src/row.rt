@@ -2,6 +2,7 @@
 
 use ipc_program::{ProgramFault, Task, task_of_words};
 use ipc_script::run_script;
+use row_files::{first_difference, read};
 use std::alloc::{AllocError, Global};
 use std::rt::Files;
 use std::{fs, io};
@@ -82,28 +83,8 @@ fn read_or(
     extension: &str,
     missing: &str,
 ) -> io::Result<String> {
-    let alloc = rt.alloc();
-    match fs::read_to_string(rt, format!(in alloc; "{name}.{extension}")?) {
-        Err(e) if e.kind() == io::ErrorKind::NotFound => Ok(String::from_str(alloc, missing)?),
+    match read(rt, name, extension) {
+        Err(e) if e.kind() == io::ErrorKind::NotFound => Ok(String::from_str(rt.alloc(), missing)?),
         text => text,
-    }
-}
-
-/// The first line in which two texts differ.
-fn first_difference(
-    alloc: Global,
-    given: &str,
-    wanted: &str,
-) -> Result<Option<String>, AllocError> {
-    let mut lines = wanted.split('\n');
-    for (number, line) in (1u64..).zip(given.split('\n')) {
-        let other = lines.next();
-        if other != Some(line) {
-            return Ok(Some(format!(in alloc; "line {number} is {line:?}, and not {other:?}")?));
-        }
-    }
-    match lines.next() {
-        Some(line) => Ok(Some(format!(in alloc; "lacks the line {line:?}")?)),
-        None => Ok(None),
     }
 }

@@ -1,5 +1,5 @@
 use Rattle.mqserve.proofs.serving.serve.Given as goal
 
 -- the ledger that the blank opens
-abbrev pub ghosts-serve_by : goal.ghosts-serve_by
-ghosts-serve_by g a = record { name = a.blank.name; parts = a.blank.parts }
+abbrev pub ghosts-serve_book : goal.ghosts-serve_book
+ghosts-serve_book g a = record { name = a.blank.name; parts = a.blank.parts }

@@ -1,9 +1,7 @@
-use Rattle.std.proofs.Common.{rules, refl}
-use Rattle.std.specs.Prelude.{Err}
-use Rattle.ipc_book.specs.Seats.{without_back}
+use Rattle.std.proofs.Common.{rules}
 use Rattle.ipc_book.proofs.LastReceipts.{stale_across}
 use Rattle.ipc_book.proofs.book.Book.step_for.Goals as goal
 
-pub returns-in-Err-clause-stale : goal.returns-in-Err-clause-stale
-returns-in-Err-clause-stale g c =
-    stale_across c.args.self.now.core c.args.self.now.core c.args.seat.now.list c.args.seat.now.list (without_back c.step_made.result) (Err c.in-Err.fault) c.in-Err.fault (search rules) refl refl refl c.step_made.ensures.stale
+pub returns-in_err-receipt-clause-stale : goal.returns-in_err-receipt-clause-stale
+returns-in_err-receipt-clause-stale g c =
+    stale_across c.args.self.now.core c.args.seat.now.list c.step_event.result c.from_residual.result c.in_err-receipt.field-0.0 (search rules) (search rules) c.step_event.ensures.stale

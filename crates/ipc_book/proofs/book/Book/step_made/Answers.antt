@@ -5,4 +5,4 @@ use Rattle.ipc_book.proofs.book.Book.step_made.Goals as goal
 
 pub returns-clause-stale : goal.returns-clause-stale
 returns-clause-stale g c =
-    stale_moved c.self.inside.core c.args.self.now.core c.seat.inside.receipts.list c.args.seat.now.list (without_back c.enter_or_back.result) (ap (λ (b : BookView). b.core) c.self.view_is) (ap (λ (s : SeatView). s.list) c.seat.view_is) c.enter_or_back.ensures.stale
+    stale_moved c.self.inside.core c.args.self.now.core c.seat.inside.receipts.list c.args.seat.now.list (without_back c.enter.result) (ap (λ (b : BookView). b.core) c.self.view_is) (ap (λ (s : SeatView). s.list) c.seat.view_is) c.enter.ensures.stale

@@ -1,16 +1,18 @@
-use Rattle.std.proofs.Common.{◌<◌, length, sym, ◌∙◌, arith}
-use Rattle.ipc_terms.proofs.Lists.{stands_there}
-use Rattle.ipc_hub.proofs.HubLemmas.{hung_up_sessions, hung_up_is}
+use Rattle.std.proofs.Common.{ap}
+use Rattle.ipc_hub.specs.Hub.{Hub}
+use Rattle.ipc_hub.proofs.HubLemmas.{hung_up_sessions, hung_up_is, found_there, found_open}
 use Rattle.ipc_hub.proofs.hub.Hub.hang_up.Goals as goal
 
 pub invariant_of-self-2 : goal.invariant_of-self-2
 invariant_of-self-2 c =
-    let lt : c.args.conn.0 < length c.self.inside.connections.items = (let less = c.if-len-i.false in let n = c.len.ensures in omega arith) in
-    let there = stands_there c.self.inside.connections.items c.args.conn.0 c.index_mut-connection.result.now lt c.index_mut-connection.ensures.value in
-    hung_up_sessions c.self.inside.core c.hang_up.new.core c.self.inside.connections.items c.args.conn.0 c.index_mut-connection.result.now c.hang_up.new.self c.self.invariant there (sym c.is_over.ensures ∙ c.if-is_over.false) c.in_ok-hang_up.ensures.core c.in_ok-hang_up.ensures.ok
+    let same = ap (λ (h : Hub). h.connections) c.self.view_is in
+    let there = found_there c.args.self.now c.self.inside.connections.items c.in_ok-i.i c.index_mut-connection.result.now same c.in_ok-i.ensures.ok.1 c.index_mut-connection.ensures.value in
+    let still = found_open c.args.self.now c.self.inside.connections.items c.in_ok-i.i c.args.conn.0 c.index_mut-connection.result.now same c.in_ok-i.ensures.ok.0 there c.in_ok-i.ensures.none in
+    hung_up_sessions c.self.inside.core c.hang_up.new.core c.self.inside.connections.items c.in_ok-i.i c.index_mut-connection.result.now c.hang_up.new.self c.self.invariant there still c.in_ok-hang_up.ensures.core c.in_ok-hang_up.ensures.ok
 
 pub returns-clause-ok : goal.returns-clause-ok
 returns-clause-ok c =
-    let lt : c.args.conn.0 < length c.self.inside.connections.items = (let less = c.if-len-i.false in let n = c.len.ensures in omega arith) in
-    let there = stands_there c.self.inside.connections.items c.args.conn.0 c.index_mut-connection.result.now lt c.index_mut-connection.ensures.value in
-    hung_up_is c.args.self.now c.self.inside.core c.hang_up.new.core c.self.inside.connections.items c.args.conn.0 c.index_mut-connection.result.now c.hang_up.new.self c.self.view_is there (sym c.is_over.ensures ∙ c.if-is_over.false) c.in_ok-hang_up.ensures.core c.in_ok-hang_up.ensures.ok
+    let same = ap (λ (h : Hub). h.connections) c.self.view_is in
+    let there = found_there c.args.self.now c.self.inside.connections.items c.in_ok-i.i c.index_mut-connection.result.now same c.in_ok-i.ensures.ok.1 c.index_mut-connection.ensures.value in
+    let still = found_open c.args.self.now c.self.inside.connections.items c.in_ok-i.i c.args.conn.0 c.index_mut-connection.result.now same c.in_ok-i.ensures.ok.0 there c.in_ok-i.ensures.none in
+    hung_up_is c.args.self.now c.self.inside.core c.hang_up.new.core c.self.inside.connections.items c.in_ok-i.i c.args.conn.0 c.index_mut-connection.result.now c.hang_up.new.self c.self.view_is c.in_ok-i.ensures.ok.0 there still c.in_ok-hang_up.ensures.core c.in_ok-hang_up.ensures.ok

@@ -1,5 +1,0 @@
-use Rattle.ipc_fields.proofs.FramingLemmas.{put_first}
-use Rattle.ipc_wire.proofs.request_writing.write_request.Goals as goal
-
-pub returns-clause-spelled : goal.returns-clause-spelled
-returns-clause-spelled c = put_first _ _ _ c.in_ok-frame.ensures.items c.in_ok-put_request.ensures.put
