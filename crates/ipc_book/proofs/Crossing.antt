@@ -12,7 +12,7 @@ use denote.Struct.Tuple.{TupleAt, type_at}
 use Rattle.std.specs.contracts.alloc.Global as heap
 use Rattle.std.specs.contracts.snapshot.Snapshot as snapshot
 use Rattle.std.proofs.option.Option.TheSendSync as option
-use Rattle.std.proofs.collections.BTreeMap.TheSendSync as map
+use Rattle.ipc_numbered.proofs.Numbered.TheSendSync as numbered
 use Rattle.std.proofs.vec.Vec.TheSendSync as vec
 use Rattle.std.proofs.alloc.Global.TheSendSync as global
 use Rattle.std.below.std_heap.proofs.GlobalAllocator.TheSendSync as globals
@@ -71,7 +71,7 @@ pub row_send : IsSend row.the_row
 row_send = search (sendable, body_send, object.the_field_send, facts.the_field_send) depth 20
 
 pub objects_send : IsSend (objects.the_field).row
-objects_send = search (sendable, row_send, map.the_send, charges.the_send, global.the_send, globals.the_frees) depth 20
+objects_send = search (sendable, row_send, numbered.the_send, charges.the_send, global.the_send, globals.the_frees) depth 20
 
 pub tables_inside_send : IsSend tables_inside.the_row
 tables_inside_send = search (sendable, objects_send, globals.the_frees, vec.the_send, global.the_send, sessions.the_send, dir.the_send, descrs.the_send) depth 20

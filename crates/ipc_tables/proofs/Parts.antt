@@ -4,10 +4,8 @@ use Rattle.std.proofs.Common.{◌≡◌, Bool, true, false, cond, ℕ, List, [],
 use Rattle.std.specs.Prelude.{option_and_then}
 use Rattle.std.specs.Borrow.{MutBor}
 use Rattle.std.specs.Option.{OnSome, option_copied_mut}
-use Rattle.std.specs.Map.{lookup}
-use Rattle.std.specs.BTreeMap.{BTreeMap, is_at}
-use Rattle.std.specs.Ordering.{nat_cmp}
 use Rattle.ipc_terms.specs.Lists.{changed_first}
+use Rattle.ipc_numbered.specs.Slots.{at as slot_at}
 use Rattle.ipc_queue.specs.Tickets.{Tickets}
 use Rattle.ipc_sem.specs.Counters.{Counter}
 use Rattle.ipc_tables.specs.declared.objects.Objects.{Objects}
@@ -80,15 +78,15 @@ module _ {A : Type 0} {of : Body → Option A} {make : A → Body} {with_part : 
   made : (change : A → A) (x : A) (body : Body) → of body ≡ Some x → with_part change body ≡ make (change x)
   made change x body e = ap (with_part change) (part.there x body e) ∙ part.changed change x
 
-  pub part_there : (w : Option ObjectRow) → IsCounted objects → lookup (is_at (nat_cmp o)) objects.rows.entries ≡ w → part_at of (rows_in objects) o ≡ option_and_then (λ (row : ObjectRow). of row.body) w
+  pub part_there : (w : Option ObjectRow) → IsCounted objects → slot_at objects.rows o ≡ w → part_at of (rows_in objects) o ≡ option_and_then (λ (row : ObjectRow). of row.body) w
   part_there w is e = ap (option_and_then (λ (row : ObjectRow). of row.body)) (row_there o objects w is e)
 
   -- it is written in its row
-  pub part_set : (row : ObjectRow) (map : BTreeMap ℕ ObjectRow) (x w : A) → IsCounted objects → of row.body ≡ Some x → Sets o row (record row { body = make w }) objects.rows.entries map.entries → HasRows (with_changed o (with_part (λ y. w)) (rows_in objects)) objects (record objects { rows = map })
-  part_set row map x w is e set =
+  pub part_set : (row : ObjectRow) (slots : List (Option ObjectRow)) (x w : A) → IsCounted objects → of row.body ≡ Some x → Sets o row (record row { body = make w }) objects.rows slots → HasRows (with_changed o (with_part (λ y. w)) (rows_in objects)) objects (record objects { rows = slots })
+  part_set row slots x w is e set =
       let next = made (λ y. w) x row.body e in
       let kind = ap (λ b. is_some (queue_in b)) next ∙ part.kind w x ∙ sym (ap (λ b. is_some (queue_in b)) (part.there x row.body e)) in
-      row_written o (λ r. record r { body = with_part (λ y. w) r.body }) row objects map is refl kind (sets_body o row (make w) _ objects.rows.entries map.entries set.there set.sets (sym next))
+      row_written o (λ r. record r { body = with_part (λ y. w) r.body }) row objects slots is refl kind (sets_body o row (make w) _ objects.rows slots set (sym next))
 
   module _ (after : Objects) (r : Option (MutBor A)) (value : option_copied_mut r ≡ part_at of (rows_in objects) o) where
     lent : (x : MutBor A) → r ≡ Some x → part_at of (rows_in objects) o ≡ Some x.now

@@ -1,20 +1,17 @@
 -- Where all objects but one are kept, to remove that one is to keep the others; and what is given back then.
-use Rattle.std.proofs.Common.{◌≡◌, ◌≢◌, Bool, true, false, cond, ℕ, ◌+◌, ◌≤◌, ◌<◌, ◌==◌, List, [], ◌∷◌, Some, None, refl, sym, ap, ◌∙◌, arith, find, filter}
+use Rattle.std.proofs.Common.{◌≡◌, ◌≢◌, Bool, true, false, cond, ℕ, zero, suc, ◌+◌, ◌≤◌, ◌<◌, List, [], ◌∷◌, Option, Some, None, refl, sym, ap, ◌∙◌, arith, find, filter}
 use Rattle.std.specs.List.{AllByRecursion}
-use Rattle.std.specs.Option.{option_map, unwrap_or}
-use Rattle.std.specs.Map.{lookup, remove_entry, values_of}
-use Rattle.std.specs.BTreeMap.{is_at}
-use Rattle.std.specs.Ordering.{nat_cmp}
 use Rattle.std.proofs.lemmas.Bool.{eq-eqb}
 use Rattle.std.proofs.lemmas.Bool.Decides.{nat_tests}
-use Rattle.std.proofs.lemmas.Map.Entries.{sum_by-remove_entry}
 use Rattle.ipc_descr.specs.declared.charges.Charge.{Charge}
 use Rattle.ipc_descr.specs.Charges.{used_of, with_less}
-use Rattle.ipc_descr.proofs.PlacesLemmas.{is_at_number}
+use Rattle.ipc_terms.specs.Lists.{changed}
+use Rattle.ipc_numbered.specs.Slots.{at as slot_at, emptied}
 use Rattle.ipc_tables.specs.declared.rows.ObjectRow.{ObjectRow}
 use Rattle.ipc_tables.specs.Objects.{is_number}
 use Rattle.ipc_tables.specs.Charging.{taken_by, taken, Covered, settled}
-use Rattle.ipc_tables.specs.Standing.{Numbered, OthersKept}
+use Rattle.ipc_tables.specs.Standing.{rows_of, InPlace, OthersKept}
+use Rattle.ipc_tables.proofs.Numbering.{sum_changed}
 
 -- ---- none is to be removed
 
@@ -60,47 +57,50 @@ touched_absent keep o (row ∷ rows) e all = absent_by_test keep o row rows (is_
 
 -- ---- one is removed
 
-all_above : (keep : ObjectRow → Bool) (o low high : ℕ) (entries : List (ℕ × ObjectRow)) → Numbered low high entries → o < low → OthersKept (Some o) keep (values_of entries) → AllKept keep (values_of entries)
-all_above keep o low high [] h above all = tt
-all_above keep o low high (entry ∷ entries) h above all =
-    let l : low ≤ entry.0 = h.0 in
-    let is : entry.1.number ≡ entry.0 = h.1 in
-    (all.0 (λ e. let same : o ≡ entry.1.number = cc in omega arith), all_above keep o (entry.0 + 1) high entries h.2 (omega arith) all.1)
+all_above : (keep : ObjectRow → Bool) (o n : ℕ) (slots : List (Option ObjectRow)) → InPlace n slots → o < n → OthersKept (Some o) keep (rows_of slots) → AllKept keep (rows_of slots)
+all_above keep o n [] h above all = tt
+all_above keep o n (None ∷ slots) h above all = all_above keep o (n + 1) slots h.1 (omega arith) all
+all_above keep o n (Some row ∷ slots) h above all =
+    let is : row.number ≡ n = h.0 in
+    (all.0 (λ e. let same : o ≡ row.number = cc in omega arith), all_above keep o (n + 1) slots h.1 (omega arith) all.1)
 
 -- what removing the row leaves, and gives back
-pub record Removed (keep : ObjectRow → Bool) (o : ℕ) (row : ObjectRow) (entries : List (ℕ × ObjectRow)) : Type 0 where
-  pub rows : values_of (remove_entry (is_at (nat_cmp o)) entries) ≡ filter keep (values_of entries)
-  pub charges : (c : List Charge) → with_less c row.object.creator.0 row.bytes ≡ settled keep (values_of entries) c
+pub record Removed (keep : ObjectRow → Bool) (i : ℕ) (row : ObjectRow) (slots : List (Option ObjectRow)) : Type 0 where
+  pub rows : rows_of (changed emptied slots i) ≡ filter keep (rows_of slots)
+  pub charges : (c : List Charge) → with_less c row.object.creator.0 row.bytes ≡ settled keep (rows_of slots) c
 
-removed_by_test : (keep : ObjectRow → Bool) (o low high : ℕ) (row : ObjectRow) (entry : ℕ × ObjectRow) (entries : List (ℕ × ObjectRow)) (b : Bool) → is_at (nat_cmp o) entry.0 ≡ b → Numbered low high (entry ∷ entries) → OthersKept (Some o) keep (values_of (entry ∷ entries)) → keep row ≡ false → cond b (Some entry.1) (lookup (is_at (nat_cmp o)) entries) ≡ Some row → (lookup (is_at (nat_cmp o)) entries ≡ Some row → Removed keep o row entries) → Removed keep o row (entry ∷ entries)
-removed_by_test keep o low high row entry entries true is h all dead e rest =
-    let here : entry.1 ≡ row = cc in
-    let n : o ≡ entry.0 = let t : (o == entry.0) ≡ true = sym (is_at_number o entry.0) ∙ is in grind (arith, nat_tests) in
-    let gone : keep entry.1 ≡ false = ap keep here ∙ dead in
-    let kept = all_above keep o (entry.0 + 1) high entries h.2 (omega arith) all.1 in
+removed_first : (keep : ObjectRow → Bool) (o n : ℕ) (row first : ObjectRow) (slots : List (Option ObjectRow)) → InPlace n (Some first ∷ slots) → o ≡ n + 0 → OthersKept (Some o) keep (rows_of (Some first ∷ slots)) → keep row ≡ false → first ≡ row → Removed keep 0 row (Some first ∷ slots)
+removed_first keep o n row first slots h is all dead here =
+    let gone : keep first ≡ false = ap keep here ∙ dead in
+    let kept = all_above keep o (n + 1) slots h.1 (omega arith) all.1 in
     record {
-      rows = rw (is, gone) (sym (filter_all keep (values_of entries) kept));
-      charges = λ c. ap (λ (r : ObjectRow). with_less c r.object.creator.0 r.bytes) (sym here) ∙ sym (settled_gone keep entry.1 (values_of entries) c gone ∙ settled_all keep (values_of entries) (with_less c entry.1.object.creator.0 entry.1.bytes) kept);
-    }
-removed_by_test keep o low high row entry entries false is h all dead e rest =
-    let number : entry.1.number ≡ entry.0 = h.1 in
-    let apart : (o == entry.0) ≡ false = sym (is_at_number o entry.0) ∙ is in
-    let kept : keep entry.1 ≡ true = all.0 (λ k. let same : o ≡ entry.1.number = cc in grind (arith, nat_tests)) in
-    let later = rest e in
-    record {
-      rows = rw (is, kept) (ap (λ rs. entry.1 ∷ rs) later.rows);
-      charges = λ c. later.charges c ∙ sym (settled_kept keep entry.1 (values_of entries) c kept);
+      rows = rw gone (sym (filter_all keep (rows_of slots) kept));
+      charges = λ c. ap (λ (r : ObjectRow). with_less c r.object.creator.0 r.bytes) (sym here) ∙ sym (settled_gone keep first (rows_of slots) c gone ∙ settled_all keep (rows_of slots) (with_less c first.object.creator.0 first.bytes) kept);
     }
 
-pub removed : (keep : ObjectRow → Bool) (o low high : ℕ) (row : ObjectRow) (entries : List (ℕ × ObjectRow)) → Numbered low high entries → OthersKept (Some o) keep (values_of entries) → keep row ≡ false → lookup (is_at (nat_cmp o)) entries ≡ Some row → Removed keep o row entries
-removed keep o low high row [] h all dead e = cc
-removed keep o low high row (entry ∷ entries) h all dead e = removed_by_test keep o low high row entry entries (is_at (nat_cmp o) entry.0) refl h all dead e (λ k. removed keep o (entry.0 + 1) high row entries h.2 all.1 dead k)
+removed_later : (keep : ObjectRow → Bool) (o n i : ℕ) (row first : ObjectRow) (slots : List (Option ObjectRow)) → InPlace n (Some first ∷ slots) → o ≡ n + suc i → OthersKept (Some o) keep (rows_of (Some first ∷ slots)) → Removed keep i row slots → Removed keep (suc i) row (Some first ∷ slots)
+removed_later keep o n i row first slots h is all rest =
+    let number : first.number ≡ n = h.0 in
+    let kept : keep first ≡ true = all.0 (λ e. let same : o ≡ first.number = cc in omega arith) in
+    record {
+      rows = rw kept (ap (λ rows. first ∷ rows) rest.rows);
+      charges = λ c. rest.charges c ∙ sym (settled_kept keep first (rows_of slots) c kept);
+    }
+
+pub removed : (keep : ObjectRow → Bool) (o n i : ℕ) (row : ObjectRow) (slots : List (Option ObjectRow)) → InPlace n slots → o ≡ n + i → OthersKept (Some o) keep (rows_of slots) → keep row ≡ false → slot_at slots i ≡ Some row → Removed keep i row slots
+removed keep o n i row [] h is all dead e = cc
+removed keep o n zero row (None ∷ slots) h is all dead e = absurd cc
+removed keep o n (suc i) row (None ∷ slots) h is all dead e =
+    let rest = removed keep o (n + 1) i row slots h.1 (omega arith) all dead e in
+    record { rows = rest.rows; charges = rest.charges }
+removed keep o n zero row (Some first ∷ slots) h is all dead e = removed_first keep o n row first slots h is all dead cc
+removed keep o n (suc i) row (Some first ∷ slots) h is all dead e = removed_later keep o n i row first slots h is all (removed keep o (n + 1) i row slots h.1 (omega arith) all.1 dead e)
 
 -- its creator is charged with what it gives back
-pub removed_covered : (test : ℕ → Bool) (row : ObjectRow) (entries : List (ℕ × ObjectRow)) (charges : List Charge) → lookup test entries ≡ Some row → Covered charges (values_of entries) → row.bytes ≤ used_of charges row.object.creator.0
-removed_covered test row entries charges e covered =
+pub removed_covered : (row : ObjectRow) (slots : List (Option ObjectRow)) (i : ℕ) (charges : List Charge) → slot_at slots i ≡ Some row → Covered charges (rows_of slots) → row.bytes ≤ used_of charges row.object.creator.0
+removed_covered row slots i charges e covered =
     let u = row.object.creator.0 in
-    let all : taken u (values_of entries) ≤ used_of charges u = covered u in
+    let all : taken u (rows_of slots) ≤ used_of charges u = covered u in
     let own : taken_by u row ≡ row.bytes = ap (λ b. cond b row.bytes 0) (eq-eqb u u refl) in
-    let sums : taken u (values_of (remove_entry test entries)) + taken_by u row ≡ taken u (values_of entries) = ap (λ w. taken u (values_of (remove_entry test entries)) + unwrap_or (option_map (taken_by u) w) 0) (sym e) ∙ sum_by-remove_entry (taken_by u) test entries in
+    let sums : taken u (rows_of (changed emptied slots i)) + taken_by u row ≡ taken u (rows_of slots) + 0 = sum_changed (taken_by u) None row slots i e in
     omega arith

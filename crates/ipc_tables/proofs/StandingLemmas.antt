@@ -2,13 +2,10 @@
 use Rattle.std.proofs.Common.{◌≡◌, Bool, true, false, cond, ℕ, ◌+◌, ◌==◌, ◌||◌, List, [], ◌∷◌, ◌++◌, Option, Some, None, refl, sym, ap, ◌∙◌, arith, find, filter, map, is_some, length, count_by, if◌then◌else◌}
 use Rattle.std.specs.List.{AllByRecursion, list_any}
 use Rattle.std.specs.Option.{option_map, option_and_then}
-use Rattle.std.specs.Map.{lookup, set_value, values_of}
-use Rattle.std.specs.BTreeMap.{is_at, insert_entry}
-use Rattle.std.specs.Ordering.{nat_cmp}
 use Rattle.std.proofs.lemmas.Bool.{or_left, or_right, eq-eqb}
 use Rattle.std.proofs.lemmas.Bool.Decides.{nat_tests}
 use Rattle.std.proofs.lemmas.List.Sums.{sum_by_push}
-use Rattle.ipc_terms.specs.Lists.{changed_first}
+use Rattle.ipc_terms.specs.Lists.{changed, changed_first}
 use Rattle.ipc_terms.specs.declared.binding.Binding.{Binding}
 use Rattle.ipc_terms.specs.declared.facts.Facts.{Facts}
 use Rattle.ipc_terms.specs.declared.ids.Desc.{Desc}
@@ -21,6 +18,7 @@ use Rattle.ipc_queue.specs.Tickets.{Tickets, is_full_of, with_sender, with_ticke
 use Rattle.ipc_sem.specs.Counters.{Counter}
 use Rattle.ipc_descr.specs.declared.row.Row.{Row}
 use Rattle.ipc_descr.specs.Descriptions.{is_desc, is_to, is_open, with_nonblock}
+use Rattle.ipc_numbered.specs.Slots.{at as slot_at}
 use Rattle.ipc_tables.specs.declared.objects.Objects.{Objects}
 use Rattle.ipc_tables.specs.declared.rows.Body.{Body}
 use Rattle.ipc_tables.specs.declared.rows.Body.TheVariants.{Queue as QueueBody, Semaphore as SemaphoreBody}
@@ -29,22 +27,29 @@ use Rattle.ipc_tables.specs.declared.tables.Tables.TheInside.{Inside}
 use Rattle.ipc_tables.specs.Objects.{is_number, is_queue, queue_in, registered_in, with_body, with_counter, with_queue, with_semaphore, with_facts, with_withdrawal, without_call, held_by, with_held}
 use Rattle.ipc_tables.specs.TablesView.{is_alive, is_kept}
 use Rattle.ipc_tables.specs.Lending.{HasRows}
-use Rattle.ipc_tables.specs.Standing.{rows_in, IsCounted, BoundOnce, IsOwn, IsStanding}
-use Rattle.ipc_tables.proofs.Numbering.{set_numbered, set_count, inserted_last, numbered_last, values_last}
+use Rattle.ipc_tables.specs.Standing.{rows_in, rows_of, IsCounted, BoundOnce, IsOwn, IsStanding}
+use Rattle.ipc_tables.proofs.Numbering.{set_numbered, sum_changed, numbered_last, rows_last}
 use Rattle.ipc_tables.proofs.Touching.{all_mapped, all_filtered, names_equal}
 use Rattle.ipc_tables.proofs.Narrowing.{released_none, released}
 
 -- ---- a row changes
 
--- what one row of the map is set to
-pub record Sets (o : ℕ) (row next : ObjectRow) (entries after : List (ℕ × ObjectRow)) : Type 0 where
-  pub there : lookup (is_at (nat_cmp o)) entries ≡ Some row
-  pub sets : after ≡ set_value (is_at (nat_cmp o)) entries next
+-- what the row of a slot is set to
+pub record Sets (o : ℕ) (row next : ObjectRow) (slots after : List (Option ObjectRow)) : Type 0 where
+  pub there : slot_at slots o ≡ Some row
+  pub sets : after ≡ changed (λ slot. Some next) slots o
 
-pub counted_still : (o : ℕ) (row next : ObjectRow) (objects after : Objects) → next.number ≡ row.number → is_queue next ≡ is_queue row → Sets o row next objects.rows.entries after.rows.entries → after.created ≡ objects.created → after.queue_count ≡ objects.queue_count → IsCounted objects → IsCounted after
-counted_still o row next objects after number kind set created count is = record {
-  numbered = rw (set.sets, created) (set_numbered (is_at (nat_cmp o)) 0 objects.created row next objects.rows.entries set.there number is.numbered);
-  counted = rw (set.sets) (count ∙ is.counted ∙ sym (set_count (is_at (nat_cmp o)) row next objects.rows.entries set.there kind));
+set_count : (o : ℕ) (row next : ObjectRow) (slots : List (Option ObjectRow)) → slot_at slots o ≡ Some row → is_queue next ≡ is_queue row → count_by is_queue (rows_of (changed (λ slot. Some next) slots o)) ≡ count_by is_queue (rows_of slots)
+set_count o row next slots there same =
+    let weight : ObjectRow → ℕ = λ r. cond (is_queue r) 1 0 in
+    let sums = sum_changed weight (Some next) row slots o there in
+    let alike : weight next ≡ weight row = ap (λ b. cond b 1 0) same in
+    omega arith
+
+pub counted_still : (o : ℕ) (row next : ObjectRow) (objects after : Objects) → next.number ≡ row.number → is_queue next ≡ is_queue row → Sets o row next objects.rows after.rows → after.queue_count ≡ objects.queue_count → IsCounted objects → IsCounted after
+counted_still o row next objects after number kind set count is = record {
+  numbered = rw set.sets (set_numbered 0 o row next objects.rows set.there number is.numbered);
+  counted = rw set.sets (count ∙ is.counted ∙ sym (set_count o row next objects.rows set.there kind));
 }
 
 -- the object keeps its number, and what is registered there is its own still
@@ -349,10 +354,10 @@ named_stands queues semaphores queues' semaphores' rows objects one two is = rec
 
 -- ---- an object more
 
--- the same rows, in another map
-pub same_stands : (queues semaphores : Directory) (rows : List Row) (objects after : Objects) → after.rows.entries ≡ objects.rows.entries → after.created ≡ objects.created → after.queue_count ≡ objects.queue_count → IsStanding queues semaphores rows objects → IsStanding queues semaphores rows after
-same_stands queues semaphores rows objects after same created count is = record {
-  counted = record { numbered = rw (same, created) is.counted.numbered; counted = rw same (count ∙ is.counted.counted) };
+-- the same rows, in other slots
+pub same_stands : (queues semaphores : Directory) (rows : List Row) (objects after : Objects) → after.rows ≡ objects.rows → after.queue_count ≡ objects.queue_count → IsStanding queues semaphores rows objects → IsStanding queues semaphores rows after
+same_stands queues semaphores rows objects after same count is = record {
+  counted = record { numbered = rw same is.counted.numbered; counted = rw same (count ∙ is.counted.counted) };
   queue_names = is.queue_names;
   semaphore_names = is.semaphore_names;
   kept = rw same is.kept;
@@ -365,28 +370,25 @@ all_last P (y ∷ ys) x all here = (all.0, all_last P ys x all.1 here)
 
 -- what is added
 pub record Adds (new : ObjectRow) (row : Row) (objects after : Objects) : Type 0 where
-  pub number : new.number ≡ objects.created
+  pub number : new.number ≡ length objects.rows
   pub unregistered : registered_in new.body ≡ None
-  pub gives : row.object ≡ objects.created
-  pub entries : after.rows.entries ≡ insert_entry nat_cmp objects.rows.entries objects.created new
-  pub created : after.created ≡ objects.created + 1
+  pub gives : row.object ≡ length objects.rows
+  pub slots : after.rows ≡ objects.rows ++ Some new ∷ []
   pub count : after.queue_count ≡ objects.queue_count + cond (is_queue new) 1 0
 
-pub added_rows : (new : ObjectRow) (row : Row) (objects after : Objects) → Adds new row objects after → IsCounted objects → rows_in after ≡ rows_in objects ++ new ∷ []
-added_rows new row objects after adds is = ap values_of (adds.entries ∙ inserted_last 0 objects.created new objects.rows.entries is.numbered) ∙ values_last objects.created new objects.rows.entries
+pub added_rows : (new : ObjectRow) (row : Row) (objects after : Objects) → Adds new row objects after → rows_in after ≡ rows_in objects ++ new ∷ []
+added_rows new row objects after adds = ap rows_of adds.slots ∙ rows_last new objects.rows
 
 added_counted : (new : ObjectRow) (row : Row) (objects after : Objects) → Adds new row objects after → IsCounted objects → IsCounted after
-added_counted new row objects after adds is =
-    let last = adds.entries ∙ inserted_last 0 objects.created new objects.rows.entries is.numbered in
-    record {
-      numbered = rw (adds.created, last) (numbered_last 0 objects.created new objects.rows.entries is.numbered adds.number);
-      counted = adds.count ∙ ap (λ n. n + cond (is_queue new) 1 0) is.counted ∙ sym (sum_by_push (λ r. cond (is_queue r) 1 0) (rows_in objects) new) ∙ ap (count_by is_queue) (sym (added_rows new row objects after adds is));
-    }
+added_counted new row objects after adds is = record {
+  numbered = rw adds.slots (numbered_last 0 new objects.rows is.numbered (let here : new.number ≡ length objects.rows = adds.number in omega arith));
+  counted = adds.count ∙ ap (λ n. n + cond (is_queue new) 1 0) is.counted ∙ sym (sum_by_push (λ r. cond (is_queue r) 1 0) (rows_in objects) new) ∙ ap (count_by is_queue) (sym (added_rows new row objects after adds));
+}
 
 pub added_stands : (queues semaphores : Directory) (rows : List Row) (new : ObjectRow) (row : Row) (objects after : Objects) → Adds new row objects after → IsStanding queues semaphores rows objects → IsStanding queues semaphores (rows ++ row ∷ []) after
 added_stands queues semaphores rows new row objects after adds is =
     let wider = wider_stands queues semaphores rows (rows ++ row ∷ []) objects (wider_opened rows row) is in
-    let more = added_rows new row objects after adds is.counted in
+    let more = added_rows new row objects after adds in
     let opened : is_open (rows ++ row ∷ []) new.number ≡ true = any_last (is_to new.number) rows row (eq-eqb row.object new.number (adds.gives ∙ sym adds.number)) in
     record {
       counted = added_counted new row objects after adds is.counted;

@@ -1,5 +1,5 @@
 -- What the objects end as, once a queue or a semaphore that one of them lent was changed.
-use Rattle.std.specs.Prelude.{◌≡◌, ℕ, List, Option}
+use Rattle.std.specs.Prelude.{◌≡◌, ℕ, List, Option, length}
 use Rattle.std.specs.Option.{OnSome}
 use Rattle.std.specs.Borrow.{LendsSo, MutBor, Fml}
 use Rattle.ipc_terms.specs.Lists.{changed_first}
@@ -17,7 +17,7 @@ use Rattle.ipc_tables.specs.Standing.{rows_in, IsCounted}
 pub record HasRows (rows : List ObjectRow) (objects after : Objects) : Type 0 where
   pub counted : IsCounted after
   pub rows_are : rows_in after ≡ rows
-  pub created : after.created ≡ objects.created
+  pub created : length after.rows ≡ length objects.rows
   pub charges : after.charges ≡ objects.charges
 
 -- the queue that object o is ends as what was last written through r; where it is none, all stays

@@ -1,7 +1,6 @@
 -- What holds of the tables between calls, so that what a call ends is found by what it touches.
-use Rattle.std.specs.Prelude.{◌≡◌, ◌≢◌, ⊤, Bool, true, ℕ, ◌+◌, ◌≤◌, List, [], ◌∷◌, Option, Some, None, count_by, find}
-use Rattle.std.specs.List.{AllByRecursion}
-use Rattle.std.specs.Map.{values_of}
+use Rattle.std.specs.Prelude.{◌≡◌, ◌≢◌, ⊤, Bool, true, ℕ, ◌+◌, List, [], ◌∷◌, Option, Some, None, IfSome, count_by, find}
+use Rattle.std.specs.List.{AllByRecursion, filter_map}
 use Rattle.std.specs.Option.{option_map}
 use Rattle.ipc_terms.specs.declared.binding.Binding.{Binding}
 use Rattle.ipc_terms.specs.declared.ids.Desc.{Desc}
@@ -13,18 +12,22 @@ use Rattle.ipc_tables.specs.declared.rows.ObjectRow.{ObjectRow}
 use Rattle.ipc_tables.specs.Objects.{is_queue, registered_in, with_held}
 use Rattle.ipc_tables.specs.TablesView.{is_kept}
 
+-- the rows that are there, in the order of their slots
+abbrev pub rows_of : List (Option ObjectRow) → List ObjectRow
+rows_of slots = filter_map (λ slot. slot) slots
+
 -- the rows of the objects, in the order of their numbers
 abbrev pub rows_in : Objects → List ObjectRow
-rows_in objects = values_of objects.rows.entries
+rows_in objects = rows_of objects.rows
 
--- the numbers rise from `low` on and stay below `high`, and each leads to the row that has it
-abbrev pub Numbered : ℕ → ℕ → List (ℕ × ObjectRow) → Type 0
-Numbered low high [] = low ≤ high
-Numbered low high (entry ∷ entries) = (low ≤ entry.0) × (entry.1.number ≡ entry.0) × Numbered (entry.0 + 1) high entries
+-- each row has the number of its slot, where that of the first is n
+abbrev pub InPlace : ℕ → List (Option ObjectRow) → Type 0
+InPlace n [] = ⊤
+InPlace n (slot ∷ slots) = IfSome slot (λ row. row.number ≡ n) × InPlace (n + 1) slots
 
--- each object stands at its number, below that of the next, and the queues among them are counted
+-- each object stands at its number, and the queues among them are counted
 pub record IsCounted (objects : Objects) : Type 0 where
-  pub numbered : Numbered 0 objects.created objects.rows.entries
+  pub numbered : InPlace 0 objects.rows
   pub counted : objects.queue_count ≡ count_by is_queue (rows_in objects)
 
 -- no name is bound twice

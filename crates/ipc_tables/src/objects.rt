@@ -1,6 +1,6 @@
 //! The objects that are alive, and which of them a call ends.
 
-ghost use Rattle.std.specs.Prelude.{◌≡◌, map, filter};
+ghost use Rattle.std.specs.Prelude.{◌≡◌, map, filter, length};
 ghost use Rattle.std.specs.Option.{option_copied_mut};
 ghost use Rattle.ipc_tables.specs.Objects.{HasRoom, bytes_taken, queue_at, semaphore_at, with_held};
 ghost use Rattle.ipc_tables.specs.TablesView.{is_alive, is_kept};
@@ -10,17 +10,15 @@ ghost use Rattle.ipc_tables.specs.Standing.{rows_in, IsCounted, OthersKept, Othe
 use crate::rows::ObjectRow;
 use ipc_descr::{Charges, Descrs, bytes_of};
 use ipc_names::NameDir;
+use ipc_numbered::Numbered;
 use ipc_queue::Queue;
 use ipc_sem::Sem;
 use ipc_terms::Kind;
-use std::collections::BTreeMap;
 
 /// The objects that are alive, by their numbers, and what their creators are charged with.
 #[derive(Drop)]
 pub struct Objects {
-    pub rows: BTreeMap<u64, ObjectRow>,
-    /// How many were ever created: the number of the next.
-    pub created: u64,
+    pub rows: Numbered<ObjectRow>,
     /// How many of those that are alive are queues.
     pub queue_count: usize,
     /// How many bytes each user's queues take, and how many they may.
@@ -31,13 +29,20 @@ impl Objects {
     ghost use Rattle.std.specs.Borrow.{sem};
     ghost use Rattle.ipc_tables.specs.Lending.{LendsQueue, LendsSemaphore};
 
+    /// How many were ever created: the number of the next.
+    pub fn created(&self) -> u64
+        ensures { result ≡ length self.now.rows }
+    {
+        self.rows.next_number() as u64
+    }
+
     /// The queue that the object is, while it is alive, to be changed.
     pub fn queue_mut(&mut self, object: u64) -> Option<&mut Queue>
         requires { IsCounted self.old }
         ensures* writes_back { sem 𝓛 (LendsQueue self.entry object result) }
         ensures value { option_copied_mut result ≡ queue_at (rows_in self.old) object }
     {
-        self.rows.get_mut(&object)?.body.queue_mut()
+        self.rows.get_mut(object as usize)?.body.queue_mut()
     }
 
     /// The semaphore that the object is, while it is alive, to be changed.
@@ -46,7 +51,7 @@ impl Objects {
         ensures* writes_back { sem 𝓛 (LendsSemaphore self.entry object result) }
         ensures value { option_copied_mut result ≡ semaphore_at (rows_in self.old) object }
     {
-        self.rows.get_mut(&object)?.body.semaphore_mut()
+        self.rows.get_mut(object as usize)?.body.semaphore_mut()
     }
 
     /// Removes the object that was touched if nothing keeps it, and gives its creator back what it took.
@@ -63,7 +68,7 @@ impl Objects {
         ensures counted { IsCounted self.new }
         ensures rows { rows_in self.new ≡ filter (is_kept queues.now semaphores.now descriptions.now.rows) (rows_in self.old) }
         ensures charges { self.new.charges ≡ settled (is_kept queues.now semaphores.now descriptions.now.rows) (rows_in self.old) self.old.charges }
-        ensures created { self.new.created ≡ self.old.created }
+        ensures created { length self.new.rows ≡ length self.old.rows }
     {
         let Some(object) = touched else {
             return;
@@ -71,7 +76,7 @@ impl Objects {
         if is_alive(queues, semaphores, descriptions, object) {
             return;
         }
-        let Some(row) = self.rows.remove(&object) else {
+        let Some(row) = self.rows.take(object as usize) else {
             return;
         };
         self.queue_count -= usize::from(row.body.queue().is_some());
@@ -85,12 +90,12 @@ impl Objects {
         ensures counted { IsCounted self.new }
         ensures rows { rows_in self.new ≡ map (with_held descriptions.now.rows) (rows_in self.old) }
         ensures charges { self.new.charges ≡ self.old.charges }
-        ensures created { self.new.created ≡ self.old.created }
+        ensures created { length self.new.rows ≡ length self.old.rows }
     {
         let Some(object) = touched else {
             return;
         };
-        if let Some(row) = self.rows.get_mut(&object) {
+        if let Some(row) = self.rows.get_mut(object as usize) {
             release_row(row, descriptions);
         }
     }

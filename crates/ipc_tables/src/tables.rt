@@ -18,11 +18,11 @@ use crate::sessions::Sessions;
 use ipc_access::Users;
 use ipc_descr::{Charges, Descrs};
 use ipc_names::NameDir;
+use ipc_numbered::Numbered;
 use ipc_queue::{Queue, ReceiveOutcome, SendOutcome};
 use ipc_sem::{Sem, WaitOutcome};
 use ipc_terms::{Access, Desc, Facts, Family, Kind, Mode, Name, NoMemory, Object, Sid, Uid};
 use std::alloc::Global;
-use std::collections::BTreeMap;
 use std::marker::Model;
 
 /// Who opens a description, and what it gives besides the object.
@@ -52,12 +52,13 @@ pub struct Tables {
 }
 
 impl Model for Tables {
+    ghost use Rattle.std.specs.Prelude.{length};
     ghost use Rattle.ipc_tables.specs.TablesView.{TablesView};
     ghost use Rattle.ipc_tables.specs.Standing.{rows_in, IsStanding};
 
     ghost Value = { TablesView };
 
-    ghost view = { λ a. record { sessions = a.sessions; queues = a.queues; semaphores = a.semaphores; objects = rows_in a.objects; created = a.objects.created; descriptions = a.descriptions; charges = a.objects.charges } };
+    ghost view = { λ a. record { sessions = a.sessions; queues = a.queues; semaphores = a.semaphores; objects = rows_in a.objects; created = length a.objects.rows; descriptions = a.descriptions; charges = a.objects.charges } };
 
     ghost invariant = { λ a. IsStanding a.queues a.semaphores a.descriptions.rows a.objects };
 }
@@ -73,8 +74,7 @@ impl Tables {
             queues: NameDir::new(alloc, Family::Mq),
             semaphores: NameDir::new(alloc, Family::Sem),
             objects: Objects {
-                rows: BTreeMap::new(alloc),
-                created: 0,
+                rows: Numbered::new(alloc),
                 queue_count: 0,
                 charges,
             },
@@ -110,7 +110,7 @@ impl Tables {
     pub fn object(&self, number: u64) -> Option<&ObjectRow>
         ensures { option_copied result ≡ row_at self.now.objects number }
     {
-        self.objects.rows.get(&number)
+        self.objects.rows.get(number as usize)
     }
 
     /// The queue that the object is, while it is alive.
@@ -194,7 +194,7 @@ impl Tables {
         ensures err { OnErr result (self.new ≡ self.old) }
     {
         let family = object.kind.family();
-        let number = self.objects.created;
+        let number = self.objects.created();
         self.bind(family, name.clone()?, number)?;
         if self.add(alloc, grant, object, facts).is_err() {
             unbind(&mut self.queues, &mut self.semaphores, family, name);
@@ -218,7 +218,7 @@ impl Tables {
         ensures ok { OnOk result (self.new ≡ with_object self.old grant object facts) }
         ensures err { OnErr result (self.new ≡ self.old) }
     {
-        let number = self.objects.created;
+        let number = self.objects.created();
         let bytes = bytes_taken(object.kind);
         let row = ObjectRow {
             number,
@@ -227,12 +227,12 @@ impl Tables {
             bytes,
             body: Body::new(alloc, object.kind),
         };
-        self.objects.rows.insert(number, row)?;
+        self.objects.rows.push(alloc, row)?;
         let opened = self
             .descriptions
             .open(grant.session, number, grant.access, grant.nonblock);
         if opened.is_err() {
-            self.objects.rows.remove(&number);
+            self.objects.rows.truncate(number as usize);
             return Err(NoMemory);
         }
         let objects = &mut self.objects;
@@ -240,7 +240,6 @@ impl Tables {
             objects.queue_count += 1;
             objects.charges.add(object.creator, bytes);
         }
-        objects.created += 1;
         Ok(())
     }
 
@@ -354,7 +353,7 @@ impl Tables {
         let Some(object) = session.parked_on else {
             return;
         };
-        if let Some(row) = self.objects.rows.get_mut(&object) {
+        if let Some(row) = self.objects.rows.get_mut(object as usize) {
             row.body.withdraw(sid);
         }
         self.sessions.set_parked(sid, None);
@@ -383,7 +382,7 @@ impl Tables {
     {
         match owned {
             Owned::Object(object) => {
-                if let Some(row) = self.objects.rows.get_mut(&object) {
+                if let Some(row) = self.objects.rows.get_mut(object as usize) {
                     row.facts = facts;
                 }
             }

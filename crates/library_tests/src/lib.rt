@@ -22,6 +22,8 @@ mod made;
 #[cfg(test)]
 mod names_tests;
 #[cfg(test)]
+mod numbered_tests;
+#[cfg(test)]
 mod plain_lists_tests;
 #[cfg(test)]
 mod queue_tests;

@@ -38,8 +38,8 @@ back c =
     let family = c.family-family.result in
     let unopened : c.add.new.self ≡ c.bind.new.self = search rules in
     let unbound : object_named (directory_kept family t).bindings c.args.name.now ≡ None = ap (λ f. object_named (directory_kept f t).bindings c.args.name.now) c.family-family.ensures ∙ c.requires.unbound in
-    let bound = c.in_ok-bind.ensures.ok ∙ ap (λ n. with_binding family n c.self.inside.objects.created t) c.in_ok-clone.ensures.cases in
-    c.unbind.ensures.rest (the_view c.self-2.inside) ∙ ap (without_binding family c.args.name.now) (c.self-2.view_is ∙ unopened ∙ bound) ∙ undone family c.args.name.now c.self.inside.objects.created t unbound
+    let bound = c.in_ok-bind.ensures.ok ∙ ap (λ n. with_binding family n c.created-number.result t) c.in_ok-clone.ensures.cases in
+    c.unbind.ensures.rest (the_view c.self-2.inside) ∙ ap (without_binding family c.args.name.now) (c.self-2.view_is ∙ unopened ∙ bound) ∙ undone family c.args.name.now c.created-number.result t unbound
 
 pub invariant_of-self : goal.invariant_of-self
 invariant_of-self c =

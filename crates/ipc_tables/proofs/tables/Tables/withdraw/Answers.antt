@@ -7,7 +7,7 @@ use Rattle.ipc_tables.specs.Objects.{is_number, with_withdrawal}
 use Rattle.ipc_tables.specs.Standing.{rows_in}
 use Rattle.ipc_tables.specs.Steps.{with_parked}
 use Rattle.ipc_tables.proofs.CallTables.{parked_row, after_withdrawal_is}
-use Rattle.ipc_tables.proofs.RowChanges.{row_absent, row_written, sets_body}
+use Rattle.ipc_tables.proofs.RowChanges.{row_absent, row_written, sets_row, sets_body}
 use Rattle.ipc_tables.proofs.TableChanges.{IsWritten, seen_parked, written, written_stands}
 use Rattle.ipc_tables.proofs.StandingLemmas.{withdrawn_kind, keeps_withdrawal}
 use Rattle.ipc_tables.proofs.tables.Tables.withdraw.Goals as goal
@@ -20,8 +20,8 @@ withdrawn_rows c =
     elim c.match-get_mut.branch [
       | in-Some-get_mut w ↦ (
           let row = w.in-Some-get_mut.row.now in
-          let there = sym c.get_mut.ensures.value ∙ ap option_copied_mut w.in-Some-get_mut.is in
-          written inside _ _ _ w.self-inside-is (row_written o (with_withdrawal c.args.sid) row inside.objects _ c.self.invariant.counted refl (withdrawn_kind c.args.sid row.body) (sets_body o row w.withdraw.new.self _ inside.objects.rows.entries _ there (c.get_mut.follows.holds (record row { body = w.withdraw.new.self })).0 w.withdraw.ensures)))
+          let set = sets_row o w.in-Some-get_mut.row (record row { body = w.withdraw.new.self }) c.get_mut.result _ _ c.get_mut.ensures.value w.in-Some-get_mut.is (c.get_mut.follows.holds (record row { body = w.withdraw.new.self })) in
+          written inside _ _ _ w.self-inside-is (row_written o (with_withdrawal c.args.sid) row inside.objects _ c.self.invariant.counted refl (withdrawn_kind c.args.sid row.body) (sets_body o row w.withdraw.new.self _ inside.objects.rows _ set w.withdraw.ensures)))
       | in_default-get_mut w ↦ written inside _ _ _ w.self-inside-is (row_absent o (with_withdrawal c.args.sid) inside.objects _ c.self.invariant.counted (sym c.get_mut.ensures.value ∙ ap option_copied_mut w.in_default-get_mut.is) c.get_mut.follows.holds-at-none)
     ]
 

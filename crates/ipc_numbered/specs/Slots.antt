@@ -1,0 +1,10 @@
+-- Values at numbers.
+use Rattle.std.specs.Prelude.{ℕ, List, Option, None, slice_get, option_and_then}
+
+-- the value at a number, where there is one
+abbrev pub at : {V : Type 0} → List (Option V) → ℕ → Option V
+at slots n = option_and_then (λ x. x) (slice_get slots n)
+
+-- a slot whose value was taken
+abbrev pub emptied : {V : Type 0} → Option V → Option V
+emptied x = None

@@ -1,0 +1,119 @@
+//! Values at numbers, as a table of steps.
+
+use ipc_numbered::Numbered;
+use ipc_terms::NoMemory;
+use std::alloc::Global;
+use std::test::Fail;
+
+/// One step on the values, and what it is to give.
+enum Step {
+    /// Starts again, without values.
+    New,
+    /// Pushes this value, which gets this number.
+    Push(u32, usize),
+    Get(usize, Option<u32>),
+    /// Another value stands at the number, if one stands there.
+    Set(usize, u32),
+    Take(usize, Option<u32>),
+    Truncate(usize),
+    NextNumber(usize),
+}
+
+use Step::{Get, New, NextNumber, Push, Set, Take, Truncate};
+
+static STEPS: [Step; 40] = [
+    // No values.
+    New,
+    NextNumber(0),
+    Get(0, None),
+    Take(0, None),
+    Set(0, 5),
+    Get(0, None),
+    NextNumber(0),
+    // Each value has the next number.
+    New,
+    Push(30, 0),
+    Push(10, 1),
+    Push(20, 2),
+    NextNumber(3),
+    Get(0, Some(30)),
+    Get(1, Some(10)),
+    Get(2, Some(20)),
+    Get(3, None),
+    // A value is changed.
+    Set(1, 11),
+    Get(0, Some(30)),
+    Get(1, Some(11)),
+    Get(2, Some(20)),
+    // The number of a value that was taken isn't given again.
+    Take(1, Some(11)),
+    Get(1, None),
+    Take(1, None),
+    Set(1, 12),
+    Get(1, None),
+    Get(2, Some(20)),
+    NextNumber(3),
+    Push(40, 3),
+    Get(3, Some(40)),
+    Take(3, Some(40)),
+    NextNumber(4),
+    // The numbers of values that are forgotten are.
+    Truncate(5),
+    NextNumber(4),
+    Truncate(2),
+    NextNumber(2),
+    Get(0, Some(30)),
+    Get(2, None),
+    Push(50, 2),
+    Get(2, Some(50)),
+    Get(1, None),
+];
+
+/// Pushes the value, and says whether it got this number.
+fn pushes(
+    alloc: Global,
+    values: &mut Numbered<u32>,
+    value: u32,
+    number: usize,
+) -> Result<bool, NoMemory> {
+    let next = values.next_number();
+    values.push(alloc, value)?;
+    Ok(next == number)
+}
+
+/// Puts another value at the number, if one stands there.
+fn set(values: &mut Numbered<u32>, number: usize, next: u32) {
+    if let Some(value) = values.get_mut(number) {
+        *value = next;
+    }
+}
+
+/// Does the step, and says whether it gave what it is to give.
+fn gives(alloc: Global, values: &mut Numbered<u32>, step: &Step) -> Result<bool, NoMemory> {
+    match *step {
+        New => *values = Numbered::new(alloc),
+        Push(value, number) => return pushes(alloc, values, value, number),
+        Get(number, wanted) => return Ok(values.get(number).copied() == wanted),
+        Set(number, value) => set(values, number, value),
+        Take(number, wanted) => return Ok(values.take(number) == wanted),
+        Truncate(number) => values.truncate(number),
+        NextNumber(wanted) => return Ok(values.next_number() == wanted),
+    }
+    Ok(true)
+}
+
+/// Does the steps in order.
+fn all_give(alloc: Global, values: &mut Numbered<u32>, steps: &[Step]) -> Result<(), Fail> {
+    for (row, step) in steps.iter().enumerate() {
+        if !gives(alloc, values, step)? {
+            return Err(Fail::new(format_args!("row {row} gives something else")));
+        }
+    }
+    Ok(())
+}
+
+#[test]
+fn worked_numbers(rt: HostRuntime) -> Result<(), Fail> {
+    let mut values = Numbered::new(rt.alloc());
+    all_give(rt.alloc(), &mut values, &STEPS)
+}
