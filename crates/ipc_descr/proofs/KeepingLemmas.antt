@@ -1,93 +1,95 @@
--- One lemma for each change of the slab and the map.
-use Rattle.std.proofs.Common.{◌≡◌, ◌∙◌, Bool, true, false, cond, ℕ, ◌+◌, List, [], ◌∷◌, ◌++◌, Option, Some, None, refl, sym, ap, arith, is_some, OnSome, length, length-append}
-use Rattle.std.specs.Option.{option_map}
-use Rattle.std.specs.Map.{lookup, remove_entry}
-use Rattle.std.specs.BTreeMap.{is_at, insert_entry}
-use Rattle.std.specs.Ordering.{nat_cmp}
-use Rattle.slab.specs.Slab.{Slab, get, slab_len, Updates}
+-- One lemma for each change of the slab and the vector.
+use Rattle.std.proofs.Common.{◌≡◌, ◌≢◌, ◌∙◌, true, ◌==◌, Bool, ℕ, List, ◌∷◌, ◌++◌, Option, Some, None, refl, sym, ap, subst, arith, is_some, slice_get}
+use Rattle.std.specs.Option.{option_map, option_and_then}
+use Rattle.std.proofs.lemmas.Bool.Decides.{nat_tests}
+use Rattle.slab.specs.Slab.{Slab, get, Updates}
 use Rattle.ipc_descr.specs.declared.row.Row.{Row}
 use Rattle.ipc_terms.specs.Lists.{changed_first}
-use Rattle.ipc_descr.specs.Descriptions.{number, is_desc, row_of, without_desc, with_nonblock}
+use Rattle.ipc_descr.specs.Descriptions.{is_desc, is_of, if_of, row_of, without_desc, with_nonblock}
 use Rattle.ipc_descr.specs.Counting.{Gone}
-use Rattle.ipc_descr.specs.Places.{rows_of, Kept}
-use Rattle.ipc_descr.proofs.PlacesLemmas.{inserted_last, stand_opened, rows_opened, held_at, rows_closed, stand_closed, gone, stand_set, rows_set}
+use Rattle.ipc_descr.specs.Places.{if_desc, row_at, row_numbered, with_row, rows_of}
+use Rattle.ipc_descr.proofs.AmongOthers.{Others, filter_split, count_once, changed_split}
+use Rattle.ipc_descr.proofs.Answering.{row_found, row_own}
+use Rattle.ipc_descr.proofs.PlacesLemmas.{IsOnly, only, only_same, differ_at, found, found_of, split}
 
 -- a slab's room is no matter
-pub kept_reserved : (rows next : Slab Row) (entries : List (ℕ × ℕ)) (opened : ℕ) → next ≡ record rows { capacity = next.capacity } → Kept rows entries opened → Kept next entries opened
-kept_reserved rows next entries opened same h =
-    let slots : next.slots ≡ rows.slots = ap (λ s. s.slots) same in
-    record { stand = rw slots h.stand; no_other = rw slots h.no_other }
+pub rows_reserved : (rows next : Slab Row) (slots : List ℕ) → next ≡ record rows { capacity = next.capacity } → rows_of (get next) 0 slots ≡ rows_of (get rows) 0 slots
+rows_reserved rows next slots same = let stored : next.slots ≡ rows.slots = ap (λ s. s.slots) same in rw stored refl
 
-pub rows_reserved : (rows next : Slab Row) (entries : List (ℕ × ℕ)) → next ≡ record rows { capacity = next.capacity } → rows_of (get next) entries ≡ rows_of (get rows) entries
-rows_reserved rows next entries same = let slots : next.slots ≡ rows.slots = ap (λ s. s.slots) same in rw slots refl
+-- ---- what a session holds
 
-pub on_some : (o : Option Row) (P : Type 0) → is_some o ≡ true → OnSome o P → P
-on_some None P e h = cc
-on_some (Some row) P e h = h
+-- the row at the key of a description that session s holds
+record Held (stored : ℕ → Option Row) (s d k : ℕ) : Type 0 where
+  row : Row
+  here : stored k ≡ Some row
+  is : row.desc.0 ≡ d
+  of : is_of s row ≡ true
 
--- ---- a row is pushed
+held_by_row : (stored : ℕ → Option Row) (slots : List ℕ) (s d k : ℕ) (o : Option Row) → row_of (rows_of stored 0 slots) s d ≡ o → slice_get slots d ≡ Some k → stored k ≡ o → true ≡ is_some o → Held stored s d k
+held_by_row stored slots s d k None e there here some = cc
+held_by_row stored slots s d k (Some row) e there here some =
+    let at_key : row_at stored d k ≡ Some row = sym (found stored slots d ∙ ap (option_and_then (row_at stored d)) there) ∙ row_found (rows_of stored 0 slots) s d row e in
+    record { row = row; here = here; is = subst (IsOnly d) at_key (only d (stored k)); of = row_own (rows_of stored 0 slots) s d row e }
 
-pub record Pushed (rows next : Slab Row) (entries later : List (ℕ × ℕ)) (opened : ℕ) (row : Row) : Type 0 where
-  pub kept : Kept next later (opened + 1)
-  pub list : rows_of (get next) later ≡ rows_of (get rows) entries ++ row ∷ []
+held : (stored : ℕ → Option Row) (slots : List ℕ) (s d k : ℕ) → slice_get slots d ≡ Some k → stored k ≡ option_and_then (if_of s) (row_numbered stored slots d) → true ≡ is_some (option_and_then (if_of s) (row_numbered stored slots d)) → Held stored s d k
+held stored slots s d k there here some =
+    let same = sym (found_of stored slots s d) in
+    held_by_row stored slots s d k (row_of (rows_of stored 0 slots) s d) refl there (here ∙ same) (some ∙ ap is_some same)
 
-pub pushed : (rows next : Slab Row) (entries later : List (ℕ × ℕ)) (opened k : ℕ) (row : Row) → Kept rows entries opened → later ≡ insert_entry nat_cmp entries opened k → get rows k ≡ None → Updates rows next k (Some row) → slab_len next ≡ slab_len rows + 1 → number row ≡ opened → Pushed rows next entries later opened row
-pushed rows next entries later opened k row h is vacant updates len n =
-    let last : later ≡ entries ++ (opened, k) ∷ [] = is ∙ inserted_last (get rows) 0 opened k entries h.stand in
-    let more : length later ≡ length entries + 1 = ap length last ∙ length-append entries ((opened, k) ∷ []) in
+-- a row of description d among the others, in the slab before and after a change of what stands at its key
+record Among (stored next : ℕ → Option Row) (slots : List ℕ) (d : ℕ) (row : Row) (change : Option Row → Option Row) : Type 0 where
+  before : List Row
+  after : List Row
+  was : rows_of stored 0 slots ≡ before ++ row ∷ after
+  now : rows_of next 0 slots ≡ before ++ with_row (change (Some row)) after
+  others_before : Others d before
+  others_after : Others d after
+
+among : (stored next : ℕ → Option Row) (slots : List ℕ) (s d k : ℕ) (change : Option Row → Option Row) (h : Held stored s d k) → IsOnly d (change (Some h.row)) → slice_get slots d ≡ Some k → next k ≡ change (stored k) → ((q : ℕ) → q ≢ k → next q ≡ stored q) → Among stored next slots d h.row change
+among stored next slots s d k change h only_now there changes others =
+    let now : next k ≡ change (Some h.row) = changes ∙ ap change h.here in
+    let place = split stored next d k slots there (differ_at stored next d k (subst (IsOnly d) (sym h.here) h.is) (subst (IsOnly d) (sym now) only_now) others) in
     record {
-      kept = record {
-        stand = rw is (stand_opened (get rows) (get next) 0 opened k row entries h.stand vacant updates.changed updates.others n);
-        no_other = len ∙ ap (λ m. m + 1) h.no_other ∙ sym more;
-      };
-      list = rw is (rows_opened (get rows) (get next) 0 opened k row entries h.stand vacant updates.changed updates.others);
+      before = place.before;
+      after = place.after;
+      was = place.was ∙ ap (λ o. place.before ++ with_row o place.after) (ap (option_and_then (if_desc d)) h.here ∙ only_same d (Some h.row) h.is);
+      now = place.now ∙ ap (λ o. place.before ++ with_row o place.after) (ap (option_and_then (if_desc d)) now ∙ only_same d (change (Some h.row)) only_now);
+      others_before = place.others_before;
+      others_after = place.others_after;
     }
 
 -- ---- a row is taken out
 
-pub record Closed (rows next : Slab Row) (entries later : List (ℕ × ℕ)) (opened s d k : ℕ) : Type 0 where
+pub record Closed (rows next : Slab Row) (slots : List ℕ) (s d k : ℕ) : Type 0 where
   pub row : Row
   pub here : get rows k ≡ Some row
-  pub kept : Kept next later opened
-  pub rest : rows_of (get next) later ≡ without_desc (rows_of (get rows) entries) s d
-  pub gone : Gone row (rows_of (get rows) entries) (rows_of (get next) later)
+  pub rest : rows_of (get next) 0 slots ≡ without_desc (rows_of (get rows) 0 slots) s d
+  pub gone : Gone row (rows_of (get rows) 0 slots) (rows_of (get next) 0 slots)
 
-one_less_by_test : (b : Bool) (entry : ℕ × ℕ) (k : ℕ) (entries rest : List (ℕ × ℕ)) (later : Option ℕ) → cond b (Some entry.1) later ≡ Some k → (later ≡ Some k → length rest + 1 ≡ length entries) → length (cond b entries (entry ∷ rest)) + 1 ≡ length (entry ∷ entries)
-one_less_by_test true entry k entries rest later e fewer = omega arith
-one_less_by_test false entry k entries rest later e fewer = let n : length rest + 1 ≡ length entries = fewer e in omega arith
+closed_among : (before after all rest : List Row) (s d : ℕ) (row : Row) → all ≡ before ++ row ∷ after → rest ≡ before ++ after → row.desc.0 ≡ d → is_of s row ≡ true → Others d before → Others d after → rest ≡ without_desc all s d
+closed_among before after all rest s d row was less is of others_before others_after =
+    less ∙ sym (ap (λ rows. without_desc rows s d) was ∙ filter_split s d row before after of is others_before others_after)
 
-one_less : (d k : ℕ) (entries : List (ℕ × ℕ)) → lookup (is_at (nat_cmp d)) entries ≡ Some k → length (remove_entry (is_at (nat_cmp d)) entries) + 1 ≡ length entries
-one_less d k [] e = cc
-one_less d k (entry ∷ entries) e = one_less_by_test (is_at (nat_cmp d) entry.0) entry k entries _ _ e (one_less d k entries)
-
-pub closed : (rows next : Slab Row) (entries later : List (ℕ × ℕ)) (opened s d k : ℕ) → Kept rows entries opened → lookup (is_at (nat_cmp d)) entries ≡ Some k → true ≡ is_some (row_of (rows_of (get rows) entries) s d) → later ≡ remove_entry (is_at (nat_cmp d)) entries → Updates rows next k None → (is_some (get rows k) ≡ true → slab_len next + 1 ≡ slab_len rows) → Closed rows next entries later opened s d k
-closed rows next entries later opened s d k h e some is updates len =
-    let held = held_at (get rows) 0 opened s d k entries h.stand e (sym some) in
-    let less : slab_len next + 1 ≡ slab_len rows = len (ap is_some held.here) in
-    let fewer : length later + 1 ≡ length entries = ap (λ es. length es + 1) is ∙ one_less d k entries e in
-    let n : slab_len rows ≡ length entries = h.no_other in
+gone_among : (before after all rest : List Row) (s d : ℕ) (row : Row) → all ≡ before ++ row ∷ after → rest ≡ before ++ after → row.desc.0 ≡ d → is_of s row ≡ true → rest ≡ without_desc all s d → Gone row all rest
+gone_among before after all rest s d row was less is of closed =
+    let test : (s == row.session.0) ≡ true = of in
+    let session : s ≡ row.session.0 = grind (arith, nat_tests) in
     record {
-      row = held.row;
-      here = held.here;
-      kept = record {
-        stand = rw is (stand_closed (get rows) (get next) s d k opened entries held h.stand e updates.others);
-        no_other = omega arith;
-      };
-      rest = rw is (rows_closed (get rows) (get next) s d k opened entries held h.stand e updates.others);
-      gone = rw is (gone (get rows) (get next) s d k opened entries held h.stand e updates.others);
+      others = closed ∙ ap (λ n. without_desc all n d) session ∙ ap (without_desc all row.session.0) (sym is);
+      once = rw (was, less) (count_once row before after);
     }
+
+pub closed : (rows next : Slab Row) (slots : List ℕ) (s d k : ℕ) → slice_get slots d ≡ Some k → get rows k ≡ option_and_then (if_of s) (row_numbered (get rows) slots d) → true ≡ is_some (option_and_then (if_of s) (row_numbered (get rows) slots d)) → Updates rows next k None → Closed rows next slots s d k
+closed rows next slots s d k there here some updates =
+    let h = held (get rows) slots s d k there here some in
+    let a = among (get rows) (get next) slots s d k (λ o. None) h tt there updates.changed updates.others in
+    let rest = closed_among a.before a.after _ _ s d h.row a.was a.now h.is h.of a.others_before a.others_after in
+    record { row = h.row; here = h.here; rest = rest; gone = gone_among a.before a.after _ _ s d h.row a.was a.now h.is h.of rest }
 
 -- ---- a row is set
 
-pub record Changed (rows next : Slab Row) (entries : List (ℕ × ℕ)) (opened d : ℕ) (b : Bool) : Type 0 where
-  pub kept : Kept next entries opened
-  pub list : rows_of (get next) entries ≡ changed_first (is_desc d) (with_nonblock b) (rows_of (get rows) entries)
-
-pub changed : (rows next : Slab Row) (entries : List (ℕ × ℕ)) (opened s d k : ℕ) (b : Bool) → Kept rows entries opened → lookup (is_at (nat_cmp d)) entries ≡ Some k → true ≡ is_some (row_of (rows_of (get rows) entries) s d) → Updates rows next k (option_map (with_nonblock b) (get rows k)) → slab_len next ≡ slab_len rows → Changed rows next entries opened d b
-changed rows next entries opened s d k b h e some updates len =
-    let held = held_at (get rows) 0 opened s d k entries h.stand e (sym some) in
-    let here : get next k ≡ Some (with_nonblock b held.row) = updates.changed ∙ ap (option_map (with_nonblock b)) held.here in
-    record {
-      kept = record { stand = stand_set (get rows) (get next) 0 opened s d k b entries held here updates.others h.stand; no_other = len ∙ h.no_other };
-      list = rows_set (get rows) (get next) s d k opened b entries held h.stand e here updates.others;
-    }
+pub changed : (rows next : Slab Row) (slots : List ℕ) (s d k : ℕ) (b : Bool) → slice_get slots d ≡ Some k → get rows k ≡ option_and_then (if_of s) (row_numbered (get rows) slots d) → true ≡ is_some (option_and_then (if_of s) (row_numbered (get rows) slots d)) → Updates rows next k (option_map (with_nonblock b) (get rows k)) → rows_of (get next) 0 slots ≡ changed_first (is_desc d) (with_nonblock b) (rows_of (get rows) 0 slots)
+changed rows next slots s d k b there here some updates =
+    let h = held (get rows) slots s d k there here some in
+    let a = among (get rows) (get next) slots s d k (option_map (with_nonblock b)) h h.is there updates.changed updates.others in
+    a.now ∙ sym (ap (changed_first (is_desc d) (with_nonblock b)) a.was ∙ changed_split d b h.row a.before a.after h.is a.others_before)

@@ -1,41 +1,37 @@
 //! The rows, found by their numbers.
 
-ghost use Rattle.std.specs.Prelude.{◌≡◌, ◌+◌, ◌^◌, ◌<◌, [], ◌∷◌, ◌++◌, find, is_some, IsSome, IfSome, IfNone, OnOk, OnErr, Some};
+ghost use Rattle.std.specs.Prelude.{◌≡◌, ◌+◌, ◌^◌, ◌<◌, [], ◌∷◌, ◌++◌, find, slice_get, is_some, IsSome, IfSome, IfNone, OnOk, OnErr, Some};
 ghost use Rattle.std.specs.Option.{option_map, option_copied, option_and_then};
-ghost use Rattle.std.specs.Ordering.{nat_cmp};
-ghost use Rattle.std.specs.BTreeMap as tree;
-ghost use Rattle.slab.specs.Slab.{get, slab_len, Updates};
+ghost use Rattle.slab.specs.Slab.{get, Updates};
 ghost use Rattle.ipc_terms.specs.Lists.{changed_first};
-ghost use Rattle.ipc_descr.specs.Descriptions.{is_desc, row_of, without_desc, with_nonblock, Rise};
+ghost use Rattle.ipc_descr.specs.Descriptions.{is_desc, if_of, row_of, without_desc, with_nonblock, Rise};
 ghost use Rattle.ipc_descr.specs.Counting.{Gone};
-ghost use Rattle.ipc_descr.specs.Places.{rows_of, Leads};
+ghost use Rattle.ipc_descr.specs.Places.{row_numbered};
 
 use crate::row::Row;
 use ipc_terms::{Desc, NoMemory, Sid};
 use slab::Slab;
 use std::alloc::Global;
-use std::collections::BTreeMap;
 use std::marker::Model;
 
 /// The rows of the descriptions that are held, and the number of opens so far. Each row stands at a
-/// key of a slab, and a map leads from its number to that key. No look-up scans.
+/// key of a slab, and a vector has that key at the row's number. No look-up scans.
 #[derive(Drop)]
 pub struct Table {
     rows: Slab<Row>,
-    slots: BTreeMap<u64, usize>,
-    opened: u64,
+    /// The slab key at which the row of each number stands, or stood: slab keys are used again.
+    slots: Vec<usize>,
 }
 
 impl Model for Table {
+    ghost use Rattle.std.specs.Prelude.{length};
     ghost use Rattle.slab.specs.Slab.{get};
     ghost use Rattle.ipc_descr.specs.Descriptions.{Descriptions};
-    ghost use Rattle.ipc_descr.specs.Places.{rows_of, Kept};
+    ghost use Rattle.ipc_descr.specs.Places.{rows_of};
 
     ghost Value = { Descriptions };
 
-    ghost view = { λ a. record { rows = rows_of (get a.rows) a.slots.entries; opened = a.opened } };
-
-    ghost invariant = { λ a. Kept a.rows a.slots.entries a.opened };
+    ghost view = { λ a. record { rows = rows_of (get a.rows) 0 a.slots.items; opened = length a.slots.items } };
 }
 
 impl Table {
@@ -44,8 +40,7 @@ impl Table {
     {
         Table {
             rows: Slab::new(alloc),
-            slots: BTreeMap::new(alloc),
-            opened: 0,
+            slots: Vec::new(alloc),
         }
     }
 
@@ -54,7 +49,7 @@ impl Table {
         ensures opened { result ≡ self.now.opened }
         ensures rise { Rise 0 self.now.opened self.now.rows }
     {
-        self.opened
+        self.slots.len() as u64
     }
 
     /// Adds a row, which has the next number. An `Err` changes nothing.
@@ -65,8 +60,7 @@ impl Table {
         ensures err { OnErr result (self.new ≡ self.old) }
     {
         self.rows.reserve(1)?;
-        self.slots.insert(self.opened, self.rows.vacant_key())?;
-        self.opened += 1;
+        self.slots.push(self.rows.vacant_key())?;
         self.rows.insert_reserved(row);
         Ok(())
     }
@@ -105,7 +99,6 @@ impl Table {
         ensures gone { IfSome result (λ row. Gone row self.old.rows self.new.rows) }
     {
         let slot = slot_of(&self.rows, &self.slots, sid, desc)?;
-        self.slots.remove(&desc.0);
         self.rows.try_remove(slot)
     }
 
@@ -119,24 +112,27 @@ impl Table {
 }
 
 /// The row of the description.
-fn find_row<'a>(rows: &'a Slab<Row>, slots: &BTreeMap<u64, usize>, desc: Desc) -> Option<&'a Row>
-    requires { Leads (get rows.now) slots.now.entries }
-    ensures { option_copied result ≡ find (is_desc desc.0) (rows_of (get rows.now) slots.now.entries) }
+fn find_row<'a>(rows: &'a Slab<Row>, slots: &[usize], desc: Desc) -> Option<&'a Row>
+    ensures { option_copied result ≡ row_numbered (get rows.now) slots.now desc.0 }
 {
-    let slot = *slots.get(&desc.0)?;
-    rows.get(slot)
+    let slot = *slots.get(desc.0 as usize)?;
+    let row = rows.get(slot)?;
+    if row.desc.0 == desc.0 {
+        Some(row)
+    } else {
+        None
+    }
 }
 
 /// The slab key of the row by which the session holds the description.
-fn slot_of(rows: &Slab<Row>, slots: &BTreeMap<u64, usize>, sid: Sid, desc: Desc) -> Option<usize>
-    requires { Leads (get rows.now) slots.now.entries }
-    ensures row { option_and_then (get rows.now) result ≡ row_of (rows_of (get rows.now) slots.now.entries) sid.0 desc.0 }
-    ensures held { is_some result ≡ is_some (row_of (rows_of (get rows.now) slots.now.entries) sid.0 desc.0) }
-    ensures slot { IfSome result (λ slot. tree.get nat_cmp slots.now desc.0 ≡ Some slot) }
+fn slot_of(rows: &Slab<Row>, slots: &[usize], sid: Sid, desc: Desc) -> Option<usize>
+    ensures row { option_and_then (get rows.now) result ≡ option_and_then (if_of sid.0) (row_numbered (get rows.now) slots.now desc.0) }
+    ensures held { is_some result ≡ is_some (option_and_then (if_of sid.0) (row_numbered (get rows.now) slots.now desc.0)) }
+    ensures slot { IfSome result (λ slot. slice_get slots.now desc.0 ≡ Some slot) }
 {
-    let slot = *slots.get(&desc.0)?;
+    let slot = *slots.get(desc.0 as usize)?;
     let row = rows.get(slot)?;
-    if row.session.0 == sid.0 {
+    if row.desc.0 == desc.0 && row.session.0 == sid.0 {
         Some(slot)
     } else {
         None
@@ -145,8 +141,7 @@ fn slot_of(rows: &Slab<Row>, slots: &BTreeMap<u64, usize>, sid: Sid, desc: Desc)
 
 /// Sets whether the calls by the description of the row are refused where they would wait.
 fn set_row(rows: &mut Slab<Row>, slot: usize, nonblock: bool)
-    ensures row { Updates rows.old rows.new slot (option_map (with_nonblock nonblock) (get rows.old slot)) }
-    ensures len { slab_len rows.new ≡ slab_len rows.old }
+    ensures { Updates rows.old rows.new slot (option_map (with_nonblock nonblock) (get rows.old slot)) }
 {
     if let Some(row) = rows.get_mut(slot) {
         row.nonblock = nonblock;
