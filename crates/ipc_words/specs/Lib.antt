@@ -4,6 +4,7 @@ pub mod Hyphens
 pub mod Grammar
 pub mod Parses
 pub mod Readings
+pub mod Placing
 pub mod Usage
 pub mod Calls
 pub mod Printing

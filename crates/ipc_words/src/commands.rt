@@ -1,7 +1,8 @@
 //! The table of commands: the word of each, and what stands behind it.
 
-ghost use Rattle.std.specs.Prelude.{◌≡◌, option_map};
+ghost use Rattle.std.specs.Prelude.{◌≡◌, IfSome, option_map};
 ghost use Rattle.ipc_words.specs.Grammar.{form_of_op, form_of_row, form_of_word};
+ghost use Rattle.ipc_words.specs.Placing.{FindsValues, is_optional, is_value, name_of};
 
 use crate::commands::Argument::{Flag, Optional, Required, Valued};
 use ipc_terms::CallOp;
@@ -17,6 +18,33 @@ pub enum Argument {
     Flag(&'static str),
     /// `--NAME` and a value.
     Valued(&'static str),
+}
+
+impl Argument {
+    pub fn name(&self) -> &'static str
+        ensures { result.now ≡ name_of self.now }
+    {
+        match self {
+            Argument::Required(name)
+            | Argument::Optional(name)
+            | Argument::Flag(name)
+            | Argument::Valued(name) => name,
+        }
+    }
+
+    /// Whether a word alone stands for the argument.
+    pub fn is_value(&self) -> bool
+        ensures { result ≡ is_value self.now }
+    {
+        matches!(self, Argument::Required(_) | Argument::Optional(_))
+    }
+
+    /// Whether such a word may be left out.
+    pub fn is_optional(&self) -> bool
+        ensures { result ≡ is_optional self.now }
+    {
+        matches!(self, Argument::Optional(_))
+    }
 }
 
 /// A command's word, the call that it asks for, and what stands behind it.
@@ -168,7 +196,8 @@ pub static FORMS: [Form; 23] = [
 
 /// The command of this word.
 pub fn form_of_word(word: &str) -> Option<&'static Form>
-    ensures { option_map (λ form. form_of_row form.now) result ≡ form_of_word word.now }
+    ensures form { option_map (λ form. form_of_row form.now) result ≡ form_of_word word.now }
+    ensures values { IfSome result (λ form. FindsValues (form_of_row form.now)) }
 {
     FORMS.iter().find(|form| form.word == word)
 }

@@ -6,6 +6,7 @@ ghost use Rattle.std.specs.Bool.{OnFalse, OnTrue};
 ghost use Rattle.ipc_words.specs.Calls.{Means, MeansBehind};
 ghost use Rattle.ipc_words.specs.Grammar.{form_of_row};
 ghost use Rattle.ipc_words.specs.Hyphens.{any_breaks_hyphen_rule};
+ghost use Rattle.ipc_words.specs.Placing.{FindsValues};
 
 mod answers;
 mod calls;
@@ -14,16 +15,19 @@ mod faults;
 mod hyphens;
 mod numbers;
 mod parsing;
+mod placing;
 mod printing;
 mod readings;
 mod records;
 mod usage;
 mod values;
 
-use crate::calls::call_of_matches;
+use crate::calls::call_of_found;
 use crate::commands::{Form, form_of_word};
 use crate::hyphens::any_is_refused;
 use crate::parsing::matches_of_words;
+use crate::placing::are_placed;
+use crate::readings::Found;
 pub use answers::{line_of_answer, put_line};
 pub use faults::{WordFault, put_fault};
 use ipc_terms::Call;
@@ -52,10 +56,15 @@ pub fn call_of_words(alloc: Global, words: &[&str]) -> Result<Call, WordFault>
     }
 }
 
-/// The call that the words behind a command's own mean.
+/// The call that the words behind a command's own mean. `clap` reads them where they hold more than values.
 fn call_of_form(alloc: Global, form: &Form, words: &[&str]) -> Result<Call, WordFault>
+    requires { FindsValues (form_of_row form.now) }
     ensures { MeansBehind (form_of_row form.now) (map (λ w. w.now) words.now) result }
 {
-    let found = matches_of_words(alloc, form, words)?;
-    call_of_matches(alloc, form.op, &found)
+    if are_placed(words, form.arguments) {
+        let arguments = form.arguments;
+        return call_of_found(alloc, form.op, &Found::Placed { words, arguments });
+    }
+    let matches = matches_of_words(alloc, form, words)?;
+    call_of_found(alloc, form.op, &Found::Parsed(&matches))
 }
