@@ -2,7 +2,7 @@
 
 ghost use Rattle.std.specs.Prelude.{◌≡◌, IfSome, option_map};
 ghost use Rattle.ipc_words.specs.Grammar.{form_of_op, form_of_row, form_of_word};
-ghost use Rattle.ipc_words.specs.Placing.{FindsValues, is_optional, is_value, name_of};
+ghost use Rattle.ipc_words.specs.Placing.{FindsArguments, is_flag_of, is_option_of, is_optional, is_spelled, is_value, is_valued, name_of};
 
 use crate::commands::Argument::{Flag, Optional, Required, Valued};
 use ipc_terms::CallOp;
@@ -39,11 +39,48 @@ impl Argument {
         matches!(self, Argument::Required(_) | Argument::Optional(_))
     }
 
-    /// Whether such a word may be left out.
+    /// Whether the argument may be left out.
     pub fn is_optional(&self) -> bool
         ensures { result ≡ is_optional self.now }
     {
-        matches!(self, Argument::Optional(_))
+        !matches!(self, Argument::Required(_))
+    }
+
+    /// Whether a value follows the argument's own word.
+    pub fn is_valued(&self) -> bool
+        ensures { result ≡ is_valued self.now }
+    {
+        matches!(self, Argument::Valued(_))
+    }
+
+    /// Whether the argument is the flag of this name.
+    pub fn is_flag_of(&self, name: &str) -> bool
+        ensures { result ≡ is_flag_of name.now self.now }
+    {
+        match self {
+            Argument::Flag(flag) => *flag == name,
+            _ => false,
+        }
+    }
+
+    /// Whether the argument's own word is this.
+    pub fn is_option_of(&self, word: &str) -> bool
+        ensures { result ≡ is_option_of word.now self.now }
+    {
+        match self {
+            Argument::Flag(name) | Argument::Valued(name) => is_spelled(word, name),
+            _ => false,
+        }
+    }
+}
+
+/// Whether the word is the name behind two hyphens.
+pub fn is_spelled(word: &str, name: &str) -> bool
+    ensures { result ≡ is_spelled word.now name.now }
+{
+    match word.as_bytes().strip_prefix(b"--") {
+        Some(spelled) => spelled == name.as_bytes(),
+        None => false,
     }
 }
 
@@ -197,7 +234,7 @@ pub static FORMS: [Form; 23] = [
 /// The command of this word.
 pub fn form_of_word(word: &str) -> Option<&'static Form>
     ensures form { option_map (λ form. form_of_row form.now) result ≡ form_of_word word.now }
-    ensures values { IfSome result (λ form. FindsValues (form_of_row form.now)) }
+    ensures arguments { IfSome result (λ form. FindsArguments (form_of_row form.now)) }
 {
     FORMS.iter().find(|form| form.word == word)
 }

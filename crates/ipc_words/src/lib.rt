@@ -6,7 +6,7 @@ ghost use Rattle.std.specs.Bool.{OnFalse, OnTrue};
 ghost use Rattle.ipc_words.specs.Calls.{Means, MeansBehind};
 ghost use Rattle.ipc_words.specs.Grammar.{form_of_row};
 ghost use Rattle.ipc_words.specs.Hyphens.{any_breaks_hyphen_rule};
-ghost use Rattle.ipc_words.specs.Placing.{FindsValues};
+ghost use Rattle.ipc_words.specs.Placing.{FindsArguments};
 
 mod answers;
 mod calls;
@@ -56,9 +56,10 @@ pub fn call_of_words(alloc: Global, words: &[&str]) -> Result<Call, WordFault>
     }
 }
 
-/// The call that the words behind a command's own mean. `clap` reads them where they hold more than values.
+/// The call that the words behind a command's own mean. `clap` reads them where they leave it
+/// something to decide.
 fn call_of_form(alloc: Global, form: &Form, words: &[&str]) -> Result<Call, WordFault>
-    requires { FindsValues (form_of_row form.now) }
+    requires { FindsArguments (form_of_row form.now) }
     ensures { MeansBehind (form_of_row form.now) (map (λ w. w.now) words.now) result }
 {
     if are_placed(words, form.arguments) {

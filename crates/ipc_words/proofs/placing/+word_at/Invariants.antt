@@ -1,5 +1,0 @@
-use Rattle.std.proofs.Common.{length}
-use Rattle.ipc_words.proofs.placing.+word_at.Given as goal
-
-abbrev pub decreases-word_at : goal.decreases-word_at
-decreases-word_at l = length l.words.now
