@@ -37,6 +37,13 @@ none_left tickets e = by (next_ticket tickets) refl e where
   by None f k = none_there tickets f
   by (Some t) f k = absurd cc
 
+-- and none leaves
+pub none_leaves : (tickets : List Ticket) → None ≡ next_place tickets → without_next tickets ≡ tickets
+none_leaves tickets e = by (next_ticket tickets) refl e where
+  by : (next : Option Ticket) → next_ticket tickets ≡ next → None ≡ option_map (λ t. t.place) next → without_next tickets ≡ tickets
+  by None f k = without_none tickets f
+  by (Some t) f k = absurd cc
+
 -- where there is a next place, one less is left
 pub some_left : (tickets : List Ticket) (place : ℕ) → Some place ≡ next_place tickets → length (without_next tickets) + 1 ≡ length tickets
 some_left tickets place e = by (next_ticket tickets) refl e where

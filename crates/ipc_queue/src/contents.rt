@@ -1,6 +1,6 @@
 //! The messages of a queue.
 
-ghost use Rattle.std.specs.Prelude.{◌≡◌, ◌<◌, ◌^◌, [], ◌∷◌, ◌++◌, length, OnOk, OnErr};
+ghost use Rattle.std.specs.Prelude.{◌≡◌, ◌<◌, ◌^◌, [], ◌∷◌, ◌++◌, length, Some, IfOk, OnOk, OnErr};
 ghost use Rattle.ipc_queue.specs.Tickets.{next_place, without_next};
 
 use crate::queue::Ticket;
@@ -89,20 +89,20 @@ impl Contents {
         ensures next { result ≡ next_place self.old }
         ensures rest { self.new ≡ without_next self.old }
     {
-        let (priority, place) = self.buckets.greatest()?;
-        self.buckets.leave(priority);
+        let place = self.buckets.leave_greatest()?;
         self.count -= 1;
         self.past = Snapshot::of(&Past::Left(Snapshot::of(&self.past)));
         Some(place)
     }
 
     /// The next one leaves, and then another enters behind what is left. An `Err` leaves all as it was.
-    pub fn pop_and_push(&mut self, ticket: Ticket) -> Result<(), NoMemory>
+    pub fn pop_and_push(&mut self, ticket: Ticket) -> Result<u64, NoMemory>
         requires { 0 < length self.old }
+        ensures next { IfOk result (λ place. Some place ≡ next_place self.old) }
         ensures ok { OnOk result (self.new ≡ without_next self.old ++ ticket ∷ []) }
         ensures err { OnErr result (self.new ≡ self.old) }
     {
-        let Some((priority, _)) = self.buckets.greatest() else {
+        let Some((priority, place)) = self.buckets.greatest() else {
             unreachable!();
         };
         // It enters first, since that alone can fail; the next one is still the first of its bucket.
@@ -110,6 +110,6 @@ impl Contents {
         self.buckets.leave(priority);
         let left = Snapshot::of(&Past::Left(Snapshot::of(&self.past)));
         self.past = Snapshot::of(&Past::Entered(ticket, Snapshot::of(&left)));
-        Ok(())
+        Ok(place)
     }
 }

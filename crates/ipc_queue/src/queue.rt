@@ -154,17 +154,17 @@ impl Queue {
         ensures err { OnErr result (self.new ≡ self.old) }
         ensures without_memory { 0 < length self.old.tickets → length self.old.senders ≡ 0 → IsOk result }
     {
-        let Some(place) = self.contents.next() else {
+        // It is parked only where there is no room, so there is a message.
+        if let Some(sender) = self.senders.first().copied() {
+            let place = self.contents.pop_and_push(sender.ticket)?;
+            self.senders.serve();
+            return Ok(ReceiveOutcome::TookAndAdmitted(place, sender.session));
+        }
+        let Some(place) = self.contents.pop() else {
             self.receivers.park(who)?;
             return Ok(ReceiveOutcome::Parked);
         };
-        let Some(sender) = self.senders.first().copied() else {
-            self.contents.pop();
-            return Ok(ReceiveOutcome::Took(place));
-        };
-        self.contents.pop_and_push(sender.ticket)?;
-        self.senders.serve();
-        Ok(ReceiveOutcome::TookAndAdmitted(place, sender.session))
+        Ok(ReceiveOutcome::Took(place))
     }
 
     /// Takes back the longest parked call of the session, and says whether there was one

@@ -1,49 +1,47 @@
 -- What buckets say of the numbers that they hold, and what a call leaves of them.
-use Rattle.std.proofs.Common.{rules, ◌≡◌, ◌≢◌, ℕ, ◌+◌, ◌<◌, ◌≤◌, ◌==◌, Bool, false, true, cond, List, [], ◌∷◌, ◌++◌, length, deque_len, drop, Option, Some, None, is_some, refl, sym, ap, ◌∙◌, arith}
+use Rattle.std.proofs.Common.{rules, ◌≡◌, ◌≢◌, ℕ, ◌+◌, ◌<◌, ◌≤◌, ◌==◌, Bool, false, true, cond, List, [], ◌∷◌, ◌++◌, length, drop, Option, Some, None, is_some, refl, sym, ap, ◌∙◌, arith}
 use Rattle.std.proofs.lemmas.Bool.{both_ways}
 use Rattle.std.proofs.lemmas.Bool.Decides.{nat_tests}
 use Rattle.std.specs.Option.{option_and_then, unwrap_or, IsSome}
 use Rattle.std.specs.Ordering.{nat_cmp, is_lt}
-use Rattle.std.specs.BTreeMap.{get, is_at, btree_map_len, IsUpperBound}
-use Rattle.std.specs.Map.{lookup}
-use Rattle.std.specs.declared.alloc.Global.{Global}
-use Rattle.std.specs.declared.collections.VecDeque.{VecDeque}
+use Rattle.std.specs.BTreeMap.{keys, get, is_at, btree_map_len, IsUpperBound}
+use Rattle.std.specs.Map.{lookup, keys_of}
 use Rattle.ipc_terms.specs.Lists.{first}
 use Rattle.ipc_waiters.specs.declared.buckets.Buckets.{Buckets}
-use Rattle.ipc_waiters.specs.Buckets.{bucket_at, bucket_of, with_last, without_front, AreFilled, EmptyStandsAlone, Holds}
+use Rattle.ipc_waiters.specs.Buckets.{bucket_at, bucket_of, with_last, without_front, OthersAreFilled, EmptyStandsAlone, Holds, IsFirstOfGreatest, IsGreatestLeft}
 
-filled : (xs ys : List ℕ) → bucket_of xs ≡ Some ys → (x : ℕ) × (rest : List ℕ) × (xs ≡ x ∷ rest) × (ys ≡ x ∷ rest)
-filled [] ys e = absurd cc
-filled (x ∷ xs) ys e = (x, xs, cc, cc)
-
-no_bucket : (found : Option (VecDeque ℕ Global)) (xs : List ℕ) → option_and_then (λ bucket. bucket_of bucket.items) found ≡ bucket_of xs → (IsSome found → false ≡ true) → xs ≡ []
+no_bucket : (found : Option (List ℕ)) (xs : List ℕ) → option_and_then bucket_of found ≡ bucket_of xs → (IsSome found → false ≡ true) → xs ≡ []
 no_bucket found [] e none = cc
 no_bucket None (x ∷ xs) e none = absurd cc
 no_bucket (Some bucket) (x ∷ xs) e none = absurd (both_ways false refl (none (search rules)))
 
--- a bucket that is not empty has the numbers of its key
-pub has_first : (b : Buckets) (numbers : ℕ → List ℕ) (key : ℕ) (bucket : VecDeque ℕ Global) → Holds b numbers → get nat_cmp b.buckets key ≡ Some bucket → 0 < length bucket.items → (x : ℕ) × (rest : List ℕ) × (numbers key ≡ x ∷ rest) × (bucket.items ≡ x ∷ rest)
+-- the first in a bucket is the first number of its key
+has_first : (b : Buckets) (numbers : ℕ → List ℕ) (key x : ℕ) (bucket : List ℕ) → Holds b numbers → get nat_cmp b.buckets key ≡ Some bucket → first bucket ≡ Some x → (rest : List ℕ) × (numbers key ≡ x ∷ rest)
 unfolding Holds
-has_first b numbers key bucket holds at more = same bucket.items (numbers key) more (sym (holds.1 key) ∙ ap (λ o. option_and_then (λ d. bucket_of d.items) o) at) where
-  same : (items xs : List ℕ) → 0 < length items → bucket_of xs ≡ bucket_of items → (x : ℕ) × (rest : List ℕ) × (xs ≡ x ∷ rest) × (items ≡ x ∷ rest)
-  same [] xs more e = absurd (search rules)
-  same (x ∷ rest) [] more e = absurd cc
-  same (x ∷ rest) (y ∷ ys) more e = (x, rest, cc, refl)
+has_first b numbers key x bucket holds at is = same bucket (numbers key) is (sym (holds.1 key) ∙ ap (λ o. option_and_then bucket_of o) at) where
+  same : (items xs : List ℕ) → first items ≡ Some x → bucket_of xs ≡ bucket_of items → (rest : List ℕ) × (xs ≡ x ∷ rest)
+  same [] xs is e = absurd cc
+  same (y ∷ rest) [] is e = absurd cc
+  same (y ∷ rest) (z ∷ zs) is e = (zs, cc)
 
 above : (key other : ℕ) → key < other → is_lt (nat_cmp key other) ≡ true
 above key other less = grind (arith, nat_tests)
 
 -- above the greatest key with a bucket no key has numbers
-pub none_above : (b : Buckets) (numbers : ℕ → List ℕ) (key other : ℕ) → Holds b numbers → IsUpperBound nat_cmp b.buckets key → key < other → numbers other ≡ []
+none_above : (b : Buckets) (numbers : ℕ → List ℕ) (key other : ℕ) → Holds b numbers → IsUpperBound nat_cmp b.buckets key → key < other → numbers other ≡ []
 unfolding Holds
 none_above b numbers key other holds upper less =
     no_bucket (get nat_cmp b.buckets other) (numbers other) (holds.1 other) (λ some. sym (upper other some) ∙ above key other less)
+
+-- the first in the bucket of the greatest key
+pub first_of_last : (b : Buckets) (numbers : ℕ → List ℕ) (key x : ℕ) (bucket : List ℕ) → Holds b numbers → get nat_cmp b.buckets key ≡ Some bucket → IsUpperBound nat_cmp b.buckets key → first bucket ≡ Some x → IsFirstOfGreatest numbers (Some (key, x))
+first_of_last b numbers key x bucket holds at upper is = (has_first b numbers key x bucket holds at is, λ other less. none_above b numbers key other holds upper less)
 
 -- where there is no bucket no key has numbers
 pub none_at_all : (b : Buckets) (numbers : ℕ → List ℕ) → Holds b numbers → (0 < length b.buckets.entries → false ≡ true) → (key : ℕ) → numbers key ≡ []
 unfolding Holds
 none_at_all b numbers holds none key = no_bucket (get nat_cmp b.buckets key) (numbers key) (holds.1 key) (λ some. none (of_entries b.buckets.entries some)) where
-  of_entries : (es : List (ℕ × VecDeque ℕ Global)) → IsSome (lookup (is_at (nat_cmp key)) es) → 0 < length es
+  of_entries : (es : List (ℕ × List ℕ)) → IsSome (lookup (is_at (nat_cmp key)) es) → 0 < length es
   of_entries [] some = absurd (search rules)
   of_entries (e ∷ es) some = omega arith
 
@@ -56,7 +54,7 @@ first_held b numbers key holds = ap (λ o. first (unwrap_or o [])) (holds.1 key)
   by (n ∷ ns) = refl
 
 -- of a map with one entry at most there is one value at most
-only_one : (key other : ℕ) (es : List (ℕ × VecDeque ℕ Global)) (x y : VecDeque ℕ Global) → length es ≤ 1 → lookup (is_at (nat_cmp key)) es ≡ Some x → lookup (is_at (nat_cmp other)) es ≡ Some y → y ≡ x
+only_one : (key other : ℕ) (es : List (ℕ × List ℕ)) (x y : List ℕ) → length es ≤ 1 → lookup (is_at (nat_cmp key)) es ≡ Some x → lookup (is_at (nat_cmp other)) es ≡ Some y → y ≡ x
 only_one key other [] x y few at there = absurd cc
 only_one key other (e ∷ []) x y few at there = by (is_at (nat_cmp key) e.0) (is_at (nat_cmp other) e.0) at there where
   by : (s t : Bool) → cond s (Some e.1) None ≡ Some x → cond t (Some e.1) None ≡ Some y → y ≡ x
@@ -66,32 +64,26 @@ only_one key other (e ∷ []) x y few at there = by (is_at (nat_cmp key) e.0) (i
 only_one key other (e ∷ f ∷ es) x y few at there = absurd (omega arith)
 
 -- where a bucket is empty no key has numbers
-pub none_beside : (b : Buckets) (numbers : ℕ → List ℕ) (key other : ℕ) (bucket : VecDeque ℕ Global) → Holds b numbers → get nat_cmp b.buckets key ≡ Some bucket → bucket.items ≡ [] → numbers other ≡ []
+pub none_beside : (b : Buckets) (numbers : ℕ → List ℕ) (key other : ℕ) (bucket : List ℕ) → Holds b numbers → get nat_cmp b.buckets key ≡ Some bucket → bucket ≡ [] → numbers other ≡ []
 unfolding Holds EmptyStandsAlone
 none_beside b numbers key other bucket holds at empty = by (get nat_cmp b.buckets other) (numbers other) refl (holds.1 other) where
-  by : (found : Option (VecDeque ℕ Global)) (xs : List ℕ) → get nat_cmp b.buckets other ≡ found → option_and_then (λ d. bucket_of d.items) (get nat_cmp b.buckets other) ≡ bucket_of xs → xs ≡ []
+  by : (found : Option (List ℕ)) (xs : List ℕ) → get nat_cmp b.buckets other ≡ found → option_and_then bucket_of (get nat_cmp b.buckets other) ≡ bucket_of xs → xs ≡ []
   by found [] is e = refl
-  by None (x ∷ xs) is e = let none = sym (ap (λ o. option_and_then (λ d. bucket_of d.items) o) is) ∙ e in absurd cc
+  by None (x ∷ xs) is e = let none = sym (ap (λ o. option_and_then bucket_of o) is) ∙ e in absurd cc
   by (Some y) (x ∷ xs) is e =
       let same : y ≡ bucket = only_one key other b.buckets.entries bucket y (holds.0 key bucket at empty) at is in
-      let no_items : y.items ≡ [] = ap (λ (d : VecDeque ℕ Global). d.items) same ∙ empty in
-      let none = sym (ap (λ o. option_and_then (λ d. bucket_of d.items) o) is ∙ ap (λ l. bucket_of l) no_items) ∙ e in
+      let no_items : y ≡ [] = same ∙ empty in
+      let none = sym (ap (λ o. option_and_then bucket_of o) is ∙ ap (λ l. bucket_of l) no_items) ∙ e in
       absurd cc
 
--- a list whose length is not above 0 is empty
-pub no_items : (xs : List ℕ) → (0 < length xs → false ≡ true) → xs ≡ []
+-- where none is first, there is none
+pub no_items : (xs : List ℕ) → first xs ≡ None → xs ≡ []
 no_items [] none = refl
-no_items (x ∷ xs) none = absurd (both_ways false refl (none (omega arith)))
+no_items (x ∷ xs) none = absurd cc
 
--- a deque is empty exactly where its length is 0
-pub empty_items : (d : VecDeque ℕ Global) → (deque_len d == 0) ≡ true → d.items ≡ []
-empty_items d is = let fits = d.ok.0 in by d.items (grind (arith, nat_tests)) where
-  by : (xs : List ℕ) → length xs ≤ 0 → xs ≡ []
-  by [] few = refl
-  by (x ∷ xs) few = absurd (omega arith)
-
-pub filled_items : (d : VecDeque ℕ Global) → (deque_len d == 0) ≡ false → d.items ≢ []
-filled_items d not empty = let fits = d.ok.0 in let none : length d.items ≡ 0 = ap (λ l. length l) empty in absurd (grind (arith, nat_tests))
+-- where a test says so, a list isn't empty
+pub not_empty : (xs : List ℕ) (is_empty : Bool) → (xs ≡ [] → is_empty ≡ true) → is_empty ≡ false → xs ≢ []
+not_empty xs is_empty says is empty = let no : true ≡ false = sym (says empty) ∙ is in absurd cc
 
 pub none_left : {A : Type 0} (es : List A) → (0 < length es → false ≡ true) → length es ≤ 0
 none_left [] none = omega arith
@@ -106,20 +98,24 @@ popped (Some x) n m e some few = omega arith
 pub some_found : {A : Type 0} (found : Option A) (x : A) → found ≡ Some x → IsSome found
 some_found found x is = rw is (search rules)
 
+-- no bucket is empty
+unfoldable pub AreFilled : Buckets → Type 0
+AreFilled buckets = (key : ℕ) (bucket : List ℕ) → get nat_cmp buckets.buckets key ≡ Some bucket → bucket ≢ []
+
 -- where there are no entries all buckets are filled
 pub filled_of_none : (b : Buckets) → btree_map_len b.buckets ≤ 0 → AreFilled b
 unfolding AreFilled
 filled_of_none b none key bucket at = by b.buckets.entries none at where
-  by : (es : List (ℕ × VecDeque ℕ Global)) → length es ≤ 0 → lookup (is_at (nat_cmp key)) es ≡ Some bucket → bucket.items ≢ []
+  by : (es : List (ℕ × List ℕ)) → length es ≤ 0 → lookup (is_at (nat_cmp key)) es ≡ Some bucket → bucket ≢ []
   by [] few found = absurd cc
   by (e ∷ es) few found = absurd (omega arith)
 
 -- where one bucket is filled all are
-pub filled_of_one : (b : Buckets) (key : ℕ) (bucket : VecDeque ℕ Global) → EmptyStandsAlone b → get nat_cmp b.buckets key ≡ Some bucket → bucket.items ≢ [] → AreFilled b
+pub filled_of_one : (b : Buckets) (key : ℕ) (bucket : List ℕ) → EmptyStandsAlone b → get nat_cmp b.buckets key ≡ Some bucket → bucket ≢ [] → AreFilled b
 unfolding AreFilled EmptyStandsAlone
 filled_of_one b key bucket alone at filled other found there empty =
     let same : bucket ≡ found = only_one other key b.buckets.entries found bucket (alone other found there empty) there at in
-    filled (ap (λ (d : VecDeque ℕ Global). d.items) same ∙ empty)
+    filled (same ∙ empty)
 
 pub alone_of_filled : (b : Buckets) → AreFilled b → EmptyStandsAlone b
 unfolding AreFilled EmptyStandsAlone
@@ -130,7 +126,7 @@ pub alone_as_before : (b c : Buckets) → c.buckets.entries ≡ b.buckets.entrie
 unfolding EmptyStandsAlone
 alone_as_before b c same alone key bucket at empty = rw same (alone key bucket (ap (λ es. lookup (is_at (nat_cmp key)) es) (sym same) ∙ at) empty)
 
-pub few_where_empty : (b : Buckets) (key : ℕ) (bucket : VecDeque ℕ Global) → EmptyStandsAlone b → get nat_cmp b.buckets key ≡ Some bucket → bucket.items ≡ [] → btree_map_len b.buckets ≤ 1
+pub few_where_empty : (b : Buckets) (key : ℕ) (bucket : List ℕ) → EmptyStandsAlone b → get nat_cmp b.buckets key ≡ Some bucket → bucket ≡ [] → btree_map_len b.buckets ≤ 1
 unfolding EmptyStandsAlone
 few_where_empty b key bucket alone at empty = alone key bucket at empty
 
@@ -139,28 +135,28 @@ pub pushed_is_filled : (xs ys : List ℕ) (x : ℕ) → ys ≡ xs ++ x ∷ [] �
 pushed_is_filled [] ys x is empty = let no : x ∷ [] ≡ [] = sym is ∙ empty in absurd cc
 pushed_is_filled (z ∷ xs) ys x is empty = let no : z ∷ (xs ++ x ∷ []) ≡ [] = sym is ∙ empty in absurd cc
 
+-- where the keys are as before there are as many entries
+as_many : {X : Type 0} (es fs : List (ℕ × X)) → keys_of fs ≡ keys_of es → length fs ≡ length es
+as_many es fs same = sym (each_a_key fs) ∙ ap (λ l. length l) same ∙ each_a_key es where
+  each_a_key : {X : Type 0} (es : List (ℕ × X)) → length (keys_of es) ≡ length es
+  each_a_key [] = refl
+  each_a_key (e ∷ es) = let same = each_a_key es in omega arith
+
 -- one bucket is written
-pub alone_written : (b c : Buckets) (key : ℕ) (bucket : VecDeque ℕ Global) → btree_map_len c.buckets ≡ btree_map_len b.buckets
+pub alone_written : (b c : Buckets) (key : ℕ) (bucket : List ℕ) → keys c.buckets ≡ keys b.buckets
     → ((q : ℕ) → get nat_cmp c.buckets q ≡ cond (is_at (nat_cmp key) q) (Some bucket) (get nat_cmp b.buckets q))
-    → EmptyStandsAlone b → (bucket.items ≡ [] → btree_map_len b.buckets ≤ 1) → EmptyStandsAlone c
+    → EmptyStandsAlone b → (bucket ≡ [] → btree_map_len b.buckets ≤ 1) → EmptyStandsAlone c
 unfolding EmptyStandsAlone
-alone_written b c key bucket len writes alone own q found at empty = by (is_at (nat_cmp key) q) (sym (writes q) ∙ at) where
+alone_written b c key bucket stay writes alone own q found at empty = by (is_at (nat_cmp key) q) (sym (writes q) ∙ at) where
+  len : btree_map_len c.buckets ≡ btree_map_len b.buckets
+  len = as_many b.buckets.entries c.buckets.entries stay
+
   by : (t : Bool) → cond t (Some bucket) (get nat_cmp b.buckets q) ≡ Some found → btree_map_len c.buckets ≤ 1
-  by true e = let same : bucket ≡ found = cc in rw len (own (ap (λ (d : VecDeque ℕ Global). d.items) same ∙ empty))
+  by true e = let same : bucket ≡ found = cc in rw len (own (same ∙ empty))
   by false e = rw len (alone q found e empty)
 
--- and all are filled where it is, and the others are
-pub filled_written : (b c : Buckets) (key : ℕ) (bucket : VecDeque ℕ Global)
-    → ((q : ℕ) → get nat_cmp c.buckets q ≡ cond (is_at (nat_cmp key) q) (Some bucket) (get nat_cmp b.buckets q))
-    → AreFilled b → bucket.items ≢ [] → AreFilled c
-unfolding AreFilled
-filled_written b c key bucket writes filled own q found at empty = by (is_at (nat_cmp key) q) (sym (writes q) ∙ at) where
-  by : (t : Bool) → cond t (Some bucket) (get nat_cmp b.buckets q) ≡ Some found → ⊥
-  by true e = let same : bucket ≡ found = cc in own (ap (λ (d : VecDeque ℕ Global). d.items) same ∙ empty)
-  by false e = filled q found e empty
-
 -- one of several buckets is taken out after it was written
-pub filled_without : (b c d : Buckets) (key : ℕ) (bucket : VecDeque ℕ Global) → btree_map_len c.buckets ≡ btree_map_len b.buckets → 1 < btree_map_len c.buckets
+pub filled_without : (b c d : Buckets) (key : ℕ) (bucket : List ℕ) → btree_map_len c.buckets ≡ btree_map_len b.buckets → 1 < btree_map_len c.buckets
     → ((q : ℕ) → get nat_cmp c.buckets q ≡ cond (is_at (nat_cmp key) q) (Some bucket) (get nat_cmp b.buckets q))
     → ((q : ℕ) → get nat_cmp d.buckets q ≡ cond (is_at (nat_cmp key) q) None (get nat_cmp c.buckets q))
     → EmptyStandsAlone b → AreFilled d
@@ -169,6 +165,54 @@ filled_without b c d key bucket len more writes removes alone q found at empty =
   by : (t : Bool) → cond t None (get nat_cmp c.buckets q) ≡ Some found → cond t (Some bucket) (get nat_cmp b.buckets q) ≡ get nat_cmp c.buckets q → ⊥
   by true e w = absurd cc
   by false e w = let few = alone q found (w ∙ e) empty in absurd (omega arith)
+
+-- one of several buckets is taken out
+pub filled_without_key : (b d : Buckets) (key : ℕ) → 1 < btree_map_len b.buckets
+    → ((q : ℕ) → get nat_cmp d.buckets q ≡ cond (is_at (nat_cmp key) q) None (get nat_cmp b.buckets q))
+    → EmptyStandsAlone b → AreFilled d
+unfolding AreFilled EmptyStandsAlone
+filled_without_key b d key more removes alone q found at empty = by (is_at (nat_cmp key) q) (sym (removes q) ∙ at) where
+  by : (t : Bool) → cond t None (get nat_cmp b.buckets q) ≡ Some found → ⊥
+  by true e = absurd cc
+  by false e = let few = alone q found e empty in absurd (omega arith)
+
+-- ---- where no bucket is empty but one key's
+pub others_of_filled : (b : Buckets) (key : ℕ) → AreFilled b → OthersAreFilled key b
+unfolding AreFilled OthersAreFilled
+others_of_filled b key filled other bucket at empty = absurd (filled other bucket at empty)
+
+-- there are several
+pub others_of_many : (b : Buckets) (key : ℕ) → EmptyStandsAlone b → 1 < btree_map_len b.buckets → OthersAreFilled key b
+unfolding EmptyStandsAlone OthersAreFilled
+others_of_many b key alone more other bucket at empty = let few = alone other bucket at empty in absurd (omega arith)
+
+-- there is one, which is the key's
+pub others_of_own : (b : Buckets) (key : ℕ) (own : List ℕ) → btree_map_len b.buckets ≤ 1 → get nat_cmp b.buckets key ≡ Some own → OthersAreFilled key b
+unfolding OthersAreFilled
+others_of_own b key own few at other bucket there empty = only_key b.buckets.entries few at there where
+  only_key : (es : List (ℕ × List ℕ)) → length es ≤ 1 → lookup (is_at (nat_cmp key)) es ≡ Some own → lookup (is_at (nat_cmp other)) es ≡ Some bucket → other ≡ key
+  only_key [] few at there = absurd cc
+  only_key (e ∷ []) few at there = by (is_at (nat_cmp key) e.0) (is_at (nat_cmp other) e.0) refl refl at there where
+    by : (s t : Bool) → is_at (nat_cmp key) e.0 ≡ s → is_at (nat_cmp other) e.0 ≡ t → cond s (Some e.1) None ≡ Some own → cond t (Some e.1) None ≡ Some bucket → other ≡ key
+    by true true f g at there = grind (arith, nat_tests)
+    by true false f g at there = absurd cc
+    by false t f g at there = absurd cc
+  only_key (e ∷ f ∷ es) few at there = absurd (omega arith)
+
+-- there is none of the key
+pub filled_where_absent : (b : Buckets) (key : ℕ) → OthersAreFilled key b → get nat_cmp b.buckets key ≡ None → AreFilled b
+unfolding AreFilled OthersAreFilled
+filled_where_absent b key others absent q found at empty = let no : None ≡ Some found = sym absent ∙ ap (λ k. get nat_cmp b.buckets k) (sym (others q found at empty)) ∙ at in absurd cc
+
+-- the key's is written
+pub filled_written : (b c : Buckets) (key : ℕ) (bucket : List ℕ) → OthersAreFilled key b
+    → ((q : ℕ) → get nat_cmp c.buckets q ≡ cond (is_at (nat_cmp key) q) (Some bucket) (get nat_cmp b.buckets q))
+    → bucket ≢ [] → AreFilled c
+unfolding AreFilled OthersAreFilled
+filled_written b c key bucket others writes own q found at empty = by (is_at (nat_cmp key) q) refl (sym (writes q) ∙ at) where
+  by : (t : Bool) → is_at (nat_cmp key) q ≡ t → cond t (Some bucket) (get nat_cmp b.buckets q) ≡ Some found → ⊥
+  by true is e = let same : bucket ≡ found = cc in own (same ∙ empty)
+  by false is e = let same = others q found e empty in absurd (grind (arith, nat_tests))
 
 -- no buckets hold no numbers
 pub none_held : (b : Buckets) (numbers : ℕ → List ℕ) → ((key : ℕ) → bucket_at b key ≡ None) → EmptyStandsAlone b → ((key : ℕ) → numbers key ≡ []) → Holds b numbers
@@ -213,3 +257,22 @@ left b c before after key holds leaves alone is = (
   by true [] = refl
   by true (n ∷ ns) = refl
   by false ns = refl
+
+-- the same numbers by another function
+pub held_alike : (b : Buckets) (numbers others : ℕ → List ℕ) → Holds b numbers → ((key : ℕ) → others key ≡ numbers key) → Holds b others
+unfolding Holds
+held_alike b numbers others holds same = (holds.0, λ key. holds.1 key ∙ ap (λ ns. bucket_of ns) (sym (same key)))
+
+-- the first number of the greatest key leaves
+pub greatest_left : (b c : Buckets) (numbers : ℕ → List ℕ) (key x : ℕ) (bucket : List ℕ) → Holds b numbers → get nat_cmp b.buckets key ≡ Some bucket → IsUpperBound nat_cmp b.buckets key → first bucket ≡ Some x
+    → ((q : ℕ) → bucket_at c q ≡ cond (q == key) (without_front (bucket_at b q)) (bucket_at b q))
+    → (EmptyStandsAlone b → EmptyStandsAlone c)
+    → IsGreatestLeft numbers c (Some x)
+greatest_left b c numbers key x bucket holds at upper is leaves alone = (key, first_of_last b numbers key x bucket holds at upper is, left b c numbers _ key holds leaves alone (λ q. refl))
+
+-- the last bucket is empty, and stays so
+pub none_left_of : (b c : Buckets) (numbers : ℕ → List ℕ) (key : ℕ) (bucket : List ℕ) → Holds b numbers → get nat_cmp b.buckets key ≡ Some bucket → first bucket ≡ None
+    → ((q : ℕ) → bucket_at c q ≡ bucket_at b q)
+    → (EmptyStandsAlone b → EmptyStandsAlone c)
+    → IsGreatestLeft numbers c None
+none_left_of b c numbers key bucket holds at is stays alone = (λ other. none_beside b numbers key other bucket holds at (no_items bucket is), still_held b c numbers holds stays alone)

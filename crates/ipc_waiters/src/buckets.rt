@@ -3,11 +3,13 @@
 ghost use Rattle.std.specs.Prelude.{◌≡◌, ◌==◌, ℕ, List, [], None, if◌then◌else◌, OnOk, OnErr};
 ghost use Rattle.std.specs.Option.{unwrap_or};
 ghost use Rattle.ipc_terms.specs.Lists.{first};
-ghost use Rattle.ipc_waiters.specs.Buckets.{bucket_at, with_last, without_front, AreFilled, EmptyStandsAlone, Holds, IsFirstOfGreatest};
+ghost use Rattle.ipc_waiters.specs.Buckets.{bucket_at, with_last, without_front, OthersAreFilled, EmptyStandsAlone, Holds, IsFirstOfGreatest, IsGreatestLeft};
 
+use crate::bucket::Bucket;
 use ipc_terms::NoMemory;
 use std::alloc::Global;
-use std::collections::{BTreeMap, VecDeque};
+use std::collections::BTreeMap;
+use std::collections::btree_map::Entry;
 
 /// Numbers under keys: each key that has numbers has a bucket, in which they stand in order of entry. The only bucket stays
 /// when it empties, so that numbers which come and go one at a time take no memory. Each call takes as long as to find a
@@ -15,7 +17,7 @@ use std::collections::{BTreeMap, VecDeque};
 #[derive(Drop)]
 pub struct Buckets {
     alloc: Global,
-    buckets: BTreeMap<u64, VecDeque<u64>>,
+    buckets: BTreeMap<u64, Bucket>,
 }
 
 impl Buckets {
@@ -37,28 +39,28 @@ impl Buckets {
         ensures err { OnErr result ((q : ℕ) → bucket_at self.new q ≡ bucket_at self.old q) }
         ensures alone { EmptyStandsAlone self.old → EmptyStandsAlone self.new }
     {
-        match self.buckets.get_mut(&key) {
-            Some(bucket) => bucket.push_back(number)?,
-            None => {
-                self.drop_empty();
-                let mut bucket = VecDeque::new(self.alloc);
-                bucket.push_back(number)?;
-                self.buckets.insert(key, bucket)?;
+        self.drop_empty(key);
+        match self.buckets.entry(key)? {
+            Entry::Occupied(bucket) => bucket.into_mut().push(number)?,
+            Entry::Vacant(place) => {
+                place.insert(Bucket::of(self.alloc, number));
             }
         }
         Ok(())
     }
 
-    /// Drops the bucket that is empty, if there is one. Takes no memory.
-    fn drop_empty(&mut self)
+    /// Drops the bucket that is empty, if there is one, unless it is this key's. Takes no memory.
+    fn drop_empty(&mut self, key: u64)
         ensures kept { (q : ℕ) → bucket_at self.new q ≡ bucket_at self.old q }
-        ensures filled { EmptyStandsAlone self.old → AreFilled self.new }
+        ensures filled { EmptyStandsAlone self.old → OthersAreFilled key self.new }
     {
-        let is_empty = match self.buckets.first_key_value() {
-            Some((_, bucket)) => bucket.is_empty(),
-            None => false,
+        if self.buckets.len() > 1 {
+            return;
+        }
+        let Some((other, bucket)) = self.buckets.first_key_value() else {
+            return;
         };
-        if is_empty {
+        if *other != key && bucket.is_empty() {
             self.buckets.pop_first();
         }
     }
@@ -71,17 +73,32 @@ impl Buckets {
         let Some(bucket) = self.buckets.get_mut(&key) else {
             return;
         };
-        bucket.pop_front();
+        bucket.pop();
         if bucket.is_empty() && self.buckets.len() > 1 {
             self.buckets.remove(&key);
         }
+    }
+
+    /// The first number of the greatest key leaves; `None` where no key has any. An empty bucket goes, unless it is the
+    /// only one. Takes no memory.
+    pub fn leave_greatest(&mut self) -> Option<u64>
+        ensures { (numbers : ℕ → List ℕ) → Holds self.old numbers → IsGreatestLeft numbers self.new result }
+    {
+        let is_only = self.buckets.len() == 1;
+        let mut last = self.buckets.last_entry()?;
+        let bucket = last.get_mut();
+        let number = bucket.pop()?;
+        if bucket.is_empty() && !is_only {
+            last.remove();
+        }
+        Some(number)
     }
 
     /// The first number of the key's bucket; `None` where it has none.
     pub fn first_of(&self, key: u64) -> Option<u64>
         ensures { result ≡ first (unwrap_or (bucket_at self.now key) []) }
     {
-        self.buckets.get(&key)?.front().copied()
+        self.buckets.get(&key)?.first()
     }
 
     /// The greatest key that has numbers, and the first of them; `None` where no key has any.
@@ -89,7 +106,7 @@ impl Buckets {
         ensures { (numbers : ℕ → List ℕ) → Holds self.now numbers → IsFirstOfGreatest numbers result }
     {
         let (key, bucket) = self.buckets.last_key_value()?;
-        let number = bucket.front()?;
-        Some((*key, *number))
+        let number = bucket.first()?;
+        Some((*key, number))
     }
 }

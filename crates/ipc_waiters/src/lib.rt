@@ -1,6 +1,7 @@
 //! What waits, in order of arrival: calls by session, and numbers in buckets by key.
 #![tactic(auto)]
 
+mod bucket;
 mod buckets;
 mod waiters;
 
