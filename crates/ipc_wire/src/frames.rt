@@ -1,6 +1,6 @@
 //! A stream of frames, in whatever pieces it comes.
 
-ghost use Rattle.std.specs.Prelude.{◌≡◌, ℕ, List, [], ◌++◌, length, drop, Some, option_map, IsSome, IsNone, IfOk, IsOkAnd, OnErr, ◌≤◌, vec_len, vec_capacity};
+ghost use Rattle.std.specs.Prelude.{◌≡◌, ℕ, List, [], ◌∷◌, ◌++◌, length, drop, Some, option_map, IsSome, IsNone, IfOk, IsOkAnd, OnOk, OnErr, ◌≤◌, vec_len, vec_capacity};
 ghost use Rattle.ipc_fields.specs.Given.{Gives};
 ghost use Rattle.ipc_wire.specs.Streams.{front, cut, Feeds, new_stream, still_first};
 
@@ -29,6 +29,28 @@ pub fn read_request(
     }
 }
 
+/// About as many bytes as a short frame has.
+const SHORT_FRAME: usize = 16;
+
+/// For how many requests room is made at most with the first.
+const USUAL_REQUESTS: usize = 16;
+
+/// Adds a request, with room for those that so many bytes behind it may hold where it is the first.
+fn push_request(
+    requests: &mut Vec<Request>,
+    request: Request,
+    behind: usize,
+) -> Result<(), NoMemory>
+    ensures { OnOk result (requests.new.items ≡ requests.old.items ++ request ∷ []) }
+{
+    if requests.is_empty() {
+        let room = behind / SHORT_FRAME + 1;
+        requests.reserve_exact(room.min(USUAL_REQUESTS))?;
+    }
+    requests.push(request)?;
+    Ok(())
+}
+
 /// The requests of the whole frames in front, the bytes behind them, and the fault that stands there.
 fn cut_of(
     alloc: Global,
@@ -42,7 +64,7 @@ fn cut_of(
     'frames: loop {
         match read_request(alloc, first, rest) {
             Ok(Some((request, after))) => {
-                requests.push(request)?;
+                push_request(&mut requests, request, after.len())?;
                 first = false;
                 rest = after;
             }

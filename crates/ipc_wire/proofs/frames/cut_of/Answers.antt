@@ -8,7 +8,7 @@ frames-smaller c = front-shorter c.frames.first c.frames.rest.now c.in-Ok-Some.r
 
 pub frames-preserved : goal.frames-preserved
 frames-preserved c =
-    let pushed : c.push.new.self.items ≡ c.frames.requests.items ++ c.in-Ok-Some.request ∷ [] = c.in_ok-push-in-Ok-Some.ensures.items in
+    let pushed : c.push_request.new.requests.items ≡ c.frames.requests.items ++ c.in-Ok-Some.request ∷ [] = c.in_ok-push_request-in-Ok-Some.ensures in
     rw pushed (goes_on c.frames.requests.items c.frames.first c.frames.rest.now c.in-Ok-Some.request c.in-Ok-Some.after.now (cut c.args.first c.args.bytes.now) (rw c.in-Ok-Some.field-0-is at c.in-Ok-Some.ensures) c.frames.invariant)
 
 pub returns-in-Ok-None : goal.returns-in-Ok-None
