@@ -11,7 +11,7 @@ use std::alloc::Global;
 use std::boxed::Box;
 use std::marker::Model;
 
-/// Values at the numbers that they were given in turn. One that was taken leaves 8 bytes.
+/// Values at the numbers that they were given in turn. One that was taken leaves 16 bytes.
 #[derive(Drop)]
 pub struct Numbered<V: Drop> {
     slots: Vec<Option<Box<V>>>,
