@@ -13,7 +13,7 @@ SERVER = ROOT / "crates/mqserve/out/mqserve"
 CLIENT = ROOT / "crates/mqctl/out/mqctl"
 USERS = "demo/users"
 
-# Who writes what, and who gets an answer next. None where the call blocks.
+# Who writes what, and who gets an answer next. None where the call parks.
 STEPS = [
     ("ann", "umask 0", ["ann"]),
     ("ann", "mq-open /jobs rw --create --mode 0666", ["ann"]),
@@ -40,7 +40,7 @@ def play(clients):
         clients[who].stdin.write(line + "\n")
         clients[who].stdin.flush()
         if answered is None:
-            print("      (blocks: the queue is empty)")
+            print("      (parks: the queue is empty)")
         for other in answered or []:
             print(f"{other} < {clients[other].stdout.readline().rstrip()}")
 

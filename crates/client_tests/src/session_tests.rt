@@ -15,7 +15,7 @@ type Row<'a> = (
     Result<bool, ClientFault>,
 );
 
-static SESSIONS: [Row<'static>; 17] = [
+static SESSIONS: [Row<'static>; 21] = [
     // A command that is refused.
     (
         "mq-close 0\n",
@@ -107,6 +107,38 @@ static SESSIONS: [Row<'static>; 17] = [
         b"\0\0\0\x09\x0f\0\0\0\0\0\0\0\0",
         "notice 1\nnotice 2\nnotice 3\ninterrupted EINTR\n",
         Ok(true),
+    ),
+    // Descriptions that came before the hello's answer and before commands' answers, and a notice among them.
+    (
+        "mq-give 1 0\nmq-close 5\n",
+        b"\0\0\0\x09\x4f\0\0\0\0\0\0\0\x04\0\0\0\x09\x41\0\0\0\0\0\0\0\0\0\0\0\x09\x4f\0\0\0\0\0\0\0\x05\0\0\0\x09\x4e\0\0\0\0\0\0\0\x05\0\0\0\x03\x4c\0\x21\0\0\0\x09\x4f\0\0\0\0\0\0\0\x06\0\0\0\x01\x42",
+        b"\0\0\0\x11\x1e\0\0\0\0\0\0\0\x01\0\0\0\0\0\0\0\0\0\0\0\x09\x04\0\0\0\0\0\0\0\x05",
+        "taken 4\ntaken 5\nnotice 5\nrefused 33 ESRCH NoTaker\ntaken 6\ndone\n",
+        Ok(false),
+    ),
+    // A description that came, and no answer behind it.
+    (
+        "interrupt\n",
+        b"\0\0\0\x09\x41\0\0\0\0\0\0\0\0\0\0\0\x09\x4f\0\0\0\0\0\0\0\x05",
+        b"\0\0\0\x01\x17",
+        "taken 5\n",
+        Err(ClientFault::Net),
+    ),
+    // Timed calls: one that is answered late, one that is timed out, and one that is done.
+    (
+        "mq-timedreceive 1 8 9\nmq-timedsend 1 2 9 hi\nsem-timedwait 2 9\n",
+        b"\0\0\0\x09\x41\0\0\0\0\0\0\0\0\0\0\0\x07\x47\0\0\0\x02hi\0\0\0\x03\x4c\0\x20\0\0\0\x01\x42",
+        b"\0\0\0\x15\x1b\0\0\0\0\0\0\0\x01\0\0\0\x08\0\0\0\0\0\0\0\x09\0\0\0\x17\x1a\0\0\0\0\0\0\0\x01\0\0\0\x02\0\0\0\0\0\0\0\x09hi\0\0\0\x11\x1c\0\0\0\0\0\0\0\x02\0\0\0\0\0\0\0\x09",
+        "received 2 hi\nrefused 32 ETIMEDOUT TimedOut\ndone\n",
+        Ok(false),
+    ),
+    // A tick is no command, and is not sent.
+    (
+        "tick 5\ninterrupt\n",
+        b"\0\0\0\x09\x41\0\0\0\0\0\0\0\0\0\0\0\x01\x42",
+        b"\0\0\0\x01\x17",
+        "fault usage\ndone\n",
+        Ok(false),
     ),
     // Faults of words between two commands, and blanks round words.
     (

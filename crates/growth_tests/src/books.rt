@@ -6,8 +6,8 @@ use crate::cores::seen_of;
 use crate::fault::Fault;
 use crate::made::{are_lines, call, config};
 use crate::subject::{Outcome, Subject, go};
-use ipc_book::{Book, CloseFault, Seat};
-use ipc_terms::{Answer, NoMemory, Sid};
+use ipc_book::{Book, CloseFault, OfferFault, Seat};
+use ipc_terms::{Answer, NoMemory, Sid, TICK_NUMBER};
 use ipc_trail::Receipt;
 use std::alloc::Global;
 use std::marker::Brand;
@@ -26,22 +26,32 @@ pub enum Step {
     Hello(Who, &'static [u8], u16),
     Call(Who, &'static str, u16),
     HangUp(Who, u16),
+    /// A tick of this moment, by a seat without a session.
+    Tick(Who, u64),
     /// The lines of what the seat collects.
     Collect(Who, &'static str),
 }
 
-use Step::{Call, Collect, HangUp, Hello};
+use Step::{Call, Collect, HangUp, Hello, Tick};
 use Who::{Ann, Bob};
 
 impl Step {
     pub fn who(&self) -> Who {
         match self {
-            Hello(who, ..) | Call(who, ..) | HangUp(who, _) | Collect(who, _) => *who,
+            Hello(who, ..) | Call(who, ..) | HangUp(who, _) | Tick(who, _) | Collect(who, _) =>
+                *who,
         }
     }
 }
 
-static STEPS: [Step; 17] = [
+/// What is done at a book.
+#[derive(Clone, Copy)]
+pub enum Case {
+    Calls,
+    Ticks,
+}
+
+static CALLS: [Step; 17] = [
     Hello(Bob, b"zz", 31),
     Call(Bob, "umask 000", 1),
     Hello(Ann, b"ka1", 0),
@@ -67,8 +77,38 @@ static STEPS: [Step; 17] = [
     HangUp(Ann, 0),
 ];
 
-/// How many records the trail has in the end.
-const RECORDS: usize = 14;
+static TICKS: [Step; 10] = [
+    Hello(Ann, b"ka1", 0),
+    Call(Ann, "sem-open /s --create", 0),
+    Call(Ann, "sem-timedwait 0 5", 0),
+    Tick(Bob, 4),
+    Collect(Ann, "started 0\nopened 0\n"),
+    Tick(Bob, 5),
+    Tick(Bob, 5),
+    Collect(Ann, "refused 32 ETIMEDOUT TimedOut\n"),
+    Call(Ann, "sem-timedwait 0 5", 32),
+    HangUp(Ann, 0),
+];
+
+impl Case {
+    fn steps(self) -> &'static [Step] {
+        match self {
+            Case::Calls => &CALLS,
+            Case::Ticks => &TICKS,
+        }
+    }
+
+    /// How many records the trail has in the end.
+    fn records(self) -> usize {
+        match self {
+            Case::Calls => 14,
+            Case::Ticks => 8,
+        }
+    }
+}
+
+/// More answers than a seat leaves untaken here.
+pub const MOST_UNTAKEN: usize = 8;
 
 /// How often a case is begun, and a book closed.
 pub const TRIES: usize = 3;
@@ -95,6 +135,9 @@ pub trait Serves: Drop {
 
     fn hang_up(&mut self, alloc: Global, seat: &mut Self::Seat) -> Result<Receipt, Fault>;
 
+    /// Makes a tick, by a seat without a session.
+    fn tick(&mut self, alloc: Global, seat: &mut Self::Seat, moment: u64) -> Result<Receipt, Fault>;
+
     fn answers(&mut self, seat: &Self::Seat) -> Vec<Answer>;
 
     fn seen(&self, alloc: Global, ann: &Self::Seat, bob: &Self::Seat) -> Result<Self::Seen, Fault>;
@@ -105,6 +148,15 @@ pub trait Serves: Drop {
         alloc: Global,
         seats: Vec<Self::Seat>,
     ) -> Result<usize, (CloseFault, Self, Vec<Self::Seat>)>;
+}
+
+/// What a call that was offered gives, which has room for its answers.
+pub fn taken<T, B: Drop>(offered: Result<T, (OfferFault, B)>) -> Result<T, Fault> {
+    match offered {
+        Ok(given) => Ok(given),
+        Err((OfferFault::Fault(fault), _)) => Err(Fault::from(fault)),
+        Err((OfferFault::Full, _)) => Err(Fault::Otherwise),
+    }
 }
 
 impl<L: Ledger> Serves for Book<L> {
@@ -127,15 +179,25 @@ impl<L: Ledger> Serves for Book<L> {
     fn call(
         &mut self,
         alloc: Global,
-        _who: Who,
+        who: Who,
         seat: &mut Seat<L>,
         asked: ipc_terms::Call,
     ) -> Result<Receipt, Fault> {
-        Ok(self.step_for(alloc, seat, asked)?)
+        match who {
+            Ann => Ok(self.step_for(alloc, seat, asked)?),
+            Bob => Ok(taken(self.offer(alloc, seat, asked, MOST_UNTAKEN))?.0),
+        }
     }
 
     fn hang_up(&mut self, alloc: Global, seat: &mut Seat<L>) -> Result<Receipt, Fault> {
         Ok(self.hang_up_for(alloc, seat)?)
+    }
+
+    fn tick(&mut self, alloc: Global, seat: &mut Seat<L>, moment: u64) -> Result<Receipt, Fault> {
+        if seat.sid().is_some() {
+            return Err(Fault::Otherwise);
+        }
+        Ok(self.tick_for(alloc, seat, moment)?)
     }
 
     fn answers(&mut self, seat: &Seat<L>) -> Vec<Answer> {
@@ -187,6 +249,11 @@ fn seats_at<B: Serves>(book: &mut B, alloc: Global) -> Result<Vec<B::Seat>, Faul
     Ok(seats)
 }
 
+/// Whether it is the receipt of an accepted tick.
+fn is_ticks(receipt: Receipt) -> bool {
+    (receipt.sid, receipt.op, receipt.rule) == (Sid::NOBODY, TICK_NUMBER, 0)
+}
+
 /// Makes the step on a seat, and says whether it gives what it must: the rule of its number refuses it, or these are the
 /// lines of what the seat collects.
 fn give<B: Serves>(
@@ -202,6 +269,7 @@ fn give<B: Serves>(
             Ok(book.call(alloc, who, seat, asked)?.rule == rule)
         }
         HangUp(_, rule) => Ok(book.hang_up(alloc, seat)?.rule == rule),
+        Tick(_, moment) => Ok(is_ticks(book.tick(alloc, seat, moment)?)),
         Collect(_, lines) => are_lines(alloc, &book.answers(seat), lines),
     }
 }
@@ -252,45 +320,45 @@ pub fn records_of<B: Serves>(
 }
 
 /// Makes the steps on the book and its two seats.
-fn go_at<B: Serves>(book: &mut B, seats: &mut [B::Seat], alloc: Global) -> Outcome {
+fn go_at<B: Serves>(book: &mut B, seats: &mut [B::Seat], alloc: Global, steps: &[Step]) -> Outcome {
     match seats {
         [ann, bob] => {
             let mut desk = Desk { book, ann, bob };
-            go(&mut desk, alloc, &STEPS)
+            go(&mut desk, alloc, steps)
         }
         _ => Err((0, Fault::Otherwise)),
     }
 }
 
 /// Makes two seats at the book, the steps, and closes the book: its trail is to be whole.
-pub fn go_with<B: Serves>(alloc: Global, mut book: B) -> Outcome {
+pub fn go_with<B: Serves>(alloc: Global, mut book: B, case: Case) -> Outcome {
     let mut seats = match seats_at(&mut book, alloc) {
         Ok(seats) => seats,
         Err(fault) => return Err((0, fault.of_case())),
     };
-    go_at(&mut book, &mut seats, alloc)?;
+    go_at(&mut book, &mut seats, alloc, case.steps())?;
     match records_of(alloc, book, seats) {
-        Ok(Some(RECORDS)) => Ok(()),
-        Ok(_) => Err((STEPS.len(), Fault::Otherwise)),
-        Err(fault) => Err((STEPS.len(), fault.of_case())),
+        Ok(Some(records)) if records == case.records() => Ok(()),
+        Ok(_) => Err((case.steps().len(), Fault::Otherwise)),
+        Err(fault) => Err((case.steps().len(), fault.of_case())),
     }
 }
 
-fn go_once<L: Ledger>(alloc: Global, blank: Blank) -> Outcome
+fn go_once<L: Ledger>(alloc: Global, blank: Blank, case: Case) -> Outcome
     requires name { blank.name ≡ L.name }
     requires parts { blank.parts ≡ L.parts }
     requires many { blank.parts ≡ 2 ^ 63 }
 {
     match book_of::<L>(alloc, blank) {
-        Ok(book) => go_with(alloc, book),
+        Ok(book) => go_with(alloc, book, case),
         Err(fault) => Err((0, fault.of_case())),
     }
 }
 
 /// Makes a book and two seats, the steps, and closes the book.
-pub fn go_anew(alloc: Global) -> Outcome {
+pub fn go_anew(alloc: Global, case: Case) -> Outcome {
     for _ in 0..TRIES {
-        match go_once::<Brand>(alloc, Blank::new(1 << 63)) {
+        match go_once::<Brand>(alloc, Blank::new(1 << 63), case) {
             Err((_, Fault::Anew)) => {}
             outcome => return outcome,
         }

@@ -13,6 +13,7 @@ pub enum Asked {
     Hello(Option<Uid>),
     Act(u64, &'static str),
     HangUp(u64),
+    Tick(u64),
 }
 
 pub enum Step {
@@ -26,7 +27,7 @@ pub enum Step {
     Take(u64, &'static str),
 }
 
-use Asked::{Act, HangUp, Hello};
+use Asked::{Act, HangUp, Hello, Tick};
 use Step::{Make, Put, Run, Take};
 
 const ANN: Asked = Hello(Some(Uid(1000)));
@@ -41,7 +42,7 @@ const ANNS: Option<Sid> = Some(Sid(0));
 
 const BOBS: Option<Sid> = Some(Sid(1));
 
-pub static CASES: [(&str, &[Step]); 3] = [
+pub static CASES: [(&str, &[Step]); 5] = [
     (
         "Core::step",
         &[
@@ -105,6 +106,58 @@ pub static CASES: [(&str, &[Step]); 3] = [
         ],
     ),
     (
+        "Core::step of timed calls",
+        &[
+            Make(ANN, "0 started 0\n"),
+            Make(BOB, "1 started 1\n"),
+            Make(Act(0, "umask 000"), "0 mask 022\n"),
+            Make(
+                Act(
+                    0,
+                    "mq-open /q rw --create --mode 0666 --maxmsg 1 --msgsize 8",
+                ),
+                "0 opened 0\n",
+            ),
+            Make(Act(1, "mq-open /q rw"), "1 opened 1\n"),
+            Make(Act(0, "mq-timedreceive 0 8 5"), ""),
+            Make(Act(1, "mq-timedreceive 1 8 5"), ""),
+            Make(Tick(4), ""),
+            Make(Tick(9), "0 refused 32 ETIMEDOUT TimedOut\n"),
+            Make(Act(0, "mq-timedsend 0 3 0 p"), "0 sent\n1 received 3 p\n"),
+            Make(Act(0, "mq-timedsend 0 0 0 q"), "0 sent\n"),
+            Make(
+                Act(0, "mq-timedsend 0 3 9 r"),
+                "0 refused 32 ETIMEDOUT TimedOut\n",
+            ),
+            Make(Act(0, "mq-timedsend 0 3 12 s"), ""),
+            Make(Act(1, "sem-open /s --create"), "1 opened 2\n"),
+            Make(Act(1, "sem-timedwait 2 11"), ""),
+            Make(Tick(12), "0 refused 32 ETIMEDOUT TimedOut\n"),
+            Make(Tick(0), "1 refused 32 ETIMEDOUT TimedOut\n"),
+            Make(Tick(12), ""),
+            Make(Act(1, "sem-timedwait 2 13"), ""),
+            Make(Act(1, "interrupt"), "1 interrupted EINTR\n1 done\n"),
+            Make(Tick(20), ""),
+        ],
+    ),
+    (
+        "Core::step of gives",
+        &[
+            Make(ANN, "0 started 0\n"),
+            Make(BOB, "1 started 1\n"),
+            Make(Act(0, "mq-open /h rw --create"), "0 opened 0\n"),
+            Make(Act(0, "mq-notify 0 on"), "0 done\n"),
+            Make(Act(0, "mq-give 0 0"), "0 refused 33 ESRCH NoTaker\n"),
+            Make(Act(0, "mq-give 0 1"), "0 done\n1 taken 0\n"),
+            Make(Act(0, "mq-send 0 0 x"), "0 refused 8 EBADF BadDescr\n"),
+            Make(Act(1, "mq-send 0 0 x"), "1 sent\n"),
+            Make(Act(1, "mq-receive 0 8192"), "1 received 0 x\n"),
+            Make(HangUp(0), ""),
+            Make(Act(1, "mq-give 0 0"), "1 refused 33 ESRCH NoTaker\n"),
+            Make(Act(1, "mq-close 0"), "1 done\n"),
+        ],
+    ),
+    (
         "Core::post",
         &[
             Put(ANN, None, ANNS, None),
@@ -148,6 +201,7 @@ fn event(alloc: Global, asked: &Asked) -> Result<Event, Fault> {
         Hello(found) => Ok(Event::Hello { found: *found }),
         Act(session, command) => act(alloc, *session, command),
         HangUp(session) => Ok(Event::Hangup { sid: Sid(*session) }),
+        Tick(moment) => Ok(Event::Tick { moment: *moment }),
     }
 }
 

@@ -16,14 +16,16 @@ pub enum Step {
     /// Opens to read, and blocking.
     Open(Sid, u64, Desc),
     Close(Sid, Desc, Option<u64>),
+    /// Hands on a description that the first holds to the second.
+    HandOver(Sid, Desc, Sid),
     Slot(Sid, Desc, Option<usize>),
     /// Makes charges of the users, of whom ann has this limit and uses nothing.
     Charge(u64),
 }
 
-use Step::{Charge, Close, Open, Slot};
+use Step::{Charge, Close, HandOver, Open, Slot};
 
-pub static CASES: [(&str, &[Step]); 2] = [
+pub static CASES: [(&str, &[Step]); 3] = [
     (
         "Descrs::open",
         &[
@@ -38,6 +40,24 @@ pub static CASES: [(&str, &[Step]); 2] = [
             Close(BOB, Desc(1), None),
         ],
     ),
+    (
+        "Descrs::hand_over",
+        &[
+            Open(ANN, 4, Desc(0)),
+            Open(BOB, 4, Desc(1)),
+            Open(ANN, 5, Desc(2)),
+            HandOver(BOB, Desc(1), ANN),
+            Slot(ANN, Desc(1), Some(1)),
+            Slot(BOB, Desc(1), None),
+            HandOver(ANN, Desc(2), BOB),
+            HandOver(ANN, Desc(0), BOB),
+            Slot(BOB, Desc(0), Some(0)),
+            Close(ANN, Desc(2), None),
+            Close(BOB, Desc(2), Some(5)),
+            Close(ANN, Desc(1), Some(4)),
+            Close(BOB, Desc(0), Some(4)),
+        ],
+    ),
     ("Charges::new", &[Charge(819_200)]),
 ];
 
@@ -46,6 +66,14 @@ fn open(descrs: &mut Descrs, sid: Sid, object: u64) -> Result<Desc, Fault> {
         return Err(Fault::Otherwise);
     }
     Ok(descrs.open(sid, object, Access::Read, false)?)
+}
+
+fn hand_over(descrs: &mut Descrs, sid: Sid, desc: Desc, taker: Sid) -> Result<bool, Fault> {
+    if descrs.get(sid, desc).is_none() {
+        return Ok(false);
+    }
+    descrs.hand_over(sid, desc, taker)?;
+    Ok(descrs.holder(desc) == Some(taker))
 }
 
 fn are_charged(alloc: Global, limit: u64) -> Result<bool, Fault> {
@@ -63,6 +91,7 @@ impl Subject for Descrs {
         Ok(match *step {
             Open(sid, object, wanted) => open(self, sid, object)? == wanted,
             Close(sid, desc, wanted) => self.close(sid, desc) == wanted,
+            HandOver(sid, desc, taker) => hand_over(self, sid, desc, taker)?,
             Slot(sid, desc, wanted) => self.slot(sid, desc) == wanted,
             Charge(limit) => are_charged(alloc, limit)?,
         })

@@ -13,13 +13,14 @@ pub enum Step {
     /// Feeds a piece, and then nothing as long as a step runs out of memory; what becomes of it.
     Feed(u64, &'static [u8], Fed),
     HangUp(u64),
+    Tick(u64),
     /// What the connection takes.
     Take(u64, &'static [u8]),
     /// Calls on the connection are answered so.
     Ended(u64, HubFault),
 }
 
-use Step::{Ended, Feed, HangUp, Open, Take};
+use Step::{Ended, Feed, HangUp, Open, Take, Tick};
 
 /// A hello by the key `ka1`, an open of `/a` that creates it, a send and a receive.
 const ALL: &[u8] =
@@ -35,10 +36,20 @@ const HELLO: &[u8] = b"\0\0\0\x06\x01\0\x03kb1";
 /// A session 1 was started.
 const STARTED: &[u8] = b"\0\0\0\x09\x41\0\0\0\0\0\0\0\x01";
 
+/// A hello by the key `ka1`, an open of `/s` that creates it, and a wait for it until the moment 5.
+const TIMED_WAIT: &[u8] =
+    b"\0\0\0\x06\x01\0\x03ka1\0\0\0\x0c\x0b\0\x02/s\x01\x01\xb6\0\0\0\0\0\0\0\x11\x1c\0\0\0\0\0\0\0\0\0\0\0\0\0\0\0\x05";
+
+/// What it is answered before that moment.
+const WAITING: &[u8] = b"\0\0\0\x09\x41\0\0\0\0\0\0\0\0\0\0\0\x09\x43\0\0\0\0\0\0\0\0";
+
+/// And at that moment.
+const TIMED_OUT: &[u8] = b"\0\0\0\x03\x4c\0\x20";
+
 /// How often nothing is fed.
 const FEEDS: usize = 3;
 
-pub static CASES: [(&str, &[Step]); 3] = [
+pub static CASES: [(&str, &[Step]); 4] = [
     (
         "Hub::feed",
         &[
@@ -81,6 +92,22 @@ pub static CASES: [(&str, &[Step]); 3] = [
             Open(1),
             HangUp(1),
             Take(1, b""),
+        ],
+    ),
+    (
+        "Hub::tick",
+        &[
+            Open(0),
+            Open(1),
+            Feed(0, TIMED_WAIT, Fed::Done),
+            Feed(1, HELLO, Fed::Done),
+            Tick(4),
+            Take(0, WAITING),
+            Tick(5),
+            Take(1, STARTED),
+            Take(0, TIMED_OUT),
+            Tick(5),
+            Take(0, b""),
         ],
     ),
     (
@@ -127,6 +154,10 @@ impl Subject for Hub {
             Feed(number, piece, wanted) => feed(self, alloc, Conn(number), piece)? == wanted,
             HangUp(number) => {
                 self.hang_up(alloc, Conn(number))?;
+                true
+            }
+            Tick(moment) => {
+                self.tick(alloc, moment)?;
                 true
             }
             Take(number, wanted) => self.take(alloc, Conn(number))?.as_slice() == wanted,

@@ -22,6 +22,7 @@ mod subject;
 mod texts;
 mod trails;
 
+use books::Case;
 use ipc_core::Core;
 use ipc_descr::Descrs;
 use ipc_hub::Hub;
@@ -31,6 +32,7 @@ use ipc_sem::Sem;
 use ipc_trail::Trail;
 use ipc_wire::Frames;
 use std::io;
+use std::sync::Wait;
 use subject::{Fresh, Outcome, go_anew};
 use texts::Texts;
 
@@ -62,14 +64,22 @@ fn show_parts<R: Print + AllocGlobal>(rt: &R) -> io::Result<()> {
     show_all::<Trail, R>(rt, &trails::CASES)
 }
 
+/// The cases of books.
+fn show_books<R: Print + AllocGlobal + Wait>(rt: &R) -> io::Result<()> {
+    let alloc = rt.alloc();
+    show(rt, "Book", books::go_anew(alloc, Case::Calls))?;
+    show(rt, "Book::tick_for", books::go_anew(alloc, Case::Ticks))?;
+    show(rt, "Shared", shares::go_anew(rt, alloc, Case::Calls))?;
+    show(rt, "Shared::tick", shares::go_anew(rt, alloc, Case::Ticks))
+}
+
 fn main(rt: HostRuntime) -> io::Result<()> {
     show_parts(&rt)?;
     show_all::<Core, HostRuntime>(&rt, &cores::CASES)?;
     show_all::<Frames, HostRuntime>(&rt, &frames::CASES)?;
     show_all::<Texts, HostRuntime>(&rt, &texts::CASES)?;
     show_all::<Hub, HostRuntime>(&rt, &hubs::CASES)?;
-    show(&rt, "Book", books::go_anew(rt.alloc()))?;
-    show(&rt, "Shared", shares::go_anew(&rt, rt.alloc()))?;
+    show_books(&rt)?;
     show(
         &rt,
         "serve_connection",

@@ -2,10 +2,10 @@
 
 ghost use Rattle.std.specs.Prelude.{◌≡◌, ◌^◌};
 
-use crate::books::{Serves, TRIES, Who, book_of, go_with};
+use crate::books::{Case, MOST_UNTAKEN, Serves, TRIES, Who, book_of, go_with, taken};
 use crate::fault::Fault;
 use crate::subject::Outcome;
-use ipc_book::{CloseFault, OfferFault, Seat, Shared};
+use ipc_book::{CloseFault, Seat, Shared};
 use ipc_terms::{Answer, Call, NoMemory, Sid};
 use ipc_trail::Receipt;
 use std::alloc::Global;
@@ -13,28 +13,11 @@ use std::marker::Brand;
 use std::sync::Wait;
 use std::sync::ledger::{Blank, Ledger};
 
-/// More answers than a seat leaves untaken here.
-const MOST_UNTAKEN: usize = 8;
-
 /// A shared book, and the runtime that waits for its lock.
 #[derive(Drop)]
 pub struct Hall<'r, L: Ledger, R: Wait> {
     pub rt: &'r R,
     pub book: Shared<L>,
-}
-
-/// The call is stepped where there is room for its answers.
-fn offer<L: Ledger, R: Wait>(
-    hall: &Hall<'_, L, R>,
-    alloc: Global,
-    seat: &mut Seat<L>,
-    asked: Call,
-) -> Result<Receipt, Fault> {
-    match hall.book.offer(hall.rt, alloc, seat, asked, MOST_UNTAKEN) {
-        Ok(receipt) => Ok(receipt),
-        Err((OfferFault::Fault(fault), _)) => Err(Fault::from(fault)),
-        Err((OfferFault::Full, _)) => Err(Fault::Otherwise),
-    }
 }
 
 impl<L: Ledger, R: Wait> Serves for Hall<'_, L, R> {
@@ -63,12 +46,19 @@ impl<L: Ledger, R: Wait> Serves for Hall<'_, L, R> {
     ) -> Result<Receipt, Fault> {
         match who {
             Who::Ann => Ok(self.book.call(self.rt, alloc, seat, asked)?),
-            Who::Bob => offer(self, alloc, seat, asked),
+            Who::Bob => taken(self.book.offer(self.rt, alloc, seat, asked, MOST_UNTAKEN)),
         }
     }
 
     fn hang_up(&mut self, alloc: Global, seat: &mut Seat<L>) -> Result<Receipt, Fault> {
         Ok(self.book.hang_up(self.rt, alloc, seat)?)
+    }
+
+    fn tick(&mut self, alloc: Global, seat: &mut Seat<L>, moment: u64) -> Result<Receipt, Fault> {
+        if seat.sid().is_some() {
+            return Err(Fault::Otherwise);
+        }
+        Ok(self.book.tick(self.rt, alloc, seat, moment)?)
     }
 
     fn answers(&mut self, seat: &Seat<L>) -> Vec<Answer> {
@@ -94,7 +84,7 @@ impl<L: Ledger, R: Wait> Serves for Hall<'_, L, R> {
     }
 }
 
-fn go_once<L: Ledger, R: Wait>(rt: &R, alloc: Global, blank: Blank) -> Outcome
+fn go_once<L: Ledger, R: Wait>(rt: &R, alloc: Global, blank: Blank, case: Case) -> Outcome
     requires name { blank.name ≡ L.name }
     requires parts { blank.parts ≡ L.parts }
     requires many { blank.parts ≡ 2 ^ 63 }
@@ -102,16 +92,16 @@ fn go_once<L: Ledger, R: Wait>(rt: &R, alloc: Global, blank: Blank) -> Outcome
     match book_of::<L>(alloc, blank) {
         Ok(book) => {
             let book = Shared::new(book);
-            go_with(alloc, Hall { rt, book })
+            go_with(alloc, Hall { rt, book }, case)
         }
         Err(fault) => Err((0, fault.of_case())),
     }
 }
 
 /// Makes a shared book and two seats, the steps, and closes the book.
-pub fn go_anew<R: Wait>(rt: &R, alloc: Global) -> Outcome {
+pub fn go_anew<R: Wait>(rt: &R, alloc: Global, case: Case) -> Outcome {
     for _ in 0..TRIES {
-        match go_once::<Brand, R>(rt, alloc, Blank::new(1 << 63)) {
+        match go_once::<Brand, R>(rt, alloc, Blank::new(1 << 63), case) {
             Err((_, Fault::Anew)) => {}
             outcome => return outcome,
         }

@@ -76,6 +76,11 @@ pub static CASES: [(&str, &[Step]); 8] = [
                 "mq-open hex:2f61 rw --create --maxmsg 3 --msgsize 8",
                 b"\0\0\0\x12\x03\0\x02/a\x03\x01\x01\x80\x01\0\0\0\x03\0\0\0\x08",
             ),
+            // An option before the values: `clap` reads it.
+            Command(
+                "mq-open --create hex:2f61 rw --maxmsg 3 --msgsize 8",
+                b"\0\0\0\x12\x03\0\x02/a\x03\x01\x01\x80\x01\0\0\0\x03\0\0\0\x08",
+            ),
             Command(
                 "mq-send 0 5 hi",
                 b"\0\0\0\x0f\x06\0\0\0\0\0\0\0\0\0\0\0\x05hi",
@@ -112,7 +117,7 @@ pub static CASES: [(&str, &[Step]); 8] = [
             Line(b"\0\0\0\x03\x4c\0\x1f", "refused 31 EACCES BadKey"),
         ],
     ),
-    ("usage_of_commands", &[Usage(23)]),
+    ("usage_of_commands", &[Usage(27)]),
     (
         "run_script",
         &[Script(

@@ -3,11 +3,13 @@
 use ipc_hub::{Conn, Hub};
 use std::alloc::{AllocError, Global};
 
-/// A call of a hub on one connection.
+/// A call of a hub, on one connection but for a tick.
 #[derive(Clone, Copy)]
 pub enum Call<'a> {
     Feed(&'a [u8]),
     HangUp,
+    /// A tick of this moment.
+    Tick(u64),
     /// What is taken is shown as hexadecimal digits.
     Take,
 }
@@ -21,6 +23,10 @@ pub fn line_of(alloc: Global, hub: &mut Hub, conn: Conn, call: Call) -> Result<S
         Call::HangUp => {
             let answer = hub.hang_up(alloc, conn);
             format!(in alloc; "hang_up {answer:?}\n")
+        }
+        Call::Tick(moment) => {
+            let answer = hub.tick(alloc, moment);
+            format!(in alloc; "tick {answer:?}\n")
         }
         Call::Take => match hub.take(alloc, conn) {
             Ok(bytes) => format!(in alloc; "take Ok({})\n", hex::encode(alloc, bytes)?),

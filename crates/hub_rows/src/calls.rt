@@ -16,20 +16,22 @@ fn open_line(alloc: Global, hub: &mut Hub) -> Result<String, AllocError> {
 }
 
 /// The answer to a line: `open`, or `feed`, `hang_up` or `take` with a connection's number, and the digits of
-/// what is fed.
+/// what is fed, or `tick` with a moment.
 fn answer_to(alloc: Global, hub: &mut Hub, line: &str) -> Result<String> {
     let (call, rest) = line.split_once(' ').unwrap_or((line, ""));
     let (number, digits) = rest.split_once(' ').unwrap_or((rest, ""));
     if call == "open" {
         return Ok(open_line(alloc, hub)?);
     }
-    let conn = Conn(number.parse::<u64>()?);
+    let number = number.parse::<u64>()?;
+    let conn = Conn(number);
     let answer = match call {
         "feed" => {
             let piece = bytes_of(alloc, digits)?;
             line_of(alloc, hub, conn, Call::Feed(&piece))
         }
         "hang_up" => line_of(alloc, hub, conn, Call::HangUp),
+        "tick" => line_of(alloc, hub, conn, Call::Tick(number)),
         "take" => line_of(alloc, hub, conn, Call::Take),
         _ => format!(in alloc; "{call} is no call\n"),
     };

@@ -15,10 +15,13 @@ mod stream;
 use anyhow::Result;
 
 /// The streams, in the order in which they are fed.
-const STREAMS: [&str; 15] = [
+const STREAMS: [&str; 18] = [
     "open_that_creates",
     "send_and_receive",
     "interrupt_of_nothing",
+    "timed_wait_by_no_description",
+    "timed_wait_ends_at_its_deadline",
+    "description_given_to_its_holder",
     "unknown_key",
     "body_of_no_bytes",
     "body_too_long",
@@ -34,8 +37,9 @@ const STREAMS: [&str; 15] = [
 ];
 
 /// The calls on several connections.
-const CALLS: [&str; 4] = [
+const CALLS: [&str; 5] = [
     "receive_served_by_another_connection",
+    "timed_receive_ends_at_its_deadline",
     "frame_cut_off_by_the_hang_up",
     "trail_of_each_end",
     "numbers_not_given",

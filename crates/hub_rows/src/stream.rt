@@ -10,7 +10,8 @@ use std::alloc::{AllocError, Global};
 use std::rt::Files;
 
 /// The calls that follow the feeds of a stream.
-const CALLS: [Call; 6] = [
+const CALLS: [Call; 7] = [
+    Call::Tick(5),
     Call::Take,
     Call::Take,
     Call::Feed(b""),

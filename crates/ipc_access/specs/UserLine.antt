@@ -5,6 +5,7 @@ use Rattle.std.specs.List.{list_all, slice_split}
 use Rattle.std.specs.Char.{is_ascii_lowercase, is_ascii_digit, is_ascii_alphanumeric}
 use Rattle.std.specs.Str.Parse.{digits_value}
 use Rattle.ipc_terms.specs.declared.ids.Gid.{Gid}
+use Rattle.ipc_terms.specs.declared.limits.TheConstants.{LIMIT_MAX}
 use Rattle.ipc_access.specs.declared.class.Cred.{Cred}
 use Rattle.ipc_access.specs.declared.users.User.{User}
 
@@ -62,7 +63,7 @@ groups_of (byte ∷ bytes) =
 -- nothing, for 819,200 bytes, or their number
 abbrev pub limit_of : List ℕ → Option ℕ
 limit_of [] = Some 819200
-limit_of (byte ∷ bytes) = number_up_to 1000000000000000 (byte ∷ bytes)
+limit_of (byte ∷ bytes) = number_up_to LIMIT_MAX (byte ∷ bytes)
 
 -- the credentials that the last four fields spell
 abbrev pub credentials_of : List ℕ → List ℕ → List ℕ → List ℕ → Option Cred

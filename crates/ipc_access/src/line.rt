@@ -8,7 +8,7 @@ ghost use Rattle.ipc_access.specs.UserLine.{is_name_byte, is_name, is_key, is_nu
 
 use crate::class::{Cred, Groups};
 use crate::users::User;
-use ipc_terms::{Bytes, Gid, Uid};
+use ipc_terms::{Bytes, Gid, LIMIT_MAX, Uid};
 use std::alloc::{AllocError, Global};
 use std::str;
 
@@ -17,9 +17,6 @@ const FIELDS: usize = 6;
 
 /// How many bytes a user's queues may take in all where the line does not say.
 const DEFAULT_LIMIT: u64 = 819_200;
-
-/// The greatest limit that a line may give.
-const MOST_LIMIT: u64 = 1_000_000_000_000_000;
 
 /// The most supplementary groups that a line may give.
 const MOST_GROUPS: usize = 64;
@@ -90,7 +87,7 @@ fn limit_of(text: &[u8]) -> Option<u64>
     if text.is_empty() {
         Some(DEFAULT_LIMIT)
     } else {
-        number_up_to(MOST_LIMIT, text)
+        number_up_to(LIMIT_MAX, text)
     }
 }
 

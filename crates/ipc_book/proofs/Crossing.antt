@@ -12,7 +12,7 @@ use denote.Struct.Tuple.{TupleAt, type_at}
 use Rattle.std.specs.contracts.alloc.Global as heap
 use Rattle.std.specs.contracts.snapshot.Snapshot as snapshot
 use Rattle.std.proofs.option.Option.TheSendSync as option
-use Rattle.ipc_numbered.proofs.Numbered.TheSendSync as numbered
+use Rattle.ipc_numbered.proofs.boxes.NumberedBoxes.TheSendSync as numbered
 use Rattle.std.proofs.vec.Vec.TheSendSync as vec
 use Rattle.std.proofs.alloc.Global.TheSendSync as global
 use Rattle.std.below.std_heap.proofs.GlobalAllocator.TheSendSync as globals
@@ -43,10 +43,12 @@ use Rattle.ipc_tables.specs.contracts.tables.Tables.TheInside as tables_inside
 use Rattle.ipc_tables.proofs.sessions.Sessions.TheSendSync as sessions
 use Rattle.ipc_trail.proofs.trail.Trail.TheSendSync as trail
 use Rattle.ipc_policy.proofs.config.Config.TheSendSync as config
+use Rattle.ipc_state.specs.contracts.clock.Clock as clock
 use Rattle.ipc_state.specs.contracts.states.State as state
 use Rattle.ipc_state.specs.contracts.states.State.TheInside as state_inside
 use Rattle.ipc_core.specs.contracts.core_state.Core as core
 use Rattle.ipc_core.specs.contracts.core_state.Core.TheInside as core_inside
+use Rattle.ipc_book.proofs.TreeCrossing.{timed_calls_send}
 use Rattle.ipc_book.specs.contracts.book.Book as book
 use Rattle.ipc_book.specs.contracts.book.Book.TheInside as book_inside
 use Rattle.ipc_book.specs.contracts.shared.Shared as shared
@@ -79,8 +81,11 @@ tables_inside_send = search (sendable, objects_send, globals.the_frees, vec.the_
 pub tables_send : IsSend tables.the_row
 tables_send = search (sendable, tables_inside_send) depth 20
 
+pub clock_send : IsSend (clock.the_field).row
+clock_send = search (sendable, timed_calls_send) depth 20
+
 pub state_inside_send : IsSend state_inside.the_row
-state_inside_send = search (sendable, tables_send, trail.the_send, config.the_field_send) depth 20
+state_inside_send = search (sendable, tables_send, clock_send, trail.the_send, config.the_field_send) depth 20
 
 pub state_send : IsSend state.the_row
 state_send = search (sendable, state_inside_send) depth 20

@@ -3,4 +3,5 @@ pub mod Counts
 pub mod Collected
 pub mod Starting
 pub mod Places
+pub mod TreeCrossing
 pub mod Crossing

@@ -1,5 +1,6 @@
 -- What is learned of a book, and what through a lock, which hides the book.
-use Rattle.std.specs.Prelude.{◌≡◌, ◌≢◌, ◌⊎◌, Option, None, Some, List, [], ◌∷◌, ◌++◌, length, Result, Err}
+use Rattle.std.specs.Prelude.{ℕ, ◌≡◌, ◌≢◌, ◌⊎◌, Option, None, Some, List, [], ◌∷◌, ◌++◌, length, Result, Err}
+use Rattle.std.specs.Option.{option_map}
 use Rattle.ipc_terms.specs.Lists.{changed}
 use Rattle.ipc_terms.specs.Lines.{event_op, rule_number}
 use Rattle.ipc_terms.specs.Events.{caller}
@@ -10,6 +11,7 @@ use Rattle.ipc_trail.specs.declared.audit.Receipt.{Receipt}
 use Rattle.ipc_policy.specs.declared.config.Config.{Config}
 use Rattle.ipc_policy.specs.History.{History}
 use Rattle.ipc_policy.specs.Sessions.{hellos}
+use Rattle.ipc_policy.specs.Bodies.{due}
 use Rattle.ipc_policy.specs.Verdict.{verdict, Legal, outbox}
 use Rattle.ipc_state.specs.Ranges.{first_bad}
 use Rattle.ipc_core.specs.CoreView.{CoreView}
@@ -34,6 +36,14 @@ pub record ReceiptSays (c : Config) (seat seat' : SeatView) (e : Event) (r : Rec
   pub by : r.sid ≡ caller e
   pub kept : seat'.list ≡ seat.list ++ record { receipt = r; event = e } ∷ []
   pub session : seat'.sid ≡ session_ruled (verdict c history e) (hellos history) e seat.sid
+
+-- which session's call is due, of this configuration: there is a history, legal under it, after which a tick of this moment ends that
+-- session's call, and none where there is no session
+pub record DueSays (c : Config) (moment : ℕ) (found : Option Sid) : Type 0 where
+  pub history : History
+  pub legal : Legal c history
+  pub in_range : first_bad c.limits ≡ None
+  pub due : option_map (λ s. s.0) found ≡ due c history moment
 
 -- a stale seat is told its last receipt, and what else stood at its place
 abbrev pub StaleSays : List Entry → Result Receipt StepFault → Type 0

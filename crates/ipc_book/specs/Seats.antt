@@ -7,7 +7,7 @@ use Rattle.ipc_terms.specs.declared.ids.Sid.{Sid}
 use Rattle.ipc_terms.specs.declared.call.Answer.{Answer}
 use Rattle.ipc_terms.specs.declared.rule.Rule.{Rule}
 use Rattle.ipc_terms.specs.declared.record.Event.{Event}
-use Rattle.ipc_terms.specs.declared.record.Event.TheVariants.{Hello, Do, Hangup}
+use Rattle.ipc_terms.specs.declared.record.Event.TheVariants.{Hello, Do, Hangup, Tick}
 use Rattle.ipc_trail.specs.declared.audit.Receipt.{Receipt}
 use Rattle.ipc_trail.specs.Receipts.{receipt_of}
 use Rattle.ipc_policy.specs.declared.config.Config.{Config}
@@ -114,6 +114,7 @@ session_ruled (Some rule) next e sid = sid
 session_ruled None next (Hello found) sid = Some (record { 0 = next })
 session_ruled None next (Do who call) sid = sid
 session_ruled None next (Hangup who) sid = None
+session_ruled None next (Tick moment) sid = sid
 
 -- a seat's session after an event that comes after what the core has
 abbrev pub session_after : CoreView → Event → Option Sid → Option Sid

@@ -1,7 +1,8 @@
 //! The book: what is shared behind the lock.
 
 ghost use Rattle.std.specs.Prelude.{◌≡◌, ◌<◌, ◌≤◌, ◌+◌, ◌^◌, ◌≢◌, [], ◌∷◌, ◌++◌, None, Some, length, map, OnOk, OnErr, IfOk, IfErr, IfSome, MatchOption};
-ghost use Rattle.ipc_terms.specs.declared.record.Event.TheVariants.{Hello, Do, Hangup};
+ghost use Rattle.ipc_terms.specs.declared.record.Event.TheVariants.{Hello, Do, Hangup, Tick};
+ghost use Rattle.ipc_terms.specs.Ops.{tick_number};
 ghost use Rattle.ipc_policy.specs.Verdict.{Legal, verdict, answers};
 ghost use Rattle.ipc_access.specs.Users.{user_of_key};
 ghost use Rattle.ipc_state.specs.Ranges.{first_bad};
@@ -283,6 +284,45 @@ impl<L: Ledger> Book<L> {
             seat.sid = None;
         }
         Ok(receipt)
+    }
+
+    /// Makes a tick, by a seat that has no session: of the parked calls whose deadline is at most the time that
+    /// it then is, the earliest ends, if there is one, and its session is told so. An `Err` changes nothing; the
+    /// seat's room may differ.
+    pub fn tick_for(
+        &mut self,
+        alloc: Global,
+        seat: &mut Seat<L>,
+        moment: u64,
+    ) -> Result<Receipt, StepFault>
+        requires { seat.old.sid ≡ None }
+        ensures ok { IfOk result (λ r. Stepped self.old.core self.new.core seat.old.list seat.new.list (Tick moment) r) }
+        ensures line { IfOk result (λ r. (r.sid ≡ session_of None) × (r.op ≡ tick_number)) }
+        ensures session { seat.new.sid ≡ None }
+        ensures stale { StaleExactly self.old.core seat.old.list result }
+        ensures err { OnErr result ((self.new ≡ self.old) × (seat.new ≡ seat.old)) }
+        ensures seats { self.new.seats ≡ self.old.seats }
+    {
+        let (receipt, _posted) = self.tick_made(alloc, seat, moment)?;
+        Ok(receipt)
+    }
+
+    /// The same, and whom it answered.
+    pub(crate) fn tick_made(
+        &mut self,
+        alloc: Global,
+        seat: &mut Seat<L>,
+        moment: u64,
+    ) -> Result<(Receipt, Posted), StepFault>
+        requires { seat.old.sid ≡ None }
+        ensures ok { IfOk result (λ p. Stepped self.old.core self.new.core seat.old.list seat.new.list (Tick moment) p.0) }
+        ensures told { IfOk result (λ p. p.1.caller ≡ session_at 0 (answers self.old.core.config self.old.core.history (Tick moment))) }
+        ensures session { seat.new.sid ≡ None }
+        ensures stale { StaleExactly self.old.core seat.old.list result }
+        ensures err { OnErr result ((self.new ≡ self.old) × (seat.new ≡ seat.old)) }
+        ensures seats { self.new.seats ≡ self.old.seats }
+    {
+        Ok(self.step_event(alloc, seat, Event::Tick { moment })?)
     }
 
     /// Gives what the seat's session has not taken yet, in order, and leaves none; nothing, where the

@@ -1,13 +1,13 @@
 //! The book behind its lock.
 
-ghost use Rattle.std.specs.Prelude.{◌≡◌, None, [], IfOk, IfErr, IfSome, OnErr};
-ghost use Rattle.ipc_terms.specs.declared.record.Event.TheVariants.{Hello, Do, Hangup};
+ghost use Rattle.std.specs.Prelude.{◌≡◌, ◌≤◌, None, [], length, IfOk, IfErr, IfSome, OnErr};
+ghost use Rattle.ipc_terms.specs.declared.record.Event.TheVariants.{Hello, Do, Hangup, Tick};
 ghost use Rattle.ipc_access.specs.Users.{user_of_key};
 ghost use Rattle.ipc_policy.specs.declared.config.Config.{Config};
 ghost use Rattle.ipc_policy.specs.Verdict.{Legal};
 ghost use Rattle.ipc_state.specs.Ranges.{first_bad};
 ghost use Rattle.ipc_book.specs.Seats.{BookView, session_of, without_full};
-ghost use Rattle.ipc_book.specs.Locked.{ReceiptSays, AnswersSay, StaleSays};
+ghost use Rattle.ipc_book.specs.Locked.{ReceiptSays, DueSays, AnswersSay, StaleSays};
 ghost use Rattle.ipc_book.specs.Closing.{AreTheTrail, CloseFaultSays};
 
 use crate::bell::{AWAKE_TURNS, Bell, Bells};
@@ -67,9 +67,9 @@ impl<L: Ledger> Shared<L> {
         self.bells.lock(rt).remove(session);
     }
 
-    /// Rings the bell of the session that was answered besides the caller, if any was.
-    fn ring<R: Wait>(&self, rt: &R, other: Option<Sid>) {
-        if let Some(session) = other {
+    /// Rings the bell of a session that another's step answered, if one was.
+    fn ring<R: Wait>(&self, rt: &R, answered: Option<Sid>) {
+        if let Some(session) = answered {
             self.bells.lock(rt).ring(session);
         }
     }
@@ -185,6 +185,37 @@ impl<L: Ledger> Shared<L> {
         self.hold(rt).hang_up_for(alloc, seat)
     }
 
+    /// Makes a tick, by a seat that has no session, and rings the bell of the session whose call ended, if one
+    /// did. An `Err` leaves the seat as it was, and the trail.
+    pub fn tick<R: Wait>(
+        &self,
+        rt: &R,
+        alloc: Global,
+        seat: &mut Seat<L>,
+        moment: u64,
+    ) -> Result<Receipt, StepFault>
+        requires { seat.old.sid ≡ None }
+        ensures ok { IfOk result (λ r. (c : Config) × ReceiptSays c seat.old seat.new (Tick moment) r) }
+        ensures session { seat.new.sid ≡ None }
+        ensures stale { StaleSays seat.old.list result }
+        ensures err { OnErr result (seat.new ≡ seat.old) }
+    {
+        seat.make_room();
+        let (receipt, posted) = self.hold(rt).tick_made(alloc, seat, moment)?;
+        self.ring(rt, posted.caller);
+        Ok(receipt)
+    }
+
+    /// The session whose call a tick of this moment would end, if there is one. By the time that it is known, it
+    /// may be another. Takes no memory.
+    pub fn due<R: Wait>(&self, rt: &R, moment: u64) -> Option<Sid>
+        ensures { (c : Config) × DueSays c moment result }
+    {
+        let book = self.hold(rt);
+        book.holds();
+        book.core().due(moment)
+    }
+
     /// Gives what the seat's session has not taken yet, in order, and leaves none; nothing, where the
     /// seat has no session or the trail has not its last receipt at its place. Takes no memory.
     pub fn collect<R: Wait>(&self, rt: &R, seat: &Seat<L>) -> Vec<Answer>
@@ -215,6 +246,7 @@ impl<L: Ledger> Shared<L> {
         ensures legal { IfOk result (λ b. Legal b.core.config b.core.history) }
         ensures in_range { IfOk result (λ b. first_bad b.core.config.limits ≡ None) }
         ensures ok { IfOk result (λ b. AreTheTrail b.core.history seats.items) }
+        ensures all { IfOk result (λ b. b.seats ≤ length seats.items) }
         ensures fault { IfErr result (λ t. (b : BookView) × Legal b.core.config b.core.history × CloseFaultSays b seats.items t.0) }
         ensures back { IfErr result (λ t. t.2 ≡ seats) }
     {

@@ -1,7 +1,7 @@
 -- What becomes of a hello and of commands, by the bytes that the server gives.
 use Rattle.std.specs.Prelude.{◌≡◌, ◌⊎◌, ℕ, zero, suc, Bool, true, false, ◌&&◌, not, List, Option, None, Some}
 use Rattle.ipc_terms.specs.declared.call.Answer.{Answer}
-use Rattle.ipc_terms.specs.declared.call.Answer.TheVariants.{Started, Notice, Refused}
+use Rattle.ipc_terms.specs.declared.call.Answer.TheVariants.{Started, Notice, Taken, Refused}
 use Rattle.ipc_words.specs.declared.faults.WordFault.{WordFault}
 use Rattle.ipc_client.specs.Connections.{Incoming, IsNext, incoming}
 use Rattle.ipc_client.specs.Frames.{AreAtFault, AreSpelled}
@@ -11,9 +11,10 @@ use Rattle.ipc_client.specs.declared.session.Session.{Session}
 abbrev pub incoming_of : {R W O : Type 0} → (R → Option (List ℕ)) → Session R W O → Incoming
 incoming_of remaining session = incoming remaining session.connection
 
--- what comes unasked
+-- what comes unasked: a notice, and a description that another session gave
 abbrev pub is_notice : Answer → Bool
 is_notice (Notice desc) = true
+is_notice (Taken desc) = true
 is_notice answer = false
 
 -- the answer to a hello that starts its session

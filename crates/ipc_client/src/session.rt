@@ -24,8 +24,9 @@ pub const LONGEST_KEY: usize = 65_535;
 
 /// Starts a session with the key over a connection, and sends each line of `commands`, a command's words parted by
 /// spaces and tabs, as a request. Writes the line of each answer, and waits for the next answer as long as only
-/// notices have come. A command at fault is not sent; its line is `fault usage`, or `fault value` and the argument.
-/// A refused hello is written too and ends it; an accepted one isn't. Each line is written at once.
+/// notices and descriptions that others gave have come. A command at fault is not sent; its line is `fault usage`,
+/// or `fault value` and the argument. A refused hello is written too and ends it; an accepted one isn't. Each line is
+/// written at once.
 ///
 /// `true` where the session started and every command was done: its words have a frame, and its answer is no refusal.
 ///
@@ -118,7 +119,7 @@ impl<R: Read + Drop, W: Write + Drop, O: Write + Drop> Session<R, W, O> {
         }
     }
 
-    /// Sends a request, and waits for its answer. The notices that come before it are written.
+    /// Sends a request, and waits for its answer. The notices and descriptions that come before it are written.
     fn answer_to(&mut self, frame: &[u8]) -> Result<Answer, ClientFault>
         ensures { IfOk result (λ answer. Reads (IsAnswered answer) (incoming_of R.remaining self.old) (incoming_of R.remaining self.new)) }
     {
@@ -180,11 +181,11 @@ fn is_start(answer: &Answer) -> bool
     matches!(answer, Answer::Started(_))
 }
 
-/// Whether the answer is a notice, which is no call's.
+/// Whether the answer is a notice, or tells of a description that another session gave: it is no call's.
 fn is_notice(answer: &Answer) -> bool
     ensures { result ≡ is_notice answer.now }
 {
-    matches!(answer, Answer::Notice(_))
+    matches!(answer, Answer::Notice(_) | Answer::Taken(_))
 }
 
 fn is_refusal(answer: &Answer) -> bool

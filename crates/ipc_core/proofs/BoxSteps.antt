@@ -10,7 +10,7 @@ use Rattle.ipc_terms.specs.declared.ids.Sid.{Sid}
 use Rattle.ipc_terms.specs.declared.call.Answer.{Answer}
 use Rattle.ipc_terms.specs.declared.call.Answer.TheVariants.{Started}
 use Rattle.ipc_terms.specs.declared.record.Event.{Event}
-use Rattle.ipc_terms.specs.declared.record.Event.TheVariants.{Hello, Do, Hangup}
+use Rattle.ipc_terms.specs.declared.record.Event.TheVariants.{Hello, Do, Hangup, Tick}
 use Rattle.ipc_core.specs.Boxes.{box_at, of_first, taken}
 use Rattle.ipc_policy.specs.declared.config.Config.{Config}
 use Rattle.ipc_policy.specs.History.{History}
@@ -78,6 +78,7 @@ accepted_told : (c : Config) (h : History) (e : Event) (s : ℕ) → cond (live_
 accepted_told c h (Hello found) s = started_told h s (record { 0 = hellos h }, Started (record { 0 = hellos h })) (live h s) refl
 accepted_told c h (Do sid call) s = refl
 accepted_told c h (Hangup sid) s = none_kept (not (eqb sid.0 s) && live h s) ∙ sym (none_kept (live h s))
+accepted_told c h (Tick moment) s = refl
 
 live_told : (c : Config) (h : History) (e : Event) (rule : Option Rule) (s : ℕ) → cond (live (record { event = e; rule = rule } ∷ h) s) (for_session s (answers_at rule c h e)) [] ≡ cond (starts rule e || live h s) (for_session s (answers_at rule c h e)) []
 live_told c h e (Some rule) s = ap (λ b. cond b (for_session s (answers_at (Some rule) c h e)) []) ((same_values c h e rule).live s)
@@ -124,6 +125,7 @@ hellos_at c h e (Some rule) = (same_values c h e rule).hellos
 hellos_at c h (Hello found) None = (grows c h (Hello found)).hello_count
 hellos_at c h (Do sid call) None = (grows c h (Do sid call)).hello_count
 hellos_at c h (Hangup sid) None = (grows c h (Hangup sid)).hello_count
+hellos_at c h (Tick moment) None = (grows c h (Tick moment)).hello_count
 
 count_grown : (rule : Option Rule) (e : Event) (boxes : List (List Answer)) → length boxes ≤ length (with_box (starts rule e) boxes)
 count_grown rule e boxes = at (starts rule e) where

@@ -16,7 +16,8 @@ use Rattle.ipc_policy.specs.declared.asking.Described.{Described}
 use Rattle.ipc_policy.specs.declared.config.Config.{Config}
 use Rattle.ipc_policy.specs.History.{History, is_some_and}
 use Rattle.ipc_policy.specs.Descriptions.{holds}
-use Rattle.ipc_policy.specs.Queues.{Send, next, is_full, is_empty}
+use Rattle.ipc_policy.specs.Queues.{Send, next}
+use Rattle.ipc_policy.specs.Bodies.{is_full, is_empty}
 use Rattle.ipc_policy.specs.Registrations.{registered}
 use Rattle.ipc_policy.specs.Rules.{attributes_held}
 use Rattle.ipc_policy.specs.Verdict.{Legal, answers_of, noticed, send_answers}

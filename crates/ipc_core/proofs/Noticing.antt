@@ -14,7 +14,8 @@ use Rattle.ipc_policy.specs.declared.config.Registration.{Registration}
 use Rattle.ipc_policy.specs.History.{History, is_some_and}
 use Rattle.ipc_policy.specs.Objects.{object}
 use Rattle.ipc_policy.specs.Descriptions.{holds}
-use Rattle.ipc_policy.specs.Queues.{Waiter, Queue, has_none, attributes, queue, is_full, is_empty}
+use Rattle.ipc_policy.specs.Queues.{Waiter, Queue, has_none, attributes}
+use Rattle.ipc_policy.specs.Bodies.{queue, is_full, is_empty}
 use Rattle.ipc_policy.specs.Registrations.{is_idle, registered}
 use Rattle.ipc_policy.specs.Rules.{attributes_held}
 use Rattle.ipc_policy.specs.Verdict.{answers_of, receiver_answers, noticed, send_answers}

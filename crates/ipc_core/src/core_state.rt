@@ -1,7 +1,11 @@
 //! The core.
 
-ghost use Rattle.std.specs.Prelude.{◌≡◌, ◌≤◌, ◌||◌, ◌++◌, [], IfOk, IfErr, OnOk, OnErr, filter, length, map, take, MatchOption};
-ghost use Rattle.std.specs.Option.{option_to_list};
+ghost use Rattle.std.specs.Prelude.{◌≡◌, ◌≤◌, ◌||◌, ◌++◌, [], None, IfOk, IfErr, OnOk, OnErr, filter, length, map, take, MatchOption};
+ghost use Rattle.std.specs.Option.{option_map, option_to_list};
+ghost use Rattle.ipc_terms.specs.Timed.{plain};
+ghost use Rattle.ipc_policy.specs.Bodies.{due};
+ghost use Rattle.ipc_policy.specs.Rules.{would_park};
+ghost use Rattle.ipc_state.specs.OnTime.{ended_call};
 ghost use Rattle.ipc_terms.specs.Lists.{changed};
 ghost use Rattle.ipc_core.specs.Boxes.{box_at, taken};
 ghost use Rattle.ipc_policy.specs.Sessions.{live};
@@ -106,6 +110,13 @@ impl Core {
         decide(&Lookup::new(&self.state, event))
     }
 
+    /// The session whose call a tick of this moment ends, if there is one. Takes no memory.
+    pub fn due(&self, moment: u64) -> Option<Sid>
+        ensures { option_map (λ s. s.0) result ≡ due self.now.config self.now.history moment }
+    {
+        self.state.due(moment)
+    }
+
     /// The answers that the session has not taken yet, in order; nothing, where there is no such
     /// session. Takes no memory.
     pub fn answers(&self, sid: Sid) -> &[Answer]
@@ -202,6 +213,8 @@ impl Core {
         requires verdict { rule ≡ verdict self.old.config self.old.history event }
         requires held { meant.held ≡ by_description (object_by self.old.history) event }
         requires bound { meant.bound ≡ by_name (object_bound self.old.history) event }
+        requires ended { verdict self.old.config self.old.history event ≡ None → option_map (λ s. s.0) meant.ended ≡ ended_call self.old.config self.old.history (plain event) }
+        requires parks { meant.parks ≡ would_park self.old.config self.old.history (plain event) }
         requires answers { told_list told ≡ filter (λ p. starts rule event || live self.old.history p.0.0) (answers self.old.config self.old.history event) }
         ensures ok { OnOk result (self.new ≡ after_step event self.old) }
         ensures err { OnErr result (self.new ≡ self.old) }

@@ -5,7 +5,7 @@ use Rattle.std.proofs.lemmas.Bool.Decides.{nat_tests}
 use Rattle.std.proofs.lemmas.List.Sums.{sum_by-append, sum_by-cons}
 use Rattle.ipc_descr.specs.declared.row.Row.{Row}
 use Rattle.ipc_terms.specs.Lists.{changed_first}
-use Rattle.ipc_descr.specs.Descriptions.{is_desc, is_of, without_desc, with_nonblock}
+use Rattle.ipc_descr.specs.Descriptions.{is_desc, is_of, without_desc}
 
 -- the rows are none of description d
 abbrev pub Others : ℕ → List Row → Type 0
@@ -38,8 +38,8 @@ count_once row before after p =
     let weight : Row → ℕ = λ x. cond (p x) 1 0 in
     count_by_test (p row) _ _ _ _ _ (sum_by-append weight before (row ∷ after)) (sum_by-cons weight row after) (sum_by-append weight before after)
 
-pub changed_split : (d : ℕ) (b : Bool) (row : Row) (before after : List Row) → row.desc.0 ≡ d → Others d before → changed_first (is_desc d) (with_nonblock b) (before ++ row ∷ after) ≡ before ++ with_nonblock b row ∷ after
-changed_split d b row [] after is hb =
+pub changed_split : (d : ℕ) (change : Row → Row) (row : Row) (before after : List Row) → row.desc.0 ≡ d → Others d before → changed_first (is_desc d) change (before ++ row ∷ after) ≡ before ++ change row ∷ after
+changed_split d change row [] after is hb =
     let test : is_desc d row ≡ true = grind (arith, nat_tests) in
     rw test refl
-changed_split d b row (first ∷ before) after is hb = rw hb.0 (ap (λ rest. first ∷ rest) (changed_split d b row before after is hb.1))
+changed_split d change row (first ∷ before) after is hb = rw hb.0 (ap (λ rest. first ∷ rest) (changed_split d change row before after is hb.1))

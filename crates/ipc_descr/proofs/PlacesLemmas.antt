@@ -1,10 +1,12 @@
 -- What happens to the rows when the slab changes at one key.
-use Rattle.std.proofs.Common.{◌≡◌, ◌≢◌, Bool, true, false, cond, ℕ, zero, suc, ◌+◌, ◌≤◌, ◌<◌, ◌==◌, List, [], ◌∷◌, ◌++◌, Option, Some, None, refl, sym, ap, subst, ◌∙◌, arith, find, length, slice_get, if◌then◌else◌}
+use Rattle.std.proofs.Common.{◌≡◌, ◌≢◌, Bool, true, false, cond, ℕ, zero, suc, ◌+◌, ◌≤◌, ◌<◌, ◌==◌, List, [], ◌∷◌, ◌++◌, Option, Some, None, refl, sym, ap, subst, ◌∙◌, arith, find, length, if◌then◌else◌}
 use Rattle.std.specs.Prelude.{⊤}
 use Rattle.std.specs.Option.{option_and_then}
 use Rattle.std.specs.BTreeMap.{is_at}
 use Rattle.std.specs.Ordering.{nat_cmp}
 use Rattle.std.proofs.lemmas.Bool.Decides.{nat_tests}
+use Rattle.ipc_terms.specs.Lists.{changed}
+use Rattle.ipc_numbered.specs.Slots.{at, emptied}
 use Rattle.ipc_descr.specs.declared.row.Row.{Row}
 use Rattle.ipc_descr.specs.Descriptions.{is_desc, is_of, if_of, row_of, without_desc, Rise}
 use Rattle.ipc_descr.specs.Places.{if_desc, row_at, row_numbered, with_row, rows_of}
@@ -28,6 +30,10 @@ only_by_test d row false test = tt
 pub only : (d : ℕ) (o : Option Row) → IsOnly d (option_and_then (if_desc d) o)
 only d None = tt
 only d (Some row) = only_by_test d row (is_desc d row) refl
+
+pub only_slot : (stored : ℕ → Option Row) (d : ℕ) (slot : Option ℕ) → IsOnly d (option_and_then (row_at stored d) slot)
+only_slot stored d None = tt
+only_slot stored d (Some k) = only d (stored k)
 
 pub only_same : (d : ℕ) (o : Option Row) → IsOnly d o → option_and_then (if_desc d) o ≡ o
 only_same d None is = refl
@@ -61,15 +67,15 @@ rise_with : (d high : ℕ) (o : Option Row) (rows : List Row) → IsOnly d o →
 rise_with d high None rows is rise = rise_from d (d + 1) high rows (omega arith) rise
 rise_with d high (Some row) rows is rise = let n : row.desc.0 ≡ d = is in (omega arith, subst (λ m. Rise (m + 1) high rows) (sym n) rise)
 
-pub rise : (stored : ℕ → Option Row) (n high : ℕ) (slots : List ℕ) → n + length slots ≡ high → Rise n high (rows_of stored n slots)
+pub rise : (stored : ℕ → Option Row) (n high : ℕ) (slots : List (Option ℕ)) → n + length slots ≡ high → Rise n high (rows_of stored n slots)
 rise stored n high [] e = omega arith
-rise stored n high (slot ∷ slots) e = rise_with n high (row_at stored n slot) _ (only n (stored slot)) (rise stored (n + 1) high slots (omega arith))
+rise stored n high (slot ∷ slots) e = rise_with n high (option_and_then (row_at stored n) slot) _ (only_slot stored n slot) (rise stored (n + 1) high slots (omega arith))
 
 others_rise : (d low high : ℕ) (rows : List Row) → d < low → Rise low high rows → Others d rows
 others_rise d low high [] below rise = tt
 others_rise d low high (row ∷ rows) below rise = let l : low ≤ row.desc.0 = rise.0 in (grind (arith, nat_tests), others_rise d (row.desc.0 + 1) high rows (omega arith) rise.1)
 
-others_above : (stored : ℕ → Option Row) (d n : ℕ) (slots : List ℕ) → d < n → Others d (rows_of stored n slots)
+others_above : (stored : ℕ → Option Row) (d n : ℕ) (slots : List (Option ℕ)) → d < n → Others d (rows_of stored n slots)
 others_above stored d n slots below = others_rise d n (n + length slots) _ below (rise stored n _ slots refl)
 
 -- ---- look-up
@@ -86,38 +92,42 @@ find_later : (d n : ℕ) (o : Option Row) (rows : List Row) → d ≢ n → IsOn
 find_later d n None rows apart is = refl
 find_later d n (Some row) rows apart is = let e : row.desc.0 ≡ n = is in let test : is_desc d row ≡ false = grind (arith, nat_tests) in rw test refl
 
-found_from : (stored : ℕ → Option Row) (d n i : ℕ) (slots : List ℕ) → d ≡ n + i → find (is_desc d) (rows_of stored n slots) ≡ option_and_then (row_at stored d) (slice_get slots i)
+found_from : (stored : ℕ → Option Row) (d n i : ℕ) (slots : List (Option ℕ)) → d ≡ n + i → find (is_desc d) (rows_of stored n slots) ≡ option_and_then (row_at stored d) (at slots i)
 found_from stored d n i [] e = refl
 found_from stored d n zero (slot ∷ slots) e =
     let same : n ≡ d = omega arith in
-    rw same (find_here d (row_at stored d slot) _ (only d (stored slot)) (others_above stored d (d + 1) slots (omega arith)))
+    rw same (find_here d (option_and_then (row_at stored d) slot) _ (only_slot stored d slot) (others_above stored d (d + 1) slots (omega arith)))
 found_from stored d n (suc i) (slot ∷ slots) e =
-    find_later d n (row_at stored n slot) _ (λ (same : d ≡ n). omega arith) (only n (stored slot)) ∙ found_from stored d (n + 1) i slots (omega arith)
+    find_later d n (option_and_then (row_at stored n) slot) _ (λ (same : d ≡ n). omega arith) (only_slot stored n slot) ∙ found_from stored d (n + 1) i slots (omega arith)
 
--- the vector leads to each row
-pub found : (stored : ℕ → Option Row) (slots : List ℕ) (d : ℕ) → find (is_desc d) (rows_of stored 0 slots) ≡ row_numbered stored slots d
+-- the keys lead to each row
+pub found : (stored : ℕ → Option Row) (slots : List (Option ℕ)) (d : ℕ) → find (is_desc d) (rows_of stored 0 slots) ≡ row_numbered stored slots d
 found stored slots d = found_from stored d 0 d slots (omega arith)
 
-pub found_of : (stored : ℕ → Option Row) (slots : List ℕ) (s d : ℕ) → row_of (rows_of stored 0 slots) s d ≡ option_and_then (if_of s) (row_numbered stored slots d)
+pub found_of : (stored : ℕ → Option Row) (slots : List (Option ℕ)) (s d : ℕ) → row_of (rows_of stored 0 slots) s d ≡ option_and_then (if_of s) (row_numbered stored slots d)
 found_of stored slots s d = ap (option_and_then (if_of s)) (found stored slots d)
 
 -- ---- a row more
 
-rows_same : (stored next : ℕ → Option Row) (d n : ℕ) (slots : List ℕ) → ((m : ℕ) → n ≤ m → m < n + length slots → m ≢ d) → DifferAt stored next d → rows_of next n slots ≡ rows_of stored n slots
+differ_slot : (stored next : ℕ → Option Row) (d m : ℕ) (slot : Option ℕ) → m ≢ d → DifferAt stored next d → option_and_then (row_at next m) slot ≡ option_and_then (row_at stored m) slot
+differ_slot stored next d m None apart differ = refl
+differ_slot stored next d m (Some q) apart differ = differ m q apart
+
+rows_same : (stored next : ℕ → Option Row) (d n : ℕ) (slots : List (Option ℕ)) → ((m : ℕ) → n ≤ m → m < n + length slots → m ≢ d) → DifferAt stored next d → rows_of next n slots ≡ rows_of stored n slots
 rows_same stored next d n [] apart differ = refl
 rows_same stored next d n (slot ∷ slots) apart differ =
-    rw (differ n slot (apart n (omega arith) (omega arith)), rows_same stored next d (n + 1) slots (λ (m : ℕ) (low : n + 1 ≤ m) (high : m < (n + 1) + length slots). apart m (omega arith) (omega arith)) differ) refl
+    rw (differ_slot stored next d n slot (apart n (omega arith) (omega arith)) differ, rows_same stored next d (n + 1) slots (λ (m : ℕ) (low : n + 1 ≤ m) (high : m < (n + 1) + length slots). apart m (omega arith) (omega arith)) differ) refl
 
 with_append : (o : Option Row) (before after : List Row) → with_row o (before ++ after) ≡ with_row o before ++ after
 with_append None before after = refl
 with_append (Some row) before after = refl
 
-rows_last : (stored : ℕ → Option Row) (n last k : ℕ) (slots : List ℕ) → n + length slots ≡ last → rows_of stored n (slots ++ k ∷ []) ≡ rows_of stored n slots ++ with_row (row_at stored last k) []
+rows_last : (stored : ℕ → Option Row) (n last k : ℕ) (slots : List (Option ℕ)) → n + length slots ≡ last → rows_of stored n (slots ++ Some k ∷ []) ≡ rows_of stored n slots ++ with_row (row_at stored last k) []
 rows_last stored n last k [] e = let same : n ≡ last = omega arith in rw same refl
 rows_last stored n last k (slot ∷ slots) e =
-    ap (with_row (row_at stored n slot)) (rows_last stored (n + 1) last k slots (omega arith)) ∙ with_append (row_at stored n slot) _ _
+    ap (with_row (option_and_then (row_at stored n) slot)) (rows_last stored (n + 1) last k slots (omega arith)) ∙ with_append (option_and_then (row_at stored n) slot) _ _
 
-pub rows_pushed : (stored next : ℕ → Option Row) (k : ℕ) (row : Row) (slots : List ℕ) → stored k ≡ None → next k ≡ Some row → ((q : ℕ) → q ≢ k → next q ≡ stored q) → row.desc.0 ≡ length slots → rows_of next 0 (slots ++ k ∷ []) ≡ rows_of stored 0 slots ++ row ∷ []
+pub rows_pushed : (stored next : ℕ → Option Row) (k : ℕ) (row : Row) (slots : List (Option ℕ)) → stored k ≡ None → next k ≡ Some row → ((q : ℕ) → q ≢ k → next q ≡ stored q) → row.desc.0 ≡ length slots → rows_of next 0 (slots ++ Some k ∷ []) ≡ rows_of stored 0 slots ++ row ∷ []
 rows_pushed stored next k row slots vacant here others n =
     let d = length slots in
     let differ = differ_at stored next d k (rw vacant tt) (rw here n) others in
@@ -129,7 +139,7 @@ rows_pushed stored next k row slots vacant here others n =
 -- ---- a row less, or another in its place
 
 -- where the row of description d stands in both lists, for slabs that differ at it alone
-pub record Split (stored next : ℕ → Option Row) (d k n : ℕ) (slots : List ℕ) : Type 0 where
+pub record Split (stored next : ℕ → Option Row) (d k n : ℕ) (slots : List (Option ℕ)) : Type 0 where
   pub before : List Row
   pub after : List Row
   pub was : rows_of stored n slots ≡ before ++ with_row (row_at stored d k) after
@@ -137,7 +147,7 @@ pub record Split (stored next : ℕ → Option Row) (d k n : ℕ) (slots : List 
   pub others_before : Others d before
   pub others_after : Others d after
 
-split_here : (stored next : ℕ → Option Row) (d slot : ℕ) (slots : List ℕ) → DifferAt stored next d → Split stored next d slot d (slot ∷ slots)
+split_here : (stored next : ℕ → Option Row) (d slot : ℕ) (slots : List (Option ℕ)) → DifferAt stored next d → Split stored next d slot d (Some slot ∷ slots)
 split_here stored next d slot slots differ = record {
   before = [];
   after = rows_of stored (d + 1) slots;
@@ -151,29 +161,40 @@ others_with : (d n : ℕ) (o : Option Row) (rows : List Row) → d ≢ n → IsO
 others_with d n None rows apart is others = others
 others_with d n (Some row) rows apart is others = let e : row.desc.0 ≡ n = is in (grind (arith, nat_tests), others)
 
-split_later : (stored next : ℕ → Option Row) (d k n slot : ℕ) (slots : List ℕ) → n ≢ d → DifferAt stored next d → Split stored next d k (n + 1) slots → Split stored next d k n (slot ∷ slots)
+split_later : (stored next : ℕ → Option Row) (d k n : ℕ) (slot : Option ℕ) (slots : List (Option ℕ)) → n ≢ d → DifferAt stored next d → Split stored next d k (n + 1) slots → Split stored next d k n (slot ∷ slots)
 split_later stored next d k n slot slots apart differ rest =
-    let first = row_at stored n slot in
+    let first = option_and_then (row_at stored n) slot in
     record {
       before = with_row first rest.before;
       after = rest.after;
       was = ap (with_row first) rest.was ∙ with_append first rest.before _;
-      now = ap (λ o. with_row o (rows_of next (n + 1) slots)) (differ n slot apart) ∙ ap (with_row first) rest.now ∙ with_append first rest.before _;
-      others_before = others_with d n first rest.before (λ (same : d ≡ n). apart (sym same)) (only n (stored slot)) rest.others_before;
+      now = ap (λ o. with_row o (rows_of next (n + 1) slots)) (differ_slot stored next d n slot apart differ) ∙ ap (with_row first) rest.now ∙ with_append first rest.before _;
+      others_before = others_with d n first rest.before (λ (same : d ≡ n). apart (sym same)) (only_slot stored n slot) rest.others_before;
       others_after = rest.others_after;
     }
 
-split_from : (stored next : ℕ → Option Row) (d k n i : ℕ) (slots : List ℕ) → slice_get slots i ≡ Some k → d ≡ n + i → DifferAt stored next d → Split stored next d k n slots
+split_from : (stored next : ℕ → Option Row) (d k n i : ℕ) (slots : List (Option ℕ)) → at slots i ≡ Some k → d ≡ n + i → DifferAt stored next d → Split stored next d k n slots
 split_from stored next d k n i [] there e differ = cc
 split_from stored next d k n zero (slot ∷ slots) there e differ =
     let same : n ≡ d = omega arith in
-    let key : slot ≡ k = cc in
-    subst (λ m. Split stored next d k m (slot ∷ slots)) (sym same) (subst (λ q. Split stored next d q d (slot ∷ slots)) key (split_here stored next d slot slots differ))
+    subst (λ m. Split stored next d k m (slot ∷ slots)) (sym same) (subst (λ q. Split stored next d k d (q ∷ slots)) (sym there) (split_here stored next d k slots differ))
 split_from stored next d k n (suc i) (slot ∷ slots) there e differ =
     split_later stored next d k n slot slots (λ (same : n ≡ d). omega arith) differ (split_from stored next d k (n + 1) i slots there (omega arith) differ)
 
-pub split : (stored next : ℕ → Option Row) (d k : ℕ) (slots : List ℕ) → slice_get slots d ≡ Some k → DifferAt stored next d → Split stored next d k 0 slots
+pub split : (stored next : ℕ → Option Row) (d k : ℕ) (slots : List (Option ℕ)) → at slots d ≡ Some k → DifferAt stored next d → Split stored next d k 0 slots
 split stored next d k slots there differ = split_from stored next d k 0 d slots there (omega arith) differ
+
+emptied_from : (stored : ℕ → Option Row) (d k n i : ℕ) (slots : List (Option ℕ)) → at slots i ≡ Some k → d ≡ n + i → row_at stored d k ≡ None → rows_of stored n (changed emptied slots i) ≡ rows_of stored n slots
+emptied_from stored d k n i [] there e gone = refl
+emptied_from stored d k n zero (slot ∷ slots) there e gone =
+    let same : d ≡ n = omega arith in
+    sym (ap (λ o. with_row o (rows_of stored (n + 1) slots)) (ap (option_and_then (row_at stored n)) there ∙ subst (λ m. row_at stored m k ≡ None) same gone))
+emptied_from stored d k n (suc i) (slot ∷ slots) there e gone =
+    ap (with_row (option_and_then (row_at stored n) slot)) (emptied_from stored d k (n + 1) i slots there (omega arith) gone)
+
+-- where no row stands at a key it may go
+pub rows_emptied : (stored : ℕ → Option Row) (d k : ℕ) (slots : List (Option ℕ)) → at slots d ≡ Some k → stored k ≡ None → rows_of stored 0 (changed emptied slots d) ≡ rows_of stored 0 slots
+rows_emptied stored d k slots there none = emptied_from stored d k 0 d slots there (omega arith) (ap (option_and_then (if_desc d)) none)
 
 -- ---- where the session doesn't hold it
 
@@ -187,5 +208,5 @@ unheld low high s d [] rise none = refl
 unheld low high s d (row ∷ rows) rise none =
     unheld_by_test s d row rows (is_desc d row) (is_of s row) refl refl none (λ (same : is_desc d row ≡ true). filter_others s d rows (others_rise d (row.desc.0 + 1) high rows (grind (arith, nat_tests)) rise.1)) (unheld (row.desc.0 + 1) high s d rows rise.1)
 
-pub rows_unheld : (stored : ℕ → Option Row) (slots : List ℕ) (s d : ℕ) → row_of (rows_of stored 0 slots) s d ≡ None → without_desc (rows_of stored 0 slots) s d ≡ rows_of stored 0 slots
+pub rows_unheld : (stored : ℕ → Option Row) (slots : List (Option ℕ)) (s d : ℕ) → row_of (rows_of stored 0 slots) s d ≡ None → without_desc (rows_of stored 0 slots) s d ≡ rows_of stored 0 slots
 rows_unheld stored slots s d none = unheld 0 (length slots) s d _ (rise stored 0 _ slots (omega arith)) none

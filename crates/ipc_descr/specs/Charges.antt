@@ -1,5 +1,5 @@
 -- How many bytes each user's queues take, and how many they may: a list with one charge a user.
-use Rattle.std.specs.Prelude.{Bool, ℕ, ◌+◌, ◌-◌, ◌*◌, ◌==◌, min, List, find, Option}
+use Rattle.std.specs.Prelude.{Bool, ℕ, ◌+◌, ◌-◌, ◌==◌, List, find, Option}
 use Rattle.std.specs.Option.{option_map_or}
 use Rattle.ipc_terms.specs.Lists.{changed_first}
 use Rattle.ipc_access.specs.declared.users.User.{User}
@@ -48,8 +48,3 @@ with_added charges u bytes = changed_first (is_user u) (raised bytes) charges
 -- user u's queues take so many bytes less
 abbrev pub with_less : List Charge → ℕ → ℕ → List Charge
 with_less charges u bytes = changed_first (is_user u) (lowered bytes) charges
-
--- the bytes of a queue of at most so many messages of at most so many bytes: 48 beside each message,
--- 48 beside each priority that may be there, of the 32,768, and the messages themselves
-abbrev pub bytes_of : ℕ → ℕ → ℕ
-bytes_of maxmsg msgsize = (maxmsg * 48 + min maxmsg 32768 * 48) + maxmsg * msgsize

@@ -58,6 +58,10 @@ with_open t sid o access nonblock = record {
 abbrev pub with_nonblock : Bool → Row → Row
 with_nonblock nonblock row = record row { nonblock = nonblock }
 
+-- it is another session's
+abbrev pub with_session : Sid → Row → Row
+with_session taker row = record row { session = taker }
+
 -- the numbers of the rows rise from `low` on, and stay below `high`
 abbrev pub Rise : ℕ → ℕ → List Row → Type 0
 Rise low high [] = low ≤ high

@@ -2,20 +2,18 @@
 
 ghost use Rattle.std.specs.Prelude.{◌≡◌, ◌+◌, ◌≤◌, ◌^◌, nat_lt, if◌then◌else◌, Some, None, map, IsSome, IfOk};
 ghost use Rattle.std.specs.Option.{option_copied};
-ghost use Rattle.ipc_descr.specs.Charges.{charge_of, used_of, limit_of, uncharged, raised, with_limit, with_added, with_less, bytes_of};
+ghost use Rattle.ipc_terms.specs.Objects.{queue_bytes};
+ghost use Rattle.ipc_descr.specs.Charges.{charge_of, used_of, limit_of, uncharged, raised, with_limit, with_added, with_less};
 ghost use Rattle.ipc_descr.specs.UserPlaces.{AreOfCharges};
 
 use ipc_access::{User, UserIds, Users};
-use ipc_terms::{NoMemory, Uid};
+use ipc_terms::{MQ_PRIO_MAX, NoMemory, Uid};
 use std::alloc::Global;
 use std::marker::Model;
 
 /// The bytes that a message has beside its own, and those that a priority has (`getrlimit(2)`,
 /// `RLIMIT_MSGQUEUE`: `struct msg_msg` and `struct posix_msg_tree_node`, on a machine of 64 bits).
 const BYTES_BESIDE: u64 = 48;
-
-/// How many priorities there are: 0 to 32,767 (`mq_overview(7)`).
-const PRIORITIES: u32 = 32_768;
 
 /// How many bytes the queues of one user take, and how many they may (`getrlimit(2)`,
 /// `RLIMIT_MSGQUEUE`). A limit that was lowered may be below what is used.
@@ -113,7 +111,7 @@ impl Charges {
 pub fn bytes_of(maxmsg: u32, msgsize: u32) -> u64
     requires messages { maxmsg ≤ 65536 }
     requires size { msgsize ≤ 16777216 }
-    ensures { result ≡ bytes_of maxmsg msgsize }
+    ensures { result ≡ queue_bytes maxmsg msgsize }
 {
     match checked_bytes_of(maxmsg, msgsize) {
         Some(bytes) => bytes,
@@ -123,10 +121,10 @@ pub fn bytes_of(maxmsg: u32, msgsize: u32) -> u64
 
 /// The same for any attributes; `None` where it is more than a `u64` holds.
 pub fn checked_bytes_of(maxmsg: u32, msgsize: u32) -> Option<u64>
-    ensures { result ≡ (if nat_lt (bytes_of maxmsg msgsize) (2 ^ 64) then Some (bytes_of maxmsg msgsize) else None) }
+    ensures { result ≡ (if nat_lt (queue_bytes maxmsg msgsize) (2 ^ 64) then Some (queue_bytes maxmsg msgsize) else None) }
 {
     let messages = u64::from(maxmsg);
-    let priorities = u64::from(maxmsg.min(PRIORITIES));
+    let priorities = u64::from(maxmsg.min(MQ_PRIO_MAX));
     let beside = messages * BYTES_BESIDE + priorities * BYTES_BESIDE;
     beside.checked_add(messages * u64::from(msgsize))
 }

@@ -3,7 +3,7 @@
 ghost use Rattle.std.specs.Prelude.{◌≡◌, ◌^◌, ◌<◌, [], find, count_by, is_some, IsSome, IfOk, OnOk, OnErr};
 ghost use Rattle.std.specs.Option.{option_map, option_copied};
 ghost use Rattle.ipc_terms.specs.Lists.{changed_first};
-ghost use Rattle.ipc_descr.specs.Descriptions.{is_desc, is_of, is_to, row_of, without_desc, without_session, with_open, with_nonblock, Rise};
+ghost use Rattle.ipc_descr.specs.Descriptions.{is_desc, is_of, is_to, row_of, without_desc, without_session, with_open, with_nonblock, with_session, Rise};
 
 use crate::row::Row;
 use crate::table::Table;
@@ -102,6 +102,22 @@ impl Descrs {
         ensures { self.new ≡ record self.old { rows = changed_first (is_desc desc.0) (with_nonblock nonblock) self.old.rows } }
     {
         self.table.set_nonblock(sid, desc, nonblock);
+    }
+
+    /// Passes the description on to another session; nothing else of its row changes. An `Err` is want of memory: it
+    /// changes nothing.
+    pub fn hand_over(&mut self, sid: Sid, desc: Desc, taker: Sid) -> Result<(), NoMemory>
+        requires { IsSome (row_of self.old.rows sid.0 desc.0) }
+        ensures ok { OnOk result (self.new ≡ record self.old { rows = changed_first (is_desc desc.0) (with_session taker) self.old.rows }) }
+        ensures err { OnErr result (self.new ≡ self.old) }
+    {
+        // Asked, so that it is known that the numbers of the rows rise.
+        let _opened = self.table.opened();
+        if sid != taker {
+            self.tallies.pass(desc, sid, taker)?;
+            self.table.set_session(sid, desc, taker);
+        }
+        Ok(())
     }
 
     /// Closes the description, and answers the object that it gave (`mq_close`, `sem_close`).

@@ -1,26 +1,28 @@
 //! The rows, found by their numbers.
 
-ghost use Rattle.std.specs.Prelude.{◌≡◌, ◌+◌, ◌^◌, ◌<◌, [], ◌∷◌, ◌++◌, find, slice_get, is_some, IsSome, IfSome, IfNone, OnOk, OnErr, Some};
+ghost use Rattle.std.specs.Prelude.{◌≡◌, ◌+◌, ◌^◌, ◌<◌, [], ◌∷◌, ◌++◌, find, is_some, IsSome, IfSome, IfNone, OnOk, OnErr, Some};
 ghost use Rattle.std.specs.Option.{option_map, option_copied, option_and_then};
 ghost use Rattle.slab.specs.Slab.{get, Updates};
 ghost use Rattle.ipc_terms.specs.Lists.{changed_first};
-ghost use Rattle.ipc_descr.specs.Descriptions.{is_desc, if_of, row_of, without_desc, with_nonblock, Rise};
+ghost use Rattle.ipc_numbered.specs.Slots.{at};
+ghost use Rattle.ipc_descr.specs.Descriptions.{is_desc, if_of, row_of, without_desc, with_nonblock, with_session, Rise};
 ghost use Rattle.ipc_descr.specs.Counting.{Gone};
 ghost use Rattle.ipc_descr.specs.Places.{row_numbered};
 
 use crate::row::Row;
+use ipc_numbered::Numbered;
 use ipc_terms::{Desc, NoMemory, Sid};
 use slab::Slab;
 use std::alloc::Global;
 use std::marker::Model;
 
 /// The rows of the descriptions that are held, and the number of opens so far. Each row stands at a
-/// key of a slab, and a vector has that key at the row's number. No look-up scans.
+/// key of a slab, and that key stands at the row's number. No look-up scans.
 #[derive(Drop)]
 pub struct Table {
     rows: Slab<Row>,
-    /// The slab key at which the row of each number stands, or stood: slab keys are used again.
-    slots: Vec<usize>,
+    /// The slab key at which the row of each number stands. A close takes it out: slab keys are used again.
+    slots: Numbered<usize>,
 }
 
 impl Model for Table {
@@ -31,7 +33,7 @@ impl Model for Table {
 
     ghost Value = { Descriptions };
 
-    ghost view = { λ a. record { rows = rows_of (get a.rows) 0 a.slots.items; opened = length a.slots.items } };
+    ghost view = { λ a. record { rows = rows_of (get a.rows) 0 a.slots; opened = length a.slots } };
 }
 
 impl Table {
@@ -40,7 +42,7 @@ impl Table {
     {
         Table {
             rows: Slab::new(alloc),
-            slots: Vec::new(alloc),
+            slots: Numbered::new(alloc),
         }
     }
 
@@ -49,7 +51,7 @@ impl Table {
         ensures opened { result ≡ self.now.opened }
         ensures rise { Rise 0 self.now.opened self.now.rows }
     {
-        self.slots.len() as u64
+        self.slots.next_number() as u64
     }
 
     /// Adds a row, which has the next number. An `Err` changes nothing.
@@ -91,6 +93,17 @@ impl Table {
         set_row(&mut self.rows, slot, nonblock);
     }
 
+    /// Passes the description on to another session.
+    pub fn set_session(&mut self, sid: Sid, desc: Desc, taker: Sid)
+        requires { IsSome (row_of self.old.rows sid.0 desc.0) }
+        ensures { self.new ≡ record self.old { rows = changed_first (is_desc desc.0) (with_session taker) self.old.rows } }
+    {
+        let Some(slot) = slot_of(&self.rows, &self.slots, sid, desc) else {
+            return;
+        };
+        pass_row(&mut self.rows, slot, taker);
+    }
+
     /// Takes out the row by which the session holds the description.
     pub fn close(&mut self, sid: Sid, desc: Desc) -> Option<Row>
         ensures row { result ≡ row_of self.old.rows sid.0 desc.0 }
@@ -99,6 +112,7 @@ impl Table {
         ensures gone { IfSome result (λ row. Gone row self.old.rows self.new.rows) }
     {
         let slot = slot_of(&self.rows, &self.slots, sid, desc)?;
+        self.slots.take(desc.0 as usize);
         self.rows.try_remove(slot)
     }
 
@@ -112,7 +126,7 @@ impl Table {
 }
 
 /// The row of the description.
-fn find_row<'a>(rows: &'a Slab<Row>, slots: &[usize], desc: Desc) -> Option<&'a Row>
+fn find_row<'a>(rows: &'a Slab<Row>, slots: &Numbered<usize>, desc: Desc) -> Option<&'a Row>
     ensures { option_copied result ≡ row_numbered (get rows.now) slots.now desc.0 }
 {
     let slot = *slots.get(desc.0 as usize)?;
@@ -125,10 +139,10 @@ fn find_row<'a>(rows: &'a Slab<Row>, slots: &[usize], desc: Desc) -> Option<&'a 
 }
 
 /// The slab key of the row by which the session holds the description.
-fn slot_of(rows: &Slab<Row>, slots: &[usize], sid: Sid, desc: Desc) -> Option<usize>
+fn slot_of(rows: &Slab<Row>, slots: &Numbered<usize>, sid: Sid, desc: Desc) -> Option<usize>
     ensures row { option_and_then (get rows.now) result ≡ option_and_then (if_of sid.0) (row_numbered (get rows.now) slots.now desc.0) }
     ensures held { is_some result ≡ is_some (option_and_then (if_of sid.0) (row_numbered (get rows.now) slots.now desc.0)) }
-    ensures slot { IfSome result (λ slot. slice_get slots.now desc.0 ≡ Some slot) }
+    ensures slot { IfSome result (λ slot. at slots.now desc.0 ≡ Some slot) }
 {
     let slot = *slots.get(desc.0 as usize)?;
     let row = rows.get(slot)?;
@@ -136,6 +150,15 @@ fn slot_of(rows: &Slab<Row>, slots: &[usize], sid: Sid, desc: Desc) -> Option<us
         Some(slot)
     } else {
         None
+    }
+}
+
+/// Makes the row another session's.
+fn pass_row(rows: &mut Slab<Row>, slot: usize, taker: Sid)
+    ensures { Updates rows.old rows.new slot (option_map (with_session taker) (get rows.old slot)) }
+{
+    if let Some(row) = rows.get_mut(slot) {
+        row.session = taker;
     }
 }
 

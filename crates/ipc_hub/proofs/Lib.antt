@@ -1,4 +1,5 @@
 pub mod SessionSteps
+pub mod Ticking
 pub mod StepLemmas
 pub mod SessionLemmas
 pub mod HubLemmas

@@ -6,6 +6,7 @@ use Rattle.std.proofs.lemmas.List.{append-nil}
 use Rattle.ipc_terms.specs.declared.ids.Sid.{Sid}
 use Rattle.ipc_terms.specs.declared.call.Answer.{Answer}
 use Rattle.ipc_terms.specs.declared.record.Event.{Event}
+use Rattle.ipc_terms.specs.declared.record.Event.TheVariants.{Tick}
 use Rattle.ipc_policy.specs.declared.config.Config.{Config}
 use Rattle.ipc_policy.specs.Sessions.{hellos}
 use Rattle.ipc_policy.specs.Verdict.{Legal, outbox}
@@ -22,13 +23,14 @@ use Rattle.ipc_wire.specs.Streams.{Cut, cut, spell_answer}
 use Rattle.ipc_hub.specs.declared.fed.Fed.{Fed}
 use Rattle.ipc_hub.specs.declared.fed.Fed.TheVariants.{Done, Short, Over}
 use Rattle.ipc_hub.specs.declared.fed.End.TheVariants.{Wire, BadKey}
-use Rattle.ipc_hub.specs.Hub.{Connection, Hub, new_hub, with_connection, untaken_of, untaken, spell_answers, events_of, hang_up_of, IsOutcome, core_after_take, ChangesOnly, Feeds, HangsUp, Takes}
+use Rattle.ipc_hub.specs.Hub.{Connection, Hub, new_hub, with_connection, untaken_of, untaken, spell_answers, events_of, hang_up_of, IsOutcome, core_after_take, ChangesOnly, Feeds, HangsUp, Takes, Ticks}
 use Rattle.ipc_hub.specs.Sessions.{EachHasItsOwn}
-use Rattle.ipc_hub.specs.Laws.{Call, Opened, TookPiece, HungUp, Gave, Makes, output_of, GivesOutbox, EachOutputIsTheOutbox}
+use Rattle.ipc_hub.specs.Laws.{Call, Opened, TookPiece, HungUp, Gave, Ticked, Makes, output_of, GivesOutbox, EachOutputIsTheOutbox}
 use Rattle.ipc_core.proofs.LawLemmas.{all_is_kept}
 use Rattle.ipc_hub.proofs.StepLemmas.{config_kept}
 use Rattle.ipc_hub.proofs.SessionLemmas.{ChangesSessions, Which, Own, Other, AfterOpening, Fresh, Stood, which_now, after_opening, none_before, fresh_has_none, get_set, none_kept, hangs_up, fed_changes, changed_all, opened_all, none_at_all}
 use Rattle.ipc_hub.proofs.CallLists.{nothing_more, along_calls}
+use Rattle.ipc_hub.proofs.Ticking.{ticked_sessions}
 use Rattle.ipc_hub.proofs.HubLemmas.{open_at, takes_changes, same_history, untaken_spelled}
 
 -- ---- the answers that a session took
@@ -151,13 +153,17 @@ legal_stepped : (es : List Event) (a : CoreView) → Legal a.config a.history �
 legal_stepped [] a legal = legal
 legal_stepped (e ∷ es) a legal = legal_stepped es (after_step e a) (refl, legal)
 
-stepped_well : (old new : Hub) (i : ℕ) (x y : Connection) (es : List Event) → IsWell old → ChangesOnly old new i x y → new.core ≡ after_steps es old.core → ChangesSessions old.core x new.core y → IsWell new
-stepped_well old new i x y es w only now m = record {
+-- a hub whose core stepped these, and in which each session is still its connection's
+stays_well : (old new : Hub) (es : List Event) → IsWell old → new.core ≡ after_steps es old.core → EachHasItsOwn new.core new.connections → IsWell new
+stays_well old new es w now sessions = record {
   legal = subst (λ (z : CoreView). Legal z.config z.history) (sym now) (legal_stepped es old.core w.legal);
   agree = subst (λ (z : CoreView). BoxesAgree z.config z.history z.untaken) (sym now) (agree_stepped es old.core w.agree);
-  sessions = subst (λ (zs : List Connection). EachHasItsOwn new.core zs) (sym only.others) (changed_all old.core new.core old.connections i x y w.sessions only.was m);
+  sessions = sessions;
   in_range = ap (λ (c : Config). first_bad c.limits) (ap (λ (z : CoreView). z.config) now ∙ config_kept es old.core) ∙ w.in_range;
 }
+
+stepped_well : (old new : Hub) (i : ℕ) (x y : Connection) (es : List Event) → IsWell old → ChangesOnly old new i x y → new.core ≡ after_steps es old.core → ChangesSessions old.core x new.core y → IsWell new
+stepped_well old new i x y es w only now m = stays_well old new es w now (subst (λ (zs : List Connection). EachHasItsOwn new.core zs) (sym only.others) (changed_all old.core new.core old.connections i x y w.sessions only.was m))
 
 taken_well : (old new : Hub) (i : ℕ) (x y : Connection) → IsWell old → ChangesOnly old new i x y → (s : Option Sid) → new.core ≡ core_after_take old.core s → ChangesSessions old.core x new.core y → IsWell new
 taken_well old new i x y w only s now m = record {
@@ -246,6 +252,19 @@ opened_accounted old new i given is h = subst (λ (z : Hub). IsAccounted z i giv
 pub opened_well : (old new : Hub) → new ≡ with_connection old → IsWell old → IsWell new
 opened_well old new is w = subst IsWell (sym is) (record { legal = w.legal; agree = w.agree; sessions = opened_all old.core old.connections w.sessions; in_range = w.in_range })
 
+-- a tick
+pub ticked_well : (old new : Hub) (moment : ℕ) → Ticks old moment new → IsWell old → IsWell new
+ticked_well old new moment t w = stays_well old new (Tick moment ∷ []) w t.core (subst (λ (zs : List Connection). EachHasItsOwn new.core zs) (sym t.connections) (ticked_sessions old.core new.core old.connections moment t.core w.sessions))
+
+ticked_accounted : (old new : Hub) (moment i : ℕ) (given : List ℕ) → Ticks old moment new → IsWell old → IsAccounted old i given → IsAccounted new i given
+ticked_accounted old new moment i given t w h = record {
+  absent = λ e. h.absent (there ∙ e);
+  silent = λ x e none on. h.silent x (there ∙ e) none on;
+  spoken = λ x sid e own. given_stepped (Tick moment ∷ []) old.core new.core sid given w.agree t.core (h.spoken x sid (there ∙ e) own);
+} where
+  there : slice_get old.connections i ≡ slice_get new.connections i
+  there = ap (λ (zs : List Connection). slice_get zs i) (sym t.connections)
+
 -- ---- each call
 
 pub steps_append : (es ds : List Event) (a : CoreView) → after_steps (es ++ ds) a ≡ after_steps ds (after_steps es a)
@@ -323,6 +342,7 @@ output_is : (i : ℕ) (call : Call) (calls : List Call) → output_of i (call �
 output_is i Opened calls = refl
 output_is i (TookPiece j piece fed) calls = refl
 output_is i (HungUp j) calls = refl
+output_is i (Ticked moment) calls = refl
 output_is i (Gave j bytes) calls = at (eqb j i) where
   at : (b : Bool) → cond b (bytes ++ output_of i calls) (output_of i calls) ≡ cond b bytes [] ++ output_of i calls
   at true = refl
@@ -332,6 +352,7 @@ call_kept : (i : ℕ) (call : Call) (old new : Hub) (given : List ℕ) → Makes
 call_kept i Opened old new given made k = nothing_more (λ (z : Hub) (bytes : List ℕ). IsKept z i bytes) new given (record { well = opened_well old new made k.well; accounted = opened_accounted old new i given made k.accounted })
 call_kept i (TookPiece j piece fed) old new given made k = nothing_more (λ (z : Hub) (bytes : List ℕ). IsKept z i bytes) new given (fed_kept old new j piece fed i given made k)
 call_kept i (HungUp j) old new given made k = nothing_more (λ (z : Hub) (bytes : List ℕ). IsKept z i bytes) new given (hung_up_kept old new j i given made k)
+call_kept i (Ticked moment) old new given made k = nothing_more (λ (z : Hub) (bytes : List ℕ). IsKept z i bytes) new given (record { well = ticked_well old new moment made k.well; accounted = ticked_accounted old new moment i given made k.well k.accounted })
 call_kept i (Gave j bytes) old new given made k = taken_kept old new j bytes i given made k
 
 new_kept : (c : Config) (i : ℕ) → first_bad c.limits ≡ None → IsKept (new_hub c) i []

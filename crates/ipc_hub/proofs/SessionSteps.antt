@@ -4,12 +4,12 @@ use Rattle.std.proofs.lemmas.Bool.{eq-eqb, ne_eqb}
 use Rattle.ipc_terms.specs.declared.rule.Rule.{Rule}
 use Rattle.ipc_terms.specs.declared.ids.Sid.{Sid}
 use Rattle.ipc_terms.specs.declared.record.Event.{Event}
-use Rattle.ipc_terms.specs.declared.record.Event.TheVariants.{Hello, Do, Hangup}
+use Rattle.ipc_terms.specs.declared.record.Event.TheVariants.{Hello, Do, Hangup, Tick}
 use Rattle.ipc_policy.specs.declared.config.Config.{Config}
 use Rattle.ipc_policy.specs.History.{History}
 use Rattle.ipc_policy.specs.Sessions.{hellos, live, hangs_up}
 use Rattle.ipc_policy.specs.Grow.{live_after, hellos_after}
-use Rattle.ipc_policy.specs.Rules.{forbids, no_session, in_call, not_in_call, name_form, name_long, not_admin, no_user, bad_descr, not_for_write, not_for_read, dir_search, dir_read, absent, present, mode_denied, dir_write, sticky, not_owner, chown_denied, attr_range, value_range, queue_count, byte_limit, descr_limit, prio_range, message_long, buffer_short, notify_taken, would_block, overflow, bad_key}
+use Rattle.ipc_policy.specs.Rules.{forbids, no_session, in_call, not_in_call, name_form, name_long, not_admin, no_user, bad_descr, not_for_write, not_for_read, dir_search, dir_read, absent, present, mode_denied, dir_write, sticky, not_owner, chown_denied, attr_range, value_range, queue_count, byte_limit, descr_limit, prio_range, message_long, buffer_short, notify_taken, would_block, overflow, bad_key, timed_out, no_taker}
 use Rattle.ipc_policy.specs.Verdict.{verdict, after_event}
 use Rattle.ipc_policy.proofs.Histories.Grown.{grows}
 use Rattle.ipc_policy.proofs.Histories.Refused.{same_values}
@@ -25,6 +25,7 @@ kept_live : (h : History) (e : Event) (s : ℕ) → s < hellos h → hangs_up s 
 kept_live h (Hello found) s lt off = let other : eqb (hellos h) s ≡ false = ne_eqb _ _ (λ (q : hellos h ≡ s). omega arith) in rw other refl
 kept_live h (Do sid call) s lt off = refl
 kept_live h (Hangup sid) s lt off = rw off refl
+kept_live h (Tick moment) s lt off = refl
 
 live_by : (c : Config) (h : History) (e : Event) (rule : Option Rule) (s : ℕ) → s < hellos h → hangs_up s e ≡ false → live (record { event = e; rule = rule } ∷ h) s ≡ live h s
 live_by c h e (Some rule) s lt off = (same_values c h e rule).live s
@@ -34,6 +35,7 @@ more_hellos : (h : History) (e : Event) → hellos h ≤ hellos_after e (hellos 
 more_hellos h (Hello found) = omega arith
 more_hellos h (Do sid call) = omega arith
 more_hellos h (Hangup sid) = omega arith
+more_hellos h (Tick moment) = omega arith
 
 hellos_by : (c : Config) (h : History) (e : Event) (rule : Option Rule) → hellos h ≤ hellos (record { event = e; rule = rule } ∷ h)
 hellos_by c h e (Some rule) = let k = (same_values c h e rule).hellos in omega arith
@@ -90,7 +92,7 @@ hello_counts a key sid ok = hello_counts_by a.config a.history (event_of a.confi
 
 -- no rule forbids the hang-up of a session that is live
 pub hang_up_accepted : (c : Config) (h : History) (sid : Sid) → live h sid.0 ≡ true → verdict c h (Hangup sid) ≡ None
-unfolding verdict forbids no_session in_call not_in_call name_form name_long not_admin no_user bad_descr not_for_write not_for_read dir_search dir_read absent present mode_denied dir_write sticky not_owner chown_denied attr_range value_range queue_count byte_limit descr_limit prio_range message_long buffer_short notify_taken would_block overflow bad_key
+unfolding verdict forbids no_session in_call not_in_call name_form name_long not_admin no_user bad_descr not_for_write not_for_read dir_search dir_read absent present mode_denied dir_write sticky not_owner chown_denied attr_range value_range queue_count byte_limit descr_limit prio_range message_long buffer_short notify_taken would_block overflow bad_key timed_out no_taker
 hang_up_accepted c h sid on = rw on refl
 
 ended_by : (c : Config) (h : History) (sid : Sid) (rule : Option Rule) → rule ≡ None → live (record { event = Hangup sid; rule = rule } ∷ h) sid.0 ≡ false

@@ -5,6 +5,7 @@ use Rattle.std.proofs.lemmas.Bool.{eq-eqb, ne_eqb}
 use Rattle.std.proofs.lemmas.List.{append-nil}
 use Rattle.ipc_terms.specs.declared.ids.Sid.{Sid}
 use Rattle.ipc_terms.specs.declared.record.Event.{Event}
+use Rattle.ipc_terms.specs.declared.record.Event.TheVariants.{Tick}
 use Rattle.ipc_policy.specs.declared.config.Config.{Config}
 use Rattle.ipc_policy.specs.Sessions.{hellos}
 use Rattle.ipc_state.specs.Ranges.{first_bad}
@@ -20,13 +21,14 @@ use Rattle.ipc_wire.proofs.OrderLemmas.{one_hello}
 use Rattle.ipc_hub.specs.declared.fed.Fed.{Fed}
 use Rattle.ipc_hub.specs.declared.fed.Fed.TheVariants.{Done, Short, Over}
 use Rattle.ipc_hub.specs.declared.fed.End.TheVariants.{Wire, BadKey}
-use Rattle.ipc_hub.specs.Hub.{Connection, Hub, new_hub, with_connection, session_or_next, event_of, events_of, hang_up_of, is_hello_refused, session_after, IsOutcome, ChangesOnly, Feeds, HangsUp, Takes}
-use Rattle.ipc_hub.specs.Laws.{Call, Opened, TookPiece, HungUp, Gave, Makes, stream_of, call_in, calls_of, IsStepped, EachStreamIsStepped}
+use Rattle.ipc_hub.specs.Hub.{Connection, Hub, new_hub, with_connection, session_or_next, event_of, events_of, hang_up_of, is_hello_refused, session_after, IsOutcome, ChangesOnly, Feeds, HangsUp, Takes, Ticks}
+use Rattle.ipc_hub.specs.Laws.{Call, Opened, TookPiece, HungUp, Gave, Ticked, Makes, stream_of, call_in, calls_of, IsStepped, EachStreamIsStepped}
 use Rattle.ipc_hub.proofs.LawLemmas.{cut_any_way, after_both}
+use Rattle.ipc_hub.proofs.SessionSteps.{hellos_later}
 use Rattle.ipc_hub.proofs.SessionLemmas.{ChangesSessions, Which, Own, Other, AfterOpening, Fresh, Stood, which_now, after_opening, none_before, fresh_has_none, get_set, calls_no_hello, cut_order}
 use Rattle.ipc_hub.proofs.HubLemmas.{same_history}
 use Rattle.ipc_hub.proofs.CallLists.{nothing_more, along_calls}
-use Rattle.ipc_hub.proofs.RunLemmas.{IsWell, fed_change, hung_up_change, taken_change, opened_well, fed_well, hung_up_well, take_well, new_well}
+use Rattle.ipc_hub.proofs.RunLemmas.{IsWell, fed_change, hung_up_change, taken_change, opened_well, fed_well, hung_up_well, take_well, ticked_well, new_well}
 
 -- ---- the calls of a session among events
 
@@ -340,6 +342,24 @@ opened_streamed old new i stream is h = subst (λ (z : Hub). IsStreamed z i stre
   at_spoken x sid own (Fresh past is') = absurd (fresh_has_none x sid is' own)
   at_spoken x sid own (Stood e) = h.spoken x sid e own
 
+-- a tick, which is no call of any session
+ticked_streamed : (old new : Hub) (moment i : ℕ) (stream : List ℕ) → Ticks old moment new → IsStreamed old i stream → IsStreamed new i stream
+ticked_streamed old new moment i stream t h = record {
+  well = ticked_well old new moment t h.well;
+  unstarted = λ s le. (let more = later in calls s ∙ h.unstarted s (omega arith));
+  absent = λ e. h.absent (there ∙ e);
+  silent = λ x e none on. h.silent x (there ∙ e) none on;
+  spoken = λ x sid e own. (let st = h.spoken x sid (there ∙ e) own in record { key = st.key; others = st.others; whole = st.whole ∙ ap (λ (qs : List Request). after (request.Hello st.key ∷ qs) st.others) (sym (calls sid.0)); kept = st.kept });
+} where
+  there : slice_get old.connections i ≡ slice_get new.connections i
+  there = ap (λ (zs : List Connection). slice_get zs i) (sym t.connections)
+
+  calls : (s : ℕ) → calls_of s new.core.history ≡ calls_of s old.core.history
+  calls s = calls_after (Tick moment ∷ []) old.core new.core s t.core ∙ append-nil (calls_of s old.core.history)
+
+  later : hellos old.core.history ≤ hellos new.core.history
+  later = subst (λ (z : CoreView). hellos old.core.history ≤ hellos z.history) (sym t.core) (hellos_later (Tick moment ∷ []) old.core)
+
 -- ---- each call
 
 nothing_came : (hub : Hub) (i : ℕ) (stream : List ℕ) (b : Bool) → IsStreamed hub i (stream ++ cond b [] []) → IsStreamed hub i stream
@@ -375,6 +395,7 @@ stream_is : (i : ℕ) (call : Call) (calls : List Call) → stream_of i (call �
 stream_is i Opened calls = refl
 stream_is i (HungUp j) calls = refl
 stream_is i (Gave j bytes) calls = refl
+stream_is i (Ticked moment) calls = refl
 stream_is i (TookPiece j piece fed) calls = at (eqb j i) where
   at : (b : Bool) → cond b (piece ++ stream_of i calls) (stream_of i calls) ≡ cond b piece [] ++ stream_of i calls
   at true = refl
@@ -385,6 +406,7 @@ call_streamed i Opened old new stream made h = nothing_more (λ (z : Hub) (bytes
 call_streamed i (TookPiece j piece fed) old new stream made h = fed_streamed old new j piece fed i stream made h
 call_streamed i (HungUp j) old new stream made h = nothing_more (λ (z : Hub) (bytes : List ℕ). IsStreamed z i bytes) new stream (hung_up_streamed old new j i stream made h)
 call_streamed i (Gave j bytes) old new stream made h = nothing_more (λ (z : Hub) (bytes : List ℕ). IsStreamed z i bytes) new stream (taken_streamed old new j bytes i stream made h)
+call_streamed i (Ticked moment) old new stream made h = nothing_more (λ (z : Hub) (bytes : List ℕ). IsStreamed z i bytes) new stream (ticked_streamed old new moment i stream made h)
 
 new_streamed : (c : Config) (i : ℕ) → first_bad c.limits ≡ None → IsStreamed (new_hub c) i []
 new_streamed c i range = record { well = new_well c range; unstarted = λ s le. refl; absent = λ e. refl; silent = λ x e none on. absurd cc; spoken = λ x sid e own. absurd cc }

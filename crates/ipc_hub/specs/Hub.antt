@@ -11,9 +11,10 @@ use Rattle.ipc_terms.specs.declared.rule.Rule.TheVariants as rule
 use Rattle.ipc_access.specs.Users.{user_of_key}
 use Rattle.ipc_policy.specs.declared.config.Config.{Config}
 use Rattle.ipc_policy.specs.Sessions.{hellos}
-use Rattle.ipc_policy.specs.Verdict.{verdict}
+use Rattle.ipc_policy.specs.Bodies.{due}
+use Rattle.ipc_policy.specs.Verdict.{verdict, for_session, tick_answers}
 use Rattle.ipc_core.specs.Boxes.{box_at, taken}
-use Rattle.ipc_core.specs.Outboxes.{after_steps}
+use Rattle.ipc_core.specs.Outboxes.{after_step, after_steps}
 use Rattle.ipc_core.specs.CoreView.{CoreView}
 use Rattle.ipc_fields.specs.Field.{◌⊕◌}
 use Rattle.ipc_fields.specs.declared.fault.WireFault.{WireFault}
@@ -174,6 +175,17 @@ pub record Takes (old : Hub) (i : ℕ) (bytes : List ℕ) (new : Hub) : Type 0 w
   pub changes : ChangesOnly old new i before (record before { has_refusal = false })
   pub given : spell_answers (untaken old.core before) ≡ Some bytes
   pub core : new.core ≡ core_after_take old.core before.session
+
+-- what a tick of this moment answers session s: that its deadline is past, if its call is the one that is due
+abbrev pub ticked : CoreView → ℕ → ℕ → List Answer
+ticked a moment s = for_session s (tick_answers (due a.config a.history moment))
+
+-- one tick: the trail grows by it alone, each session's untaken answers by what it answers that session, and no connection changes
+pub record Ticks (old : Hub) (moment : ℕ) (new : Hub) : Type 0 where
+  pub core : new.core ≡ after_step (event.Tick moment) old.core
+  pub trail : new.core.history ≡ record { event = event.Tick moment; rule = None } ∷ old.core.history
+  pub answered : (s : ℕ) → box_at new.core.untaken s ≡ box_at old.core.untaken s ++ ticked old.core moment s
+  pub connections : new.connections ≡ old.connections
 
 -- ---- their faults
 

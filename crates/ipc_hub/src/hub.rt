@@ -4,13 +4,14 @@ ghost use Rattle.std.specs.Prelude.{◌≡◌, ◌<◌, slice_get, None, Some, l
 ghost use Rattle.ipc_state.specs.Ranges.{first_bad};
 ghost use Rattle.ipc_policy.specs.Verdict.{Legal};
 ghost use Rattle.ipc_core.specs.Outboxes.{BoxesAgree};
-ghost use Rattle.ipc_hub.specs.Hub.{new_hub, with_connection, fault_of_change, fault_of_take, IsFaultOr, Feeds, HangsUp, Takes};
+ghost use Rattle.ipc_hub.specs.Hub.{new_hub, with_connection, fault_of_change, fault_of_take, IsFaultOr, Feeds, HangsUp, Takes, Ticks};
 ghost use Rattle.ipc_hub.specs.Sessions.{EachHasItsOwn};
 ghost use Rattle.ipc_hub.specs.declared.fed.HubFault.TheVariants.{NoMemory as Refused};
 
 use crate::connection::Connection;
 use crate::fed::{Fed, HubFault};
 use ipc_core::{Config, Core, CoreFault};
+use ipc_terms::Event;
 use std::alloc::Global;
 use std::marker::Model;
 
@@ -139,5 +140,18 @@ impl Hub {
         self.core.keeps_the_last();
         let connection = &mut self.connections[i];
         Ok(connection.take(&mut self.core, alloc)?)
+    }
+
+    /// Makes a tick of this moment, which ends the earliest parked timed call whose deadline is past, if there is
+    /// one, and tells its session so. An `Err` changes nothing.
+    pub fn tick(&mut self, alloc: Global, moment: u64) -> Result<(), HubFault>
+        ensures ok { OnOk result (Ticks self.old moment self.new) }
+        ensures err { OnErr result (self.new ≡ self.old) }
+        ensures fault { IfErr result (λ fault. fault ≡ Refused) }
+    {
+        self.core.is_legal();
+        self.core.keeps_the_last();
+        self.core.post(alloc, Event::Tick { moment })?;
+        Ok(())
     }
 }

@@ -1,1 +1,3 @@
 pub mod SlotsLemmas
+pub mod PagesLemmas
+pub mod BoxesLemmas

@@ -5,3 +5,8 @@ pub mod ParkedSessions
 pub mod ParkedSteps
 pub mod Waits
 pub mod WaitSteps
+pub mod Earliest
+pub mod TimedSteps
+pub mod DueLists
+pub mod DueSteps
+pub mod Holders

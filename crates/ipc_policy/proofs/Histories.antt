@@ -6,3 +6,4 @@ pub mod Grown
 pub mod Refused
 pub mod Unforbidden
 pub mod Worked
+pub mod PlainForms

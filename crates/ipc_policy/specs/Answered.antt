@@ -1,30 +1,32 @@
 -- Whom an event answers.
-use Rattle.std.specs.Prelude.{◌≡◌, Bool, true, false, List, [], ◌∷◌, Option, Some, None}
+use Rattle.std.specs.Prelude.{◌≡◌, ℕ, Bool, true, false, List, [], ◌∷◌, Option, Some, None}
 use Rattle.ipc_terms.specs.declared.rule.Rule.{Rule}
 use Rattle.ipc_terms.specs.declared.ids.Sid.{Sid}
 use Rattle.ipc_terms.specs.declared.ids.Uid.{Uid}
 use Rattle.ipc_terms.specs.declared.call.Call.{Call}
 use Rattle.ipc_terms.specs.declared.call.Answer.{Answer}
-use Rattle.ipc_terms.specs.declared.call.Answer.TheVariants.{Started, Notice, Refused}
+use Rattle.ipc_terms.specs.declared.call.Answer.TheVariants.{Started, Notice, Taken, Refused}
 use Rattle.ipc_terms.specs.declared.record.Event.{Event}
-use Rattle.ipc_terms.specs.declared.record.Event.TheVariants.{Hello, Do, Hangup}
+use Rattle.ipc_terms.specs.declared.record.Event.TheVariants.{Hello, Do, Hangup, Tick}
 use Rattle.ipc_policy.specs.declared.config.Config.{Config}
 use Rattle.ipc_policy.specs.History.{History}
 use Rattle.ipc_policy.specs.Sessions.{hellos}
+use Rattle.ipc_policy.specs.Bodies.{due}
 use Rattle.ipc_policy.specs.Parking.{Parked, parks}
-use Rattle.ipc_policy.specs.Verdict.{verdict, caller, Legal, answers}
+use Rattle.ipc_policy.specs.Verdict.{verdict, caller, Legal, answers, tick_answers}
 
--- the answer is a notice, which nobody calls for
-abbrev pub is_notice : Answer → Bool
-is_notice (Notice desc) = true
-is_notice _ = false
+-- the answer is a notice, or tells of a description that another session gave, which nobody calls for
+abbrev pub is_uncalled : Answer → Bool
+is_uncalled (Notice desc) = true
+is_uncalled (Taken desc) = true
+is_uncalled _ = false
 
--- the first of the answers is the session's, and it is no notice
+-- the first of the answers is the session's, and it was called for
 pub record IsAnsweredFirst (sid : Sid) (answered : List (Sid × Answer)) : Type 0 where
   pub answer : Answer
   pub others : List (Sid × Answer)
   pub whole : answered ≡ (sid, answer) ∷ others
-  pub called_for : is_notice answer ≡ false
+  pub called_for : is_uncalled answer ≡ false
 
 -- after a legal history an accepted call that does not park is answered to its session, before anybody else
 abbrev pub EachCallIsAnswered : Type 0
@@ -53,3 +55,11 @@ abbrev pub RefusalAnswersItsCaller : Type 0
 RefusalAnswersItsCaller =
     (c : Config) (h : History) (e : Event) (rule : Rule) → verdict c h e ≡ Some rule →
     answers c h e ≡ (caller e, Refused rule) ∷ []
+
+-- a tick is always accepted, and answers the session whose call it ends, alone, where there is one
+pub record IsTickAnswered (c : Config) (h : History) (moment : ℕ) : Type 0 where
+  pub accepted : verdict c h (Tick moment) ≡ None
+  pub answered : answers c h (Tick moment) ≡ tick_answers (due c h moment)
+
+abbrev pub EachTickIsAnswered : Type 0
+EachTickIsAnswered = (c : Config) (h : History) (moment : ℕ) → IsTickAnswered c h moment

@@ -1,7 +1,7 @@
 -- How many queues are alive, how many bytes they take of their creators, and how many a user's queues may take.
-use Rattle.std.specs.Prelude.{Bool, ℕ, ◌+◌, ◌*◌, ◌&&◌, ◌==◌, min, Option, Some, None, is_some, if◌then◌else◌, unwrap_or}
+use Rattle.std.specs.Prelude.{Bool, ℕ, ◌&&◌, ◌==◌, Option, Some, None, is_some, if◌then◌else◌, unwrap_or}
 use Rattle.std.specs.Option.{option_map}
-use Rattle.ipc_terms.specs.Objects.{as_queue}
+use Rattle.ipc_terms.specs.Objects.{as_queue, queue_bytes}
 use Rattle.ipc_terms.specs.declared.ids.Uid.{Uid}
 use Rattle.ipc_terms.specs.declared.call.Attributes.{Attributes}
 use Rattle.ipc_terms.specs.declared.call.Call.TheVariants.{SetLimit}
@@ -10,15 +10,14 @@ use Rattle.ipc_terms.specs.declared.record.Event.{Event}
 use Rattle.ipc_terms.specs.declared.record.Event.TheVariants.{Do}
 use Rattle.ipc_access.specs.Users.{cred_of}
 use Rattle.ipc_policy.specs.declared.config.Config.{Config}
-use Rattle.ipc_policy.specs.declared.config.TheConstants.{MQ_PRIO_MAX}
 use Rattle.ipc_policy.specs.History.{History, newest, how_many_below, sum_below, is_some_and}
 use Rattle.ipc_policy.specs.Names.{creations}
 use Rattle.ipc_policy.specs.Objects.{object}
 use Rattle.ipc_policy.specs.Life.{alive}
 
--- what a queue takes: 48 bytes for each message, 48 for each priority that its messages can have, and the messages' own
+-- what a queue of these attributes takes
 unfoldable pub bytes_of : Attributes → ℕ
-bytes_of attributes = attributes.maxmsg * 48 + min attributes.maxmsg MQ_PRIO_MAX * 48 + attributes.maxmsg * attributes.msgsize
+bytes_of attributes = queue_bytes attributes.maxmsg attributes.msgsize
 
 -- the object is a queue, and it is alive
 abbrev pub is_queue_alive : Bool → Option Object → Bool

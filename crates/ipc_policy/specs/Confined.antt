@@ -1,11 +1,12 @@
 -- Where a message that is received comes from, and who may receive it.
 use Rattle.std.specs.Prelude.{◌≡◌, Bool, false, ℕ, ◌<◌, ◌≤◌, ◌||◌, List, [], ◌∷◌, length, IsTrue, Option, Some, None, is_none, if◌then◌else◌}
 use Rattle.std.specs.Option.{option_map, option_to_list}
+use Rattle.ipc_terms.specs.Timed.{plain}
 use Rattle.ipc_terms.specs.declared.ids.Sid.{Sid}
 use Rattle.ipc_terms.specs.declared.facts.Facts.{Facts}
 use Rattle.ipc_terms.specs.declared.call.Answer.{Answer}
 use Rattle.ipc_terms.specs.declared.call.Answer.TheVariants.{Received}
-use Rattle.ipc_terms.specs.declared.call.Call.TheVariants.{MqSend, MqReceive}
+use Rattle.ipc_terms.specs.declared.call.Call.TheVariants.{MqSend, MqReceive, MqGive}
 use Rattle.ipc_terms.specs.declared.record.Event.{Event}
 use Rattle.ipc_terms.specs.declared.record.Event.TheVariants.{Do}
 use Rattle.ipc_access.specs.declared.class.Cred.{Cred}
@@ -26,46 +27,78 @@ use Rattle.ipc_policy.specs.Deliveries.{Delivery, delivery, deliveries}
 abbrev pub IsAccepted : History → ℕ → Event → Type 0
 IsAccepted h place e = record_at place h ≡ Some (record { event = e; rule = None })
 
+-- an event was accepted at the place that is this, or is this with a deadline
+pub record IsMade (h : History) (place : ℕ) (e : Event) : Type 0 where
+  pub event : Event
+  pub recorded : IsAccepted h place event
+  pub form : plain event ≡ e
+
 -- this was sent, and accepted
 abbrev pub IsSend : History → Send → Type 0
-IsSend h m = IsAccepted h m.place (Do (record { 0 = m.session }) (MqSend (record { 0 = m.desc }) m.priority m.bytes))
+IsSend h m = IsMade h m.place (Do (record { 0 = m.session }) (MqSend (record { 0 = m.desc }) m.priority m.bytes))
 
 -- there are a user and an object, and the object grants what is wanted
 abbrev pub grants_to : Option Cred → Option Facts → ℕ → Bool
 grants_to (Some who) (Some at) wanted = granted who at.owner at.group at.mode wanted
 grants_to _ _ wanted = false
 
--- an accepted open gave description d all that this says; it created the object, or the object, by its owner, group and
--- mode of that moment, granted the access that the open asked for
-pub record IsGranted (c : Config) (h : History) (d : ℕ) (x : Held) : Type 0 where
+-- a give of a description: its place, and who gave it to whom
+pub record Give : Type 0 where
+  pub place : ℕ
+  pub giver : Sid
+  pub taker : Sid
+
+-- gives of description d, the newest first, lead from what its session had by it at one place to what a session had by it
+-- before another: without any that is the same; else the newest was accepted in between, its giver then held the description
+-- and its taker got the same object and access, and those before it lead to what the giver had
+abbrev pub Lead : History → ℕ → List Give → Held → ℕ → Held → ℕ → Type 0
+Lead h d [] first from last until = (first ≡ last) × (from < until)
+Lead h d (g ∷ gs) first from last until =
+    IsAccepted h g.place (Do g.giver (MqGive (record { 0 = d }) g.taker))
+    × (g.place < until)
+    × (last.session ≡ g.taker)
+    × (holds (before_at g.place h) g.giver.0 d ≡ Some (record last { session = g.giver }))
+    × Lead h d gs first from (record last { session = g.giver }) g.place
+
+-- an open creates what it gives, or the object grants the caller the access that the open asks for
+abbrev pub created_or_granted : Config → History → Opening → ℕ → Bool
+created_or_granted c before asked o = creating before asked || grants_to (cred c before asked.session.0) (facts c before o) (bits_wanted asked.access)
+
+-- before the place of an act a session had all that this says by description d: an accepted open gave the description to its
+-- session, and accepted gives, each by the session that then held it, led from that session to the one that acts. The open
+-- created the object, or the object, by its owner, group and mode of that moment, granted the access that the open asked for
+pub record IsGranted (c : Config) (h : History) (d : ℕ) (x : Held) (act : ℕ) : Type 0 where
   pub place : ℕ
   pub event : Event
   pub asked : Opening
+  pub first : Held
   pub recorded : IsAccepted h place event
   pub is_open : opening event ≡ Some asked
   pub number : opens (before_at place h) ≡ d
-  pub gives : option_map (held_as asked) (opened (before_at place h) asked) ≡ Some x
-  pub grants : IsTrue (creating (before_at place h) asked || grants_to (cred c (before_at place h) asked.session.0) (facts c (before_at place h) x.object) (bits_wanted asked.access))
+  pub gives : option_map (held_as asked) (opened (before_at place h) asked) ≡ Some first
+  pub grants : IsTrue (created_or_granted c (before_at place h) asked first.object)
+  pub given : List Give
+  pub lead : Lead h d given first place x act
 
 -- this was sent and accepted; its session then held the description, of object o and for writing
 pub record IsSendTo (c : Config) (h : History) (o : ℕ) (m : Send) : Type 0 where
-  pub recorded : IsSend h m
+  pub made : IsSend h m
   pub writer : Held
   pub held : holds (before_at m.place h) m.session m.desc ≡ Some writer
   pub object : writer.object ≡ o
   pub writable : reads_only writer.access ≡ false
-  pub granted : IsGranted c h m.desc writer
+  pub granted : IsGranted c h m.desc writer m.place
 
 -- the record of the place is an accepted receive; from there to the end of the history its session held the description,
 -- of object o and for reading
 pub record IsReceiveFrom (c : Config) (h : History) (o : ℕ) (w : Waiter) : Type 0 where
   pub length' : ℕ
-  pub recorded : IsAccepted h w.place (Do (record { 0 = w.session }) (MqReceive (record { 0 = w.desc }) length'))
+  pub made : IsMade h w.place (Do (record { 0 = w.session }) (MqReceive (record { 0 = w.desc }) length'))
   pub reader : Held
   pub held : (place : ℕ) → w.place ≤ place → place < length h → holds (before_at place h) w.session w.desc ≡ Some reader
   pub object : reader.object ≡ o
   pub readable : writes_only reader.access ≡ false
-  pub granted : IsGranted c h w.desc reader
+  pub granted : IsGranted c h w.desc reader w.place
 
 -- a message that an answer brings, and to whom
 pub record Brought : Type 0 where
@@ -83,11 +116,13 @@ brought (other ∷ rest) = brought rest
 abbrev pub brings : Delivery → Brought
 brings x = record { session = x.receive.session; priority = x.message.priority; bytes = x.message.bytes }
 
+-- the message that is brought by what an event delivers, where it is accepted
+abbrev pub brought_by : Config → History → Event → Option Brought
+brought_by c h e = if is_none (verdict c h e) then option_map brings (delivery c e h) else None
+
 -- the answers to an event bring what it delivers, where it is accepted, and no other message
 abbrev pub EachAnswerIsDelivered : Type 0
-EachAnswerIsDelivered =
-    (c : Config) (h : History) (e : Event) →
-    brought (answers c h e) ≡ option_to_list (option_map brings (if is_none (verdict c h e) then delivery c e h else None))
+EachAnswerIsDelivered = (c : Config) (h : History) (e : Event) → brought (answers c h e) ≡ option_to_list (brought_by c h e)
 
 -- the message was sent to the object, and the receive was made of it
 pub record IsConfined (c : Config) (h : History) (x : Delivery) : Type 0 where

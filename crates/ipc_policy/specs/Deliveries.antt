@@ -2,12 +2,14 @@
 use Rattle.std.specs.Prelude.{ℕ, ◌==◌, Option, Some, None, is_some, if◌then◌else◌, option_and_then}
 use Rattle.std.specs.Option.{option_map}
 use Rattle.ipc_terms.specs.Lists.{first}
+use Rattle.ipc_terms.specs.Timed.{plain}
 use Rattle.ipc_terms.specs.declared.record.Event.{Event}
 use Rattle.ipc_terms.specs.declared.record.Event.TheVariants.{Do}
 use Rattle.ipc_policy.specs.declared.config.Config.{Config}
 use Rattle.ipc_policy.specs.History.{History, newest, how_many}
 use Rattle.ipc_policy.specs.Descriptions.{holds}
-use Rattle.ipc_policy.specs.Queues.{Send, Waiter, Act, Sends, Receives, Queue, is_filled, next, act, queue, maxmsg}
+use Rattle.ipc_policy.specs.Queues.{Send, Waiter, Act, Sends, Receives, Queue, is_filled, next, maxmsg}
+use Rattle.ipc_policy.specs.Bodies.{act, queue}
 use Rattle.ipc_policy.specs.Rules.{described}
 
 -- a message of a queue, and the receive that gets it
@@ -29,7 +31,7 @@ object_asked before _ = None
 
 -- what an event delivers
 unfoldable pub delivery : Config → Event → History → Option Delivery
-delivery c e before = option_and_then (λ o. delivers (maxmsg c before o) o (act o e before) (queue c before o)) (object_asked before e)
+delivery c e before = option_and_then (λ o. delivers (maxmsg c before o) o (act c o e before) (queue c before o)) (object_asked before (plain e))
 
 -- the receive that gets the message of the send of place i
 abbrev pub receive_of : ℕ → Option Delivery → Option Waiter

@@ -1,7 +1,7 @@
 -- A history is a list of records, the newest first. What came before a record is the list behind it.
 -- A question about a history is asked in one of three ways: what does the newest accepted event
 -- that says something about it say; what did the newest one begin, unless a later one ended it;
--- and how many accepted events are of a kind. Queues and semaphores alone are asked event by event.
+-- and how many accepted events are of a kind. Queues, semaphores and the time alone are asked event by event.
 -- Refused events say, begin and end nothing.
 use Rattle.std.specs.Prelude.{Bool, false, ℕ, zero, suc, ◌+◌, ◌&&◌, ◌||◌, ◌==◌, List, [], ◌∷◌, ◌++◌, length, Option, Some, None, is_none, if◌then◌else◌}
 use Rattle.std.specs.Option.{option_or, option_to_list}
@@ -80,3 +80,8 @@ any_below is_one (suc n) = is_one n || any_below is_one n
 abbrev pub gathered_below : {A : Type 0} → (ℕ → Option A) → ℕ → List A
 gathered_below give zero = []
 gathered_below give (suc n) = gathered_below give n ++ option_to_list (give n)
+
+-- what the least number below a limit that gives something gives
+abbrev pub first_below : {A : Type 0} → (ℕ → Option A) → ℕ → Option A
+first_below give zero = None
+first_below give (suc n) = option_or (first_below give n) (give n)

@@ -6,9 +6,12 @@ use Rattle.ipc_terms.specs.Names.{same_name}
 use Rattle.ipc_terms.specs.Rules.{number_of}
 use Rattle.ipc_terms.specs.declared.object.TheConstants.{SEM_VALUE_MAX}
 use Rattle.ipc_terms.specs.declared.rule.Rule.{Rule}
+use Rattle.ipc_terms.specs.declared.ids.Sid.{Sid}
 use Rattle.ipc_terms.specs.declared.ids.Uid.{Uid}
 use Rattle.ipc_terms.specs.declared.ids.Family.{Family}
 use Rattle.ipc_terms.specs.declared.record.Event.{Event}
+use Rattle.ipc_terms.specs.declared.record.Event.TheVariants.{Do}
+use Rattle.ipc_terms.specs.declared.call.Call.{Call}
 use Rattle.ipc_terms.specs.declared.call.Answer.TheVariants.{Refused}
 use Rattle.ipc_policy.specs.declared.config.Config.{Config}
 use Rattle.ipc_policy.specs.declared.config.Held.{Held}
@@ -18,9 +21,11 @@ use Rattle.ipc_policy.specs.Names.{asks_name, is_bound, creations, bound}
 use Rattle.ipc_policy.specs.Objects.{object, owner, group, mode, facts, directory}
 use Rattle.ipc_policy.specs.Descriptions.{opens, held, holds, held_count, is_nonblock}
 use Rattle.ipc_policy.specs.Life.{named, bindings, names, alive}
-use Rattle.ipc_policy.specs.Queues.{Queue, has_none, queue, maxmsg, senders, receivers}
+use Rattle.ipc_policy.specs.Timed.{now, deadline_at}
+use Rattle.ipc_policy.specs.Queues.{Queue, has_none, maxmsg}
 use Rattle.ipc_policy.specs.Registrations.{registered}
-use Rattle.ipc_policy.specs.Semaphores.{Semaphore, semaphore, posts, passes, given_value, value, waiters}
+use Rattle.ipc_policy.specs.Semaphores.{Semaphore, given_value}
+use Rattle.ipc_policy.specs.Bodies.{due, queue, senders, receivers, semaphore, posts, passes, value, waiters}
 use Rattle.ipc_policy.specs.Parking.{ParkedKind, Sending, Receiving, Waiting, Parked, parked}
 use Rattle.ipc_policy.specs.Charges.{charge_of, charged, queues_alive, sets_limit, limit}
 use Rattle.ipc_terms.specs.Lists.{Each}
@@ -58,7 +63,7 @@ pub record SameValues (c : Config) (h k : History) : Type 0 where
   pub held : (d : ℕ) → held h d ≡ held k d
   pub holds : (s d : ℕ) → holds h s d ≡ holds k s d
   pub held_count : (s : ℕ) → held_count h s ≡ held_count k s
-  pub is_nonblock : (s d : ℕ) → is_nonblock h s d ≡ is_nonblock k s d
+  pub is_nonblock : (d : ℕ) → is_nonblock h d ≡ is_nonblock k d
   pub named : (o : ℕ) → named h o ≡ named k o
   pub bindings : (f : Family) → bindings h f ≡ bindings k f
   pub names : (f : Family) → names h f ≡ names k f
@@ -69,12 +74,15 @@ pub record SameValues (c : Config) (h k : History) : Type 0 where
   pub queues_alive : queues_alive c h ≡ queues_alive c k
   pub queue : (o : ℕ) → queue c h o ≡ queue c k o
   pub registered : (o : ℕ) → registered c h o ≡ registered c k o
-  pub semaphore : (o : ℕ) → semaphore h o ≡ semaphore k o
+  pub semaphore : (o : ℕ) → semaphore c h o ≡ semaphore c k o
   pub given_value : (o : ℕ) → given_value h o ≡ given_value k o
-  pub posts : (o : ℕ) → posts h o ≡ posts k o
-  pub passes : (o : ℕ) → passes h o ≡ passes k o
-  pub value : (o : ℕ) → value h o ≡ value k o
+  pub posts : (o : ℕ) → posts c h o ≡ posts c k o
+  pub passes : (o : ℕ) → passes c h o ≡ passes c k o
+  pub value : (o : ℕ) → value c h o ≡ value c k o
   pub parked : (s : ℕ) → parked c h s ≡ parked c k s
+  pub time : now h ≡ now k
+  pub deadline_at : (i : ℕ) → deadline_at h i ≡ deadline_at k i
+  pub due : (moment : ℕ) → due c h moment ≡ due c k moment
   pub verdict : (e : Event) → verdict c h e ≡ verdict c k e
 
 -- a refused event changes no value, and no verdict to come
@@ -89,6 +97,12 @@ RefusedIsAnswered =
     (c : Config) (h : History) (e : Event) (rule : Rule) (s : ℕ) → verdict c h e ≡ Some rule →
     outbox c (after_refused h e rule) s
     ≡ outbox c h s ++ (if live h s then for_session s ((caller e, Refused rule) ∷ []) else [])
+
+-- in a legal history the caller of each accepted call has credentials
+abbrev pub EachCallerIsKnown : Type 0
+EachCallerIsKnown =
+    (c : Config) (h : History) (sid : Sid) (call : Call) → Legal c h → verdict c h (Do sid call) ≡ None →
+    is_some (cred c h sid.0) ≡ true
 
 -- the names in the list are those that are bound, each to its object
 abbrev pub ListedIsBound : Type 0
@@ -127,8 +141,8 @@ place_listed Waiting s q u = option_map (λ w. w.place) (find (λ w. w.session =
 pub record IsListed (c : Config) (h : History) : Type 0 where
   pub each_send : (o : ℕ) → Each (λ m. parked c h m.session ≡ Some (record { object = o; place = m.place; kind = Sending })) (senders c h o)
   pub each_receive : (o : ℕ) → Each (λ w. parked c h w.session ≡ Some (record { object = o; place = w.place; kind = Receiving })) (receivers c h o)
-  pub each_wait : (o : ℕ) → Each (λ w. parked c h w.session ≡ Some (record { object = o; place = w.place; kind = Waiting })) (waiters h o)
-  pub each_parked : (s : ℕ) (p : Parked) → parked c h s ≡ Some p → place_listed p.kind s (queue c h p.object) (semaphore h p.object) ≡ Some p.place
+  pub each_wait : (o : ℕ) → Each (λ w. parked c h w.session ≡ Some (record { object = o; place = w.place; kind = Waiting })) (waiters c h o)
+  pub each_parked : (s : ℕ) (p : Parked) → parked c h s ≡ Some p → place_listed p.kind s (queue c h p.object) (semaphore c h p.object) ≡ Some p.place
 
 -- in a legal history a session is parked on an object exactly if the object lists its call
 abbrev pub ParkedIsListed : Type 0
@@ -144,22 +158,22 @@ pub record IsBounded (maxmsg : ℕ) (q : Queue) : Type 0 where
 abbrev pub EachIsBounded : Type 0
 EachIsBounded = (c : Config) (h : History) (o : ℕ) → 1 ≤ c.limits.msg_max → Legal c h → IsBounded (maxmsg c h o) (queue c h o)
 
--- a semaphore's value is at most 2,147,483,647, and a wait is parked on it only while it is 0
+-- a semaphore's running value is at most 2,147,483,647, and a wait is parked on it only while it is 0
 pub record IsInRange (q : Semaphore) : Type 0 where
-  pub within : q.value ≤ SEM_VALUE_MAX
-  pub waiters_wait : has_none q.waiters ≡ false → q.value ≡ 0
+  pub within : q.running ≤ SEM_VALUE_MAX
+  pub waiters_wait : has_none q.waiters ≡ false → q.running ≡ 0
 
 -- in a legal history each semaphore is so
 abbrev pub EachIsInRange : Type 0
-EachIsInRange = (c : Config) (h : History) (o : ℕ) → Legal c h → IsInRange (semaphore h o)
+EachIsInRange = (c : Config) (h : History) (o : ℕ) → Legal c h → IsInRange (semaphore c h o)
 
 -- in a legal history a session is parked in a wait only while the semaphore is at 0
 abbrev pub WaitsAtZero : Type 0
-WaitsAtZero = (c : Config) (h : History) → Legal c h → (s : ℕ) (p : Parked) → parked c h s ≡ Some p → p.kind ≡ Waiting → value h p.object ≡ 0
+WaitsAtZero = (c : Config) (h : History) → Legal c h → (s : ℕ) (p : Parked) → parked c h s ≡ Some p → p.kind ≡ Waiting → value c h p.object ≡ 0
 
--- in a legal history the value is what the acts make of it, one by one
+-- in a legal history the value, which is counted, is what the acts make of it, one by one
 abbrev pub EachValueIsCounted : Type 0
-EachValueIsCounted = (c : Config) (h : History) (o : ℕ) → Legal c h → value h o ≡ (semaphore h o).value
+EachValueIsCounted = (c : Config) (h : History) (o : ℕ) → Legal c h → value c h o ≡ (semaphore c h o).running
 
 -- a description that session s holds gives object o
 pub record HoldsFor (h : History) (s o : ℕ) : Type 0 where

@@ -1,7 +1,8 @@
 -- Which call a session is parked in: a send to a full queue, a receive from an empty one, or a wait for a semaphore at
--- 0, until another session's call serves it, or its session interrupts it or hangs up.
+-- 0, until another session's call serves it, its session interrupts it or hangs up, or a tick finds it due.
 use Rattle.std.specs.Prelude.{Bool, true, false, ℕ, ◌&&◌, ◌||◌, ◌==◌, length, Option, Some, None, if◌then◌else◌, option_and_then}
 use Rattle.ipc_terms.specs.Lists.{first}
+use Rattle.ipc_terms.specs.Timed.{plain}
 use Rattle.ipc_terms.specs.declared.call.Call.TheVariants.{MqSend, MqReceive, SemWait}
 use Rattle.ipc_terms.specs.declared.record.Event.{Event}
 use Rattle.ipc_terms.specs.declared.record.Event.TheVariants.{Do}
@@ -9,8 +10,9 @@ use Rattle.ipc_policy.specs.declared.config.Config.{Config}
 use Rattle.ipc_policy.specs.declared.config.Held.{Held}
 use Rattle.ipc_policy.specs.History.{History, unended, is_some_and}
 use Rattle.ipc_policy.specs.Descriptions.{holds}
-use Rattle.ipc_policy.specs.Semaphores.{SemaphoreAct, Posts, Semaphore, semaphore_act, semaphore, is_zero}
-use Rattle.ipc_policy.specs.Queues.{Act, Sends, Receives, Withdraws, Queue, act, queue, is_full, is_empty}
+use Rattle.ipc_policy.specs.Semaphores.{SemaphoreAct, Posts, Semaphore}
+use Rattle.ipc_policy.specs.Queues.{Act, Sends, Receives, Withdraws, Queue}
+use Rattle.ipc_policy.specs.Bodies.{due, semaphore_act, semaphore, is_zero, act, queue, is_full, is_empty}
 
 -- what a parked call waits for: a send for room in a full queue, a receive for a message in an empty one, a wait for a
 -- post
@@ -29,20 +31,39 @@ pub record Parked : Type 0 where
 abbrev pub parked_on : (ℕ → Bool) → ParkedKind → ℕ → Held → Option Parked
 parked_on test kind place x = if test x.object then Some (record { object = x.object; place = place; kind = kind }) else None
 
--- a send to a full queue parks, a receive from an empty one, and a wait at 0; by the event's place, what each session
--- holds, and which objects are full, which empty, and which at 0
-abbrev pub parks_by : ℕ → (ℕ → ℕ → Option Held) → (ℕ → Bool) → (ℕ → Bool) → (ℕ → Bool) → ℕ → Event → Option Parked
-parks_by place holds full empty zero s (Do sid (MqSend desc priority bytes)) =
-    if sid.0 == s then option_and_then (parked_on full Sending place) (holds sid.0 desc.0) else None
-parks_by place holds full empty zero s (Do sid (MqReceive desc length')) =
-    if sid.0 == s then option_and_then (parked_on empty Receiving place) (holds sid.0 desc.0) else None
-parks_by place holds full empty zero s (Do sid (SemWait desc)) =
-    if sid.0 == s then option_and_then (parked_on zero Waiting place) (holds sid.0 desc.0) else None
-parks_by place holds full empty zero s _ = None
+-- what an event reads: its place; what each session holds, and which session is due at which moment; what each queue and
+-- each semaphore keeps; and which objects are full, which empty, and which at 0
+pub record Seen : Type 0 where
+  pub place : ℕ
+  pub holds : ℕ → ℕ → Option Held
+  pub due : ℕ → Option ℕ
+  pub queue : ℕ → Queue
+  pub semaphore : ℕ → Semaphore
+  pub full : ℕ → Bool
+  pub empty : ℕ → Bool
+  pub at_zero : ℕ → Bool
+
+-- what an event after a history reads
+abbrev pub seen : Config → History → Seen
+seen c before = record { place = length before; holds = holds before; due = due c before; queue = queue c before; semaphore = semaphore c before; full = is_full c before; empty = is_empty c before; at_zero = is_zero c before }
+
+-- a send to a full queue parks, a receive from an empty one, and a wait at 0
+abbrev pub plain_parks : Seen → ℕ → Event → Option Parked
+plain_parks there s (Do sid (MqSend desc priority bytes)) =
+    if sid.0 == s then option_and_then (parked_on there.full Sending there.place) (there.holds sid.0 desc.0) else None
+plain_parks there s (Do sid (MqReceive desc length')) =
+    if sid.0 == s then option_and_then (parked_on there.empty Receiving there.place) (there.holds sid.0 desc.0) else None
+plain_parks there s (Do sid (SemWait desc)) =
+    if sid.0 == s then option_and_then (parked_on there.at_zero Waiting there.place) (there.holds sid.0 desc.0) else None
+plain_parks there s _ = None
+
+-- a timed call parks where it does without its deadline
+abbrev pub parks_by : Seen → ℕ → Event → Option Parked
+parks_by there s e = plain_parks there s (plain e)
 
 -- the call of session s that parks
 abbrev pub parks : Config → ℕ → Event → History → Option Parked
-parks c s e before = parks_by (length before) (holds before) (is_full c before) (is_empty c before) (is_zero c before) s e
+parks c s e before = parks_by (seen c before) s e
 
 -- there is one, and this is its place
 abbrev pub stands_at : {A : Type 0} → (A → ℕ) → ℕ → Option A → Bool
@@ -65,7 +86,8 @@ abbrev pub withdraws : ℕ → Act → Bool
 withdraws s (Withdraws s') = s == s'
 withdraws s _ = false
 
--- an interrupt or a hang-up of its session ends a parked call, and what serves its kind ends the longest parked
+-- an interrupt or a hang-up of its session ends a parked call, a tick that of the session that is due, and what serves its
+-- kind ends the longest parked
 abbrev pub ends_call : ℕ → Parked → Act → Queue → Bool
 ends_call s p a q = withdraws s a || (serves p.kind a && is_longest p.kind p.place q)
 
@@ -77,8 +99,8 @@ is_posted _ _ _ _ = false
 -- what ends the parked call of session s
 abbrev pub ends_parked : Config → ℕ → Parked → Event → History → Bool
 ends_parked c s p e before =
-    is_posted (semaphore_act p.object e before) p.kind p.place (semaphore before p.object)
-    || ends_call s p (act p.object e before) (queue c before p.object)
+    is_posted (semaphore_act c p.object e before) p.kind p.place (semaphore c before p.object)
+    || ends_call s p (act c p.object e before) (queue c before p.object)
 
 -- the call that session s is parked in
 unfoldable pub parked : Config → History → ℕ → Option Parked

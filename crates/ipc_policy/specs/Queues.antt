@@ -1,18 +1,18 @@
--- What sends, receives, interrupts and hang-ups make of a queue.
+-- What sends, receives and withdrawals make of a queue.
 use Rattle.std.specs.Prelude.{Bool, true, false, ℕ, ◌||◌, ◌==◌, not, nat_le, List, [], ◌∷◌, ◌++◌, length, filter, Option, Some, None, if◌then◌else◌}
 use Rattle.std.specs.Option.{option_to_list}
 use Rattle.ipc_terms.specs.Lists.{first}
 use Rattle.ipc_terms.specs.Objects.{as_queue}
 use Rattle.ipc_terms.specs.Priorities.{first_of_greatest}
+use Rattle.ipc_terms.specs.Timed.{plain}
 use Rattle.ipc_terms.specs.declared.call.Attributes.{Attributes}
 use Rattle.ipc_terms.specs.declared.call.Call.TheVariants.{MqSend, MqReceive, Interrupt}
 use Rattle.ipc_terms.specs.declared.record.Event.{Event}
-use Rattle.ipc_terms.specs.declared.record.Event.TheVariants.{Do, Hangup}
+use Rattle.ipc_terms.specs.declared.record.Event.TheVariants.{Do, Hangup, Tick}
 use Rattle.ipc_policy.specs.declared.config.Config.{Config}
 use Rattle.ipc_policy.specs.declared.config.Held.{Held}
-use Rattle.ipc_policy.specs.History.{History, is_accepted, is_some_and}
+use Rattle.ipc_policy.specs.History.{History}
 use Rattle.ipc_policy.specs.Objects.{object}
-use Rattle.ipc_policy.specs.Descriptions.{holds}
 use Rattle.ipc_policy.specs.Life.{gives_object}
 
 -- a message that was sent: the place of its send, who sent it by which description, and what
@@ -36,18 +36,25 @@ pub data Act : Type 0 where
   Withdraws : ℕ → Act
   NoAct : Act
 
--- what an event does to queue o, by the event's place and by what each session holds; an interrupt and a hang-up
--- withdraw the parked call of their session, wherever it is
-abbrev pub act_by : ℕ → (ℕ → ℕ → Option Held) → ℕ → Event → Act
-act_by place holds o (Do sid (MqSend desc priority bytes)) = if gives_object o (holds sid.0 desc.0) then Sends (record { place = place; session = sid.0; desc = desc.0; priority = priority; bytes = bytes }) else NoAct
-act_by place holds o (Do sid (MqReceive desc length')) = if gives_object o (holds sid.0 desc.0) then Receives (record { place = place; session = sid.0; desc = desc.0 }) else NoAct
-act_by place holds o (Do sid Interrupt) = Withdraws sid.0
-act_by place holds o (Hangup sid) = Withdraws sid.0
-act_by place holds o _ = NoAct
+-- a tick withdraws the parked call of the session that is due, where one is
+abbrev pub withdrawal : Option ℕ → Act
+withdrawal None = NoAct
+withdrawal (Some s) = Withdraws s
 
--- what an event does to queue o
-abbrev pub act : ℕ → Event → History → Act
-act o e before = act_by (length before) (holds before) o e
+-- what an event that is no timed call does to queue o, by the event's place, what each session holds, and which session
+-- is due at which moment; an interrupt and a hang-up withdraw the parked call of their session, wherever it is, and a tick
+-- that of the session that is due
+abbrev pub plain_act : ℕ → (ℕ → ℕ → Option Held) → (ℕ → Option ℕ) → ℕ → Event → Act
+plain_act place holds due o (Do sid (MqSend desc priority bytes)) = if gives_object o (holds sid.0 desc.0) then Sends (record { place = place; session = sid.0; desc = desc.0; priority = priority; bytes = bytes }) else NoAct
+plain_act place holds due o (Do sid (MqReceive desc length')) = if gives_object o (holds sid.0 desc.0) then Receives (record { place = place; session = sid.0; desc = desc.0 }) else NoAct
+plain_act place holds due o (Do sid Interrupt) = Withdraws sid.0
+plain_act place holds due o (Hangup sid) = Withdraws sid.0
+plain_act place holds due o (Tick moment) = withdrawal (due moment)
+plain_act place holds due o _ = NoAct
+
+-- what any event does to queue o: a timed call does what it does without its deadline
+abbrev pub act_by : ℕ → (ℕ → ℕ → Option Held) → (ℕ → Option ℕ) → ℕ → Event → Act
+act_by place holds due o e = plain_act place holds due o (plain e)
 
 -- the message that a receive takes: the earliest of those with the greatest priority
 abbrev pub next : List Send → Option Send
@@ -91,14 +98,15 @@ contents_after maxmsg (Receives w) q = others (next q.contents) q.contents ++ op
 contents_after maxmsg (Withdraws s) q = q.contents
 contents_after maxmsg NoAct q = q.contents
 
--- a send to a full queue parks; a receive lets the longest parked send enter; an interrupt or a hang-up withdraws
+-- a send to a full queue parks; a receive lets the longest parked send enter; an interrupt, a hang-up or a tick withdraws
 abbrev pub senders_after : ℕ → Act → Queue → List Send
 senders_after maxmsg (Sends m) q = if is_filled maxmsg q.contents then q.senders ++ m ∷ [] else q.senders
 senders_after maxmsg (Receives w) q = tail q.senders
 senders_after maxmsg (Withdraws s) q = filter (λ m. not (m.session == s)) q.senders
 senders_after maxmsg NoAct q = q.senders
 
--- a receive from an empty queue parks; a send is taken by the longest parked receive; an interrupt or a hang-up withdraws
+-- a receive from an empty queue parks; a send is taken by the longest parked receive; an interrupt, a hang-up or a tick
+-- withdraws
 abbrev pub receivers_after : Act → Queue → List Waiter
 receivers_after (Sends m) q = tail q.receivers
 receivers_after (Receives w) q = if has_none q.contents then q.receivers ++ w ∷ [] else q.receivers
@@ -121,29 +129,3 @@ attributes c h o = as_queue (object c h o)
 -- how many messages queue o may have
 abbrev pub maxmsg : Config → History → ℕ → ℕ
 maxmsg c h o = maxmsg_of (attributes c h o)
-
--- queue o
-unfoldable pub queue : Config → History → ℕ → Queue
-queue c [] o = empty_queue
-queue c (r ∷ before) o =
-    if is_accepted r then queue_after (maxmsg c before o) (act o r.event before) (queue c before o) else queue c before o
-
--- the sends that entered queue o and were not taken, in order of entry
-abbrev pub contents : Config → History → ℕ → List Send
-contents c h o = (queue c h o).contents
-
--- the sends that are parked on queue o, longest parked first
-abbrev pub senders : Config → History → ℕ → List Send
-senders c h o = (queue c h o).senders
-
--- the receives that are parked on queue o, longest parked first
-abbrev pub receivers : Config → History → ℕ → List Waiter
-receivers c h o = (queue c h o).receivers
-
--- there is such a queue, and it has as many messages as it may
-abbrev pub is_full : Config → History → ℕ → Bool
-is_full c h o = is_some_and (λ x. is_filled x.maxmsg (contents c h o)) (attributes c h o)
-
--- there is such a queue, and it has no messages
-abbrev pub is_empty : Config → History → ℕ → Bool
-is_empty c h o = is_some_and (λ x. has_none (contents c h o)) (attributes c h o)

@@ -8,9 +8,10 @@ use Rattle.ipc_policy.specs.declared.config.Config.{Config}
 use Rattle.ipc_policy.specs.declared.config.Held.{Held}
 use Rattle.ipc_policy.specs.declared.config.Registration.{Registration}
 use Rattle.ipc_policy.specs.History.{History, unended}
-use Rattle.ipc_policy.specs.Descriptions.{holds, closes}
+use Rattle.ipc_policy.specs.Descriptions.{holds, lets_go}
 use Rattle.ipc_policy.specs.Life.{gives_object}
-use Rattle.ipc_policy.specs.Queues.{Act, Sends, Queue, has_none, act, queue}
+use Rattle.ipc_policy.specs.Queues.{Act, Sends, Queue, has_none}
+use Rattle.ipc_policy.specs.Bodies.{act, queue}
 
 -- a notify on by a description that gives queue o registers it, by what each session holds
 abbrev pub registers : (ℕ → ℕ → Option Held) → ℕ → Event → Option Registration
@@ -31,10 +32,18 @@ abbrev pub fires : Act → Queue → Bool
 fires (Sends m) q = is_idle q
 fires _ q = false
 
--- a registration ends when it is turned off, when its session closes the description or hangs up, and when it fires
+-- a registration ends when it is turned off, when its session lets the description go, and when it fires
 abbrev pub ends_registration : Registration → Event → Act → Queue → Bool
-ends_registration x e a q = turns_off x e || closes x.session.0 x.desc.0 e || fires a q
+ends_registration x e a q = turns_off x e || lets_go x.session.0 x.desc.0 e || fires a q
+
+-- what an event registers with queue o
+abbrev pub begins_registration : ℕ → Event → History → Option Registration
+begins_registration o e before = registers (holds before) o e
+
+-- an event ends the registration of queue o
+abbrev pub ends_registration_at : Config → ℕ → Registration → Event → History → Bool
+ends_registration_at c o x e before = ends_registration x e (act c o e before) (queue c before o)
 
 -- the registration of queue o
 unfoldable pub registered : Config → History → ℕ → Option Registration
-registered c h o = unended (λ e before. registers (holds before) o e) (λ x e before. ends_registration x e (act o e before) (queue c before o)) h
+registered c h o = unended (begins_registration o) (ends_registration_at c o) h

@@ -10,7 +10,8 @@ use Rattle.ipc_policy.specs.declared.config.Config.{Config}
 use Rattle.ipc_policy.specs.declared.config.TheConstants.{HARD_MSGSIZE_MAX}
 use Rattle.ipc_policy.specs.History.{History}
 use Rattle.ipc_policy.specs.Names.{is_bound}
-use Rattle.ipc_policy.specs.Queues.{Queue, attributes, queue}
+use Rattle.ipc_policy.specs.Queues.{Queue, attributes}
+use Rattle.ipc_policy.specs.Bodies.{queue}
 use Rattle.ipc_policy.specs.Deliveries.{Delivery, delivery}
 use Rattle.ipc_policy.specs.Verdict.{Legal, verdict, answers, outbox}
 

@@ -4,15 +4,16 @@ pub use Rattle.ipc_terms.specs.Events.{caller}
 use Rattle.ipc_terms.specs.Lists.{first}
 use Rattle.ipc_terms.specs.Rules.{every_rule}
 use Rattle.ipc_terms.specs.declared.rule.Rule.{Rule}
+use Rattle.ipc_terms.specs.declared.rule.Rule.TheVariants.{TimedOut}
 use Rattle.ipc_terms.specs.Pages.{page}
 use Rattle.ipc_terms.specs.Lines.{lines}
 use Rattle.ipc_terms.specs.declared.ids.Sid.{Sid}
 use Rattle.ipc_terms.specs.declared.facts.Facts.{Facts}
 use Rattle.ipc_terms.specs.declared.call.Answer.{Answer}
-use Rattle.ipc_terms.specs.declared.call.Answer.TheVariants.{Started, Done, Opened, Mask, Sent, Received, Attrs, Value, Names, Stat, Records, Notice, Refused, Interrupted}
-use Rattle.ipc_terms.specs.declared.call.Call.TheVariants.{Umask, MqOpen, MqClose, MqSend, MqReceive, MqGetattr, MqSetattr, MqNotify, MqUnlink, SemOpen, SemClose, SemUnlink, SemPost, SemWait, SemTryWait, SemGetvalue, ListNames, StatName, Chmod, Chown, SetLimit, Interrupt, Audit}
+use Rattle.ipc_terms.specs.declared.call.Answer.TheVariants.{Started, Done, Opened, Mask, Sent, Received, Attrs, Value, Names, Stat, Records, Notice, Taken, Refused, Interrupted}
+use Rattle.ipc_terms.specs.declared.call.Call.TheVariants.{Umask, MqOpen, MqClose, MqSend, MqReceive, MqGetattr, MqSetattr, MqNotify, MqGive, MqUnlink, SemOpen, SemClose, SemUnlink, SemPost, SemWait, SemTryWait, SemGetvalue, ListNames, StatName, Chmod, Chown, SetLimit, Interrupt, Audit, MqTimedSend, MqTimedReceive, SemTimedWait}
 use Rattle.ipc_terms.specs.declared.record.Event.{Event}
-use Rattle.ipc_terms.specs.declared.record.Event.TheVariants.{Hello, Do, Hangup}
+use Rattle.ipc_terms.specs.declared.record.Event.TheVariants.{Hello, Do, Hangup, Tick}
 use Rattle.ipc_policy.specs.declared.config.Config.{Config}
 use Rattle.ipc_policy.specs.History.{History}
 use Rattle.ipc_policy.specs.Sessions.{hellos, live, mask}
@@ -21,9 +22,9 @@ use Rattle.ipc_policy.specs.declared.config.Registration.{Registration}
 use Rattle.ipc_terms.specs.declared.call.Attributes.{Attributes}
 pub use Rattle.ipc_policy.specs.Objects.{facts_meant}
 use Rattle.ipc_policy.specs.Descriptions.{opens, holds, is_nonblock}
-use Rattle.ipc_policy.specs.Queues.{Send, Waiter, attributes, next, queue, contents, senders, receivers, is_full}
+use Rattle.ipc_policy.specs.Queues.{Send, Waiter, attributes, next}
+use Rattle.ipc_policy.specs.Bodies.{due, queue, contents, senders, receivers, is_full, value, waiters, is_zero}
 use Rattle.ipc_policy.specs.Registrations.{is_idle, registered}
-use Rattle.ipc_policy.specs.Semaphores.{value, waiters, is_zero}
 use Rattle.ipc_policy.specs.Life.{names}
 use Rattle.ipc_policy.specs.Rules.{forbids}
 
@@ -78,7 +79,7 @@ abbrev pub attributes_told : Config → History → Sid → ℕ → List (Sid ×
 attributes_told c h sid d = by_held (holds h sid.0 d) where
   by_queue : ℕ → Option Attributes → List (Sid × Answer)
   by_queue o None = []
-  by_queue o (Some x) = (sid, Attrs (is_nonblock h sid.0 d) x (length (contents c h o))) ∷ []
+  by_queue o (Some x) = (sid, Attrs (is_nonblock h d) x (length (contents c h o))) ∷ []
 
   by_held : Option Held → List (Sid × Answer)
   by_held None = []
@@ -90,16 +91,21 @@ waiter_answers None = []
 waiter_answers (Some w) = (record { 0 = w.session }, Done) ∷ []
 
 -- a post is answered, and then the longest parked wait
-abbrev pub post_answers : History → Sid → ℕ → List (Sid × Answer)
-post_answers h sid o = (sid, Done) ∷ waiter_answers (first (waiters h o))
+abbrev pub post_answers : Config → History → Sid → ℕ → List (Sid × Answer)
+post_answers c h sid o = (sid, Done) ∷ waiter_answers (first (waiters c h o))
 
 -- a wait that parks is not answered yet
 abbrev pub wait_answers : Config → History → Sid → ℕ → List (Sid × Answer)
 wait_answers c h sid o = if is_zero c h o then [] else (sid, Done) ∷ []
 
 -- a session is told the value of a semaphore
-abbrev pub value_told : History → Sid → ℕ → List (Sid × Answer)
-value_told h sid o = (sid, Value (value h o)) ∷ []
+abbrev pub value_told : Config → History → Sid → ℕ → List (Sid × Answer)
+value_told c h sid o = (sid, Value (value c h o)) ∷ []
+
+-- the session whose call a tick ends is told that its deadline is past, where there is one
+abbrev pub tick_answers : Option ℕ → List (Sid × Answer)
+tick_answers None = []
+tick_answers (Some s) = (record { 0 = s }, Refused TimedOut) ∷ []
 
 -- to whom an accepted event is answered, and what
 abbrev pub accepted_answers : Config → History → Event → List (Sid × Answer)
@@ -109,17 +115,21 @@ accepted_answers c h (Do sid (MqOpen asked)) = (sid, Opened (record { 0 = opens 
 accepted_answers c h (Do sid (MqClose desc)) = (sid, Done) ∷ []
 accepted_answers c h (Do sid (MqSend desc priority bytes)) = answers_of (holds h sid.0 desc.0) (send_answers c h sid priority bytes)
 accepted_answers c h (Do sid (MqReceive desc length')) = answers_of (holds h sid.0 desc.0) (receive_answers c h sid)
+accepted_answers c h (Do sid (MqTimedSend desc priority deadline bytes)) = answers_of (holds h sid.0 desc.0) (send_answers c h sid priority bytes)
+accepted_answers c h (Do sid (MqTimedReceive desc length' deadline)) = answers_of (holds h sid.0 desc.0) (receive_answers c h sid)
 accepted_answers c h (Do sid (MqGetattr desc)) = attributes_told c h sid desc.0
 accepted_answers c h (Do sid (MqSetattr desc nonblock)) = attributes_told c h sid desc.0
 accepted_answers c h (Do sid (MqNotify desc on)) = (sid, Done) ∷ []
+accepted_answers c h (Do sid (MqGive desc taker)) = (sid, Done) ∷ (taker, Taken desc) ∷ []
 accepted_answers c h (Do sid (MqUnlink name)) = (sid, Done) ∷ []
 accepted_answers c h (Do sid (SemOpen asked)) = (sid, Opened (record { 0 = opens h })) ∷ []
 accepted_answers c h (Do sid (SemClose desc)) = (sid, Done) ∷ []
 accepted_answers c h (Do sid (SemUnlink name)) = (sid, Done) ∷ []
-accepted_answers c h (Do sid (SemPost desc)) = answers_of (holds h sid.0 desc.0) (post_answers h sid)
+accepted_answers c h (Do sid (SemPost desc)) = answers_of (holds h sid.0 desc.0) (post_answers c h sid)
 accepted_answers c h (Do sid (SemWait desc)) = answers_of (holds h sid.0 desc.0) (wait_answers c h sid)
+accepted_answers c h (Do sid (SemTimedWait desc deadline)) = answers_of (holds h sid.0 desc.0) (wait_answers c h sid)
 accepted_answers c h (Do sid (SemTryWait desc)) = (sid, Done) ∷ []
-accepted_answers c h (Do sid (SemGetvalue desc)) = answers_of (holds h sid.0 desc.0) (value_told h sid)
+accepted_answers c h (Do sid (SemGetvalue desc)) = answers_of (holds h sid.0 desc.0) (value_told c h sid)
 accepted_answers c h (Do sid (ListNames family start count)) = (sid, Names (page start count (names h family))) ∷ []
 accepted_answers c h (Do sid (StatName target)) = stat_answers sid (facts_meant c h target)
 accepted_answers c h (Do sid (Chmod mode target)) = (sid, Done) ∷ []
@@ -128,6 +138,7 @@ accepted_answers c h (Do sid (SetLimit uid bytes)) = (sid, Done) ∷ []
 accepted_answers c h (Do sid (Audit start count)) = (sid, Records (page start count (lines h))) ∷ []
 accepted_answers c h (Do sid Interrupt) = (sid, Interrupted) ∷ (sid, Done) ∷ []
 accepted_answers c h (Hangup sid) = []
+accepted_answers c h (Tick moment) = tick_answers (due c h moment)
 
 -- what is answered where this is the verdict
 abbrev pub answers_at : Option Rule → Config → History → Event → List (Sid × Answer)

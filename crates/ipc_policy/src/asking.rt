@@ -141,14 +141,18 @@ pub fn description_of(call: &Call) -> Option<Described>
         Call::MqClose(desc)
         | Call::MqSend { desc, .. }
         | Call::MqReceive { desc, .. }
+        | Call::MqTimedSend { desc, .. }
+        | Call::MqTimedReceive { desc, .. }
         | Call::MqGetattr(desc)
         | Call::MqSetattr { desc, .. }
-        | Call::MqNotify { desc, .. } => (Family::Mq, *desc),
+        | Call::MqNotify { desc, .. }
+        | Call::MqGive { desc, .. } => (Family::Mq, *desc),
         Call::SemClose(desc)
         | Call::SemPost(desc)
         | Call::SemWait(desc)
         | Call::SemTryWait(desc)
-        | Call::SemGetvalue(desc) => (Family::Sem, *desc),
+        | Call::SemGetvalue(desc)
+        | Call::SemTimedWait { desc, .. } => (Family::Sem, *desc),
         _ => return None,
     };
     Some(Described { family, desc })

@@ -6,9 +6,6 @@ use ipc_terms::{Access, Desc, Sid};
 /// The descriptions that a session may hold at a time.
 pub const DESCRIPTIONS_MAX: usize = 1024;
 
-/// How many priorities there are, from 0 on (POSIX.1-2017, `MQ_PRIO_MAX`).
-pub const MQ_PRIO_MAX: u32 = 32_768;
-
 /// The greatest `msg_max`, and the messages that a queue of user 0 may have (`HARD_MSGMAX`).
 pub const HARD_MSG_MAX: u32 = 65_536;
 
@@ -17,9 +14,6 @@ pub const HARD_MSGSIZE_MAX: u32 = 16_777_216;
 
 /// The greatest `queues_max`.
 pub const HARD_QUEUES_MAX: u32 = 65_536;
-
-/// The greatest limit of the bytes that a user's queues may take in all.
-pub const LIMIT_MAX: u64 = 1_000_000_000_000_000;
 
 /// Limits that are given at the start (`mq_overview(7)`): `msg_max`, from 1 to `HARD_MSG_MAX`, bounds
 /// the messages of a queue; `msgsize_max`, from 1 to `HARD_MSGSIZE_MAX`, the bytes of a message;

@@ -1,11 +1,12 @@
-//! Laws of the policy, over every history; `bound`, `parked_listed`, `parked_alive`, `bounded`, `in_range`, `counted`,
+//! Laws of the policy, over every history; `known`, `bound`, `parked_listed`, `parked_alive`, `bounded`, `in_range`, `counted`,
 //! `within_limit` and `sized` are over the legal ones, and so is what `answered` says of calls. These functions do nothing:
 //! what they ensure is what is proved.
 
-ghost use Rattle.ipc_policy.specs.Laws.{VerdictIsLeast, RefusedIsQuiet, RefusedIsAnswered, ListedIsBound, BoundIsToObject, NamedIsBound, NamesDiffer, BoundIsMade, ParkedIsListed, ParkedIsAlive, EachIsBounded, EachIsInRange, WaitsAtZero, EachValueIsCounted, WithinLimit};
+ghost use Rattle.ipc_policy.specs.Laws.{VerdictIsLeast, RefusedIsQuiet, RefusedIsAnswered, EachCallerIsKnown, ListedIsBound, BoundIsToObject, NamedIsBound, NamesDiffer, BoundIsMade, ParkedIsListed, ParkedIsAlive, EachIsBounded, EachIsInRange, WaitsAtZero, EachValueIsCounted, WithinLimit};
+ghost use Rattle.ipc_policy.specs.Ticks.{EarliestIsDue, TickEndsOne, DueIsLive, EachCountsAsPlain, EachWouldPark};
 ghost use Rattle.ipc_policy.specs.Grow.{AcceptedGrows};
-ghost use Rattle.ipc_policy.specs.Rights.{HeldOutlives, RightsByDescription};
-ghost use Rattle.ipc_policy.specs.Answered.{EachCallIsAnswered, ParkingAnswersNobody, HelloAnswersItsSession, HangupAnswersNobody, RefusalAnswersItsCaller};
+ghost use Rattle.ipc_policy.specs.Rights.{HeldOutlives, HeldIsHandedOver, EachHasOneHolder, ParkedGivesNothing, RightsByDescription};
+ghost use Rattle.ipc_policy.specs.Answered.{EachCallIsAnswered, ParkingAnswersNobody, HelloAnswersItsSession, HangupAnswersNobody, RefusalAnswersItsCaller, EachTickIsAnswered};
 ghost use Rattle.ipc_policy.specs.Sizes.{EachNameIsShort, EachMessageFits, EachDeliveryFits, EachSizeIsInRange, EachAnswerIsSmall, EachOutboxIsSmall};
 ghost use Rattle.ipc_policy.specs.Readings.{EachParkedByPlace, EachInsideByPlace, EachInsideInOrder, EachNextIsGreatest};
 
@@ -26,6 +27,12 @@ pub fn grow()
     ensures { AcceptedGrows }
 {}
 
+/// In a legal history the caller of each accepted call has credentials. So no call is accepted for want of a user, though a
+/// rule that denies something to a user holds only where there is one.
+pub fn known()
+    ensures { EachCallerIsKnown }
+{}
+
 /// The names that are listed are those that are bound, each to its object, and all different. A name is bound exactly
 /// where it is bound to an object, and an object has a name exactly where the name is bound to it.
 pub fn listed()
@@ -38,6 +45,21 @@ pub fn listed()
 /// In a legal history what a name is bound to is an object, and it has an owner, a group and a mode.
 pub fn bound()
     ensures { BoundIsMade }
+{}
+
+/// In a legal history a tick ends the earliest parked call of the whole server whose deadline is then past, where there is
+/// one, and its session is live. In every history it ends the parked call of that session, and no other.
+pub fn ticks()
+    ensures earliest { EarliestIsDue }
+    ensures one { TickEndsOne }
+    ensures live { DueIsLive }
+{}
+
+/// An event that is accepted would be accepted without the deadline of its call too, and is answered the same. The calls
+/// that the rule of deadlines takes to park are those that park.
+pub fn timed()
+    ensures plain { EachCountsAsPlain }
+    ensures parks { EachWouldPark }
 {}
 
 /// A call is parked exactly if it parked and no later record ended it, and the longest parked is listed first.
@@ -93,23 +115,34 @@ pub fn within_limit()
     ensures { WithinLimit }
 {}
 
-/// What a session holds by a description stays what it is until the session closes it or hangs up, and the verdict on a
-/// call by it depends on nothing but the session, what it holds, and that object: on no user, owner, group, mode, name
-/// or directory. Permission is asked at the open (POSIX.1-2017, `mq_open`, `sem_open`).
+/// What a session holds by a description stays what it is until the session closes it, gives it to another or hangs up; then
+/// the taker holds the same. The verdict on a call by it depends on nothing but the session, what it holds, and that object,
+/// and for a give on its taker: on no user, owner, group, mode, name or directory. Permission is asked at the open
+/// (POSIX.1-2017, `mq_open`, `sem_open`).
 pub fn rights()
     ensures outlive { HeldOutlives }
+    ensures handed_over { HeldIsHandedOver }
     ensures by_description { RightsByDescription }
 {}
 
-/// After a legal history an accepted call that does not park is answered to its session, before anybody else, and not with
-/// a notice. One that parks answers nobody, and so does an accepted hang-up. An accepted hello answers the session that it
-/// starts, alone, and a refusal the session that the event names, alone.
+/// A description has one holder, and a session that is parked gives none away.
+pub fn holders()
+    ensures one { EachHasOneHolder }
+    ensures parked { ParkedGivesNothing }
+{}
+
+/// After a legal history an accepted call that does not park is answered to its session, before anybody else, and neither
+/// with a notice nor with a description that another session gave. One that parks answers nobody, and so does an accepted
+/// hang-up. An accepted hello answers the session that it starts, alone, and a refusal the session that the event names,
+/// alone. A tick is always accepted, and answers the session
+/// whose call it ends, alone.
 pub fn answered()
     ensures calls { EachCallIsAnswered }
     ensures parking { ParkingAnswersNobody }
     ensures hellos { HelloAnswersItsSession }
     ensures hangups { HangupAnswersNobody }
     ensures refusals { RefusalAnswersItsCaller }
+    ensures ticks { EachTickIsAnswered }
 {}
 
 /// In a legal history a bound name has at most 256 bytes, a semaphore's 252; and a message in a queue, parked or handed to a

@@ -11,12 +11,13 @@ pub use asking::{
     Described, Naming, Opening, description_of, kind_of, naming_of, opening_of, unlinking_of,
 };
 pub use config::{
-    Config, DESCRIPTIONS_MAX, HARD_MSG_MAX, HARD_MSGSIZE_MAX, HARD_QUEUES_MAX, Held, LIMIT_MAX,
-    Limits, MQ_PRIO_MAX, Registration,
+    Config, DESCRIPTIONS_MAX, HARD_MSG_MAX, HARD_MSGSIZE_MAX, HARD_QUEUES_MAX, Held, Limits,
+    Registration,
 };
 pub use ipc_terms::{Kind, Object};
 pub use laws::{
-    answered, bound, bounded, counted, grow, in_order, in_range, inside_by_place, least, listed,
-    parked_alive, parked_by_place, parked_listed, quiet, rights, sized, within_limit,
+    answered, bound, bounded, counted, grow, holders, in_order, in_range, inside_by_place, known,
+    least, listed, parked_alive, parked_by_place, parked_listed, quiet, rights, sized, ticks,
+    timed, within_limit,
 };
 pub use messages::{confined, once};

@@ -6,8 +6,9 @@ ghost use Rattle.ipc_policy.specs.Fates.{EachSendHasOneFate};
 
 /// Each message that an answer brings to a session is that of one accepted send, to the object of one accepted receive of
 /// the session. From the receive on the session held its description for reading, and the sender held its own for writing
-/// when it sent; at the open of each the object granted what was asked for, or the open created it. No two answers bring
-/// the message of one send.
+/// when it sent; at the open of each the object granted what was asked for, or the open created it. The open may be another
+/// session's: then accepted gives, each by the session that then held the description, lead from that session to the one that
+/// receives or sends, all before it does. No two answers bring the message of one send.
 pub fn confined()
     ensures answers { EachAnswerIsDelivered }
     ensures deliveries { EachDeliveryIsConfined }

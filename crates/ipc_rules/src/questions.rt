@@ -1,21 +1,17 @@
 //! What rules ask of a lookup that isn't looked up beforehand.
 
 ghost use Rattle.std.specs.Prelude.{◌≡◌};
-ghost use Rattle.ipc_terms.specs.Events.{caller};
 ghost use Rattle.ipc_policy.specs.Descriptions.{held_count};
 ghost use Rattle.ipc_policy.specs.Charges.{queues_alive, limit, charged};
 
 use ipc_state::Lookup;
-use ipc_terms::Uid;
+use ipc_terms::{Sid, Uid};
 
-/// How many descriptions the caller holds.
-pub fn held_count(lookup: &Lookup<'_>) -> usize
-    ensures { result ≡ held_count lookup.now.history (caller lookup.now.event).0 }
+/// How many descriptions the session holds.
+pub fn held_count(lookup: &Lookup<'_>, sid: Sid) -> usize
+    ensures { result ≡ held_count lookup.now.history sid.0 }
 {
-    lookup
-        .tables()
-        .descriptions()
-        .count(lookup.event().caller())
+    lookup.tables().descriptions().count(sid)
 }
 
 /// How many queues are alive.

@@ -1,8 +1,9 @@
 //! The rules of the policy, each by its name, and the verdict: the first that forbids.
 
 ghost use Rattle.std.specs.Prelude.{◌≡◌, Some};
+ghost use Rattle.ipc_terms.specs.Timed.{plain};
 ghost use Rattle.ipc_policy.specs.Names.{creating, opening};
-ghost use Rattle.ipc_policy.specs.Rules.{no_session, in_call, not_in_call, name_form, name_long, not_admin, no_user, bad_descr, not_for_write, not_for_read, dir_search, dir_read, absent, present, mode_denied, dir_write, sticky, not_owner, chown_denied, attr_range, value_range, queue_count, byte_limit, descr_limit, prio_range, message_long, buffer_short, notify_taken, would_block, overflow, bad_key};
+ghost use Rattle.ipc_policy.specs.Rules.{no_session, in_call, not_in_call, name_form, name_long, not_admin, no_user, bad_descr, not_for_write, not_for_read, dir_search, dir_read, absent, present, mode_denied, dir_write, sticky, not_owner, chown_denied, attr_range, value_range, queue_count, byte_limit, descr_limit, prio_range, message_long, buffer_short, notify_taken, would_block, overflow, bad_key, timed_out, no_taker};
 ghost use Rattle.ipc_policy.specs.Verdict.{verdict};
 
 use crate::conditions::{
@@ -14,12 +15,9 @@ use crate::questions::{held_count, queues_alive};
 use bitflags::Flags;
 use ipc_access::{READ, SEARCH, WRITE};
 use ipc_names::{has_form, is_long};
-use ipc_policy::{
-    DESCRIPTIONS_MAX, LIMIT_MAX, MQ_PRIO_MAX, Opening, description_of, naming_of, opening_of,
-    unlinking_of,
-};
+use ipc_policy::{DESCRIPTIONS_MAX, Opening, description_of, naming_of, opening_of, unlinking_of};
 use ipc_state::Lookup;
-use ipc_terms::{Call, Event, OpenFlags, Rule};
+use ipc_terms::{Call, Event, LIMIT_MAX, MQ_PRIO_MAX, OpenFlags, Rule};
 
 /// The first of these rules whose function says that it forbids the event, if there is one.
 macro_rules! first_of {
@@ -69,6 +67,8 @@ pub fn decide(lookup: &Lookup<'_>) -> Option<Rule>
         WouldBlock => would_block,
         Overflow => overflow,
         BadKey => bad_key,
+        TimedOut => timed_out,
+        NoTaker => no_taker,
     )
 }
 
@@ -79,7 +79,7 @@ fn no_session(lookup: &Lookup<'_>) -> bool
     ensures { result ≡ no_session lookup.now.config lookup.now.history lookup.now.event }
 {
     match lookup.event() {
-        Event::Hello { .. } => false,
+        Event::Hello { .. } | Event::Tick { .. } => false,
         Event::Do { .. } | Event::Hangup { .. } => !lookup.is_live(),
     }
 }
@@ -174,7 +174,7 @@ fn no_user(lookup: &Lookup<'_>) -> bool
 #[inline(always)]
 #[tactic(auto, unfolding(ipc_policy::specs::Rules::bad_descr))]
 fn bad_descr(lookup: &Lookup<'_>) -> bool
-    ensures { result ≡ bad_descr lookup.now.config lookup.now.history lookup.now.event }
+    ensures { result ≡ bad_descr lookup.now.config lookup.now.history (plain lookup.now.event) }
 {
     let Event::Do { call, .. } = lookup.event() else {
         return false;
@@ -189,11 +189,11 @@ fn bad_descr(lookup: &Lookup<'_>) -> bool
 #[inline(always)]
 #[tactic(auto, unfolding(ipc_policy::specs::Rules::not_for_write))]
 fn not_for_write(lookup: &Lookup<'_>) -> bool
-    ensures { result ≡ not_for_write lookup.now.config lookup.now.history lookup.now.event }
+    ensures { result ≡ not_for_write lookup.now.config lookup.now.history (plain lookup.now.event) }
 {
     match lookup.event() {
         Event::Do {
-            call: Call::MqSend { .. },
+            call: Call::MqSend { .. } | Call::MqTimedSend { .. },
             ..
         } => is_read_only(lookup.held()),
         _ => false,
@@ -204,11 +204,11 @@ fn not_for_write(lookup: &Lookup<'_>) -> bool
 #[inline(always)]
 #[tactic(auto, unfolding(ipc_policy::specs::Rules::not_for_read))]
 fn not_for_read(lookup: &Lookup<'_>) -> bool
-    ensures { result ≡ not_for_read lookup.now.config lookup.now.history lookup.now.event }
+    ensures { result ≡ not_for_read lookup.now.config lookup.now.history (plain lookup.now.event) }
 {
     match lookup.event() {
         Event::Do {
-            call: Call::MqReceive { .. },
+            call: Call::MqReceive { .. } | Call::MqTimedReceive { .. },
             ..
         } => is_write_only(lookup.held()),
         _ => false,
@@ -418,14 +418,21 @@ fn byte_limit(lookup: &Lookup<'_>) -> bool
         )
 }
 
-/// An open while the session holds 1,024 descriptions.
+/// An open while the session holds 1,024 descriptions, or a give while its taker does.
 #[inline(always)]
 #[tactic(auto, unfolding(ipc_policy::specs::Rules::descr_limit))]
 fn descr_limit(lookup: &Lookup<'_>) -> bool
     ensures { result ≡ descr_limit lookup.now.config lookup.now.history lookup.now.event }
 {
+    if let Event::Do {
+        call: Call::MqGive { taker, .. },
+        ..
+    } = lookup.event()
+    {
+        return held_count(lookup, *taker) >= DESCRIPTIONS_MAX;
+    }
     match opening_of(lookup.event()) {
-        Some(asked) => held_count(lookup) >= DESCRIPTIONS_MAX,
+        Some(asked) => held_count(lookup, asked.session) >= DESCRIPTIONS_MAX,
         None => false,
     }
 }
@@ -434,11 +441,11 @@ fn descr_limit(lookup: &Lookup<'_>) -> bool
 #[inline(always)]
 #[tactic(auto, unfolding(ipc_policy::specs::Rules::prio_range))]
 fn prio_range(lookup: &Lookup<'_>) -> bool
-    ensures { result ≡ prio_range lookup.now.config lookup.now.history lookup.now.event }
+    ensures { result ≡ prio_range lookup.now.config lookup.now.history (plain lookup.now.event) }
 {
     match lookup.event() {
         Event::Do {
-            call: Call::MqSend { priority, .. },
+            call: Call::MqSend { priority, .. } | Call::MqTimedSend { priority, .. },
             ..
         } => *priority >= MQ_PRIO_MAX,
         _ => false,
@@ -449,11 +456,11 @@ fn prio_range(lookup: &Lookup<'_>) -> bool
 #[inline(always)]
 #[tactic(auto, unfolding(ipc_policy::specs::Rules::message_long))]
 fn message_long(lookup: &Lookup<'_>) -> bool
-    ensures { result ≡ message_long lookup.now.config lookup.now.history lookup.now.event }
+    ensures { result ≡ message_long lookup.now.config lookup.now.history (plain lookup.now.event) }
 {
     match lookup.event() {
         Event::Do {
-            call: Call::MqSend { bytes, .. },
+            call: Call::MqSend { bytes, .. } | Call::MqTimedSend { bytes, .. },
             ..
         } => { is_too_long(as_queue(lookup.object_held()), bytes.as_slice().len()) }
         _ => false,
@@ -464,11 +471,11 @@ fn message_long(lookup: &Lookup<'_>) -> bool
 #[inline(always)]
 #[tactic(auto, unfolding(ipc_policy::specs::Rules::buffer_short))]
 fn buffer_short(lookup: &Lookup<'_>) -> bool
-    ensures { result ≡ buffer_short lookup.now.config lookup.now.history lookup.now.event }
+    ensures { result ≡ buffer_short lookup.now.config lookup.now.history (plain lookup.now.event) }
 {
     match lookup.event() {
         Event::Do {
-            call: Call::MqReceive { length, .. },
+            call: Call::MqReceive { length, .. } | Call::MqTimedReceive { length, .. },
             ..
         } => { is_too_short(as_queue(lookup.object_held()), *length) }
         _ => false,
@@ -495,14 +502,16 @@ fn notify_taken(lookup: &Lookup<'_>) -> bool
 #[inline(always)]
 #[tactic(auto, unfolding(ipc_policy::specs::Rules::would_block))]
 fn would_block(lookup: &Lookup<'_>) -> bool
-    ensures { result ≡ would_block lookup.now.config lookup.now.history lookup.now.event }
+    ensures { result ≡ would_block lookup.now.config lookup.now.history (plain lookup.now.event) }
 {
     let Event::Do { call, .. } = lookup.event() else {
         return false;
     };
     match call {
-        Call::MqSend { .. } => lookup.is_full() && lookup.is_nonblock(),
-        Call::MqReceive { .. } => lookup.is_empty() && lookup.is_nonblock(),
+        Call::MqSend { .. } | Call::MqTimedSend { .. } => lookup.is_full() && lookup.is_nonblock(),
+        Call::MqReceive { .. } | Call::MqTimedReceive { .. } => {
+            lookup.is_empty() && lookup.is_nonblock()
+        }
         Call::SemTryWait(_) => lookup.is_zero(),
         _ => false,
     }
@@ -531,6 +540,30 @@ fn bad_key(lookup: &Lookup<'_>) -> bool
 {
     match lookup.event() {
         Event::Hello { found } => !is_known(lookup.config(), *found),
+        _ => false,
+    }
+}
+
+/// A timed call that would park, and whose deadline is past.
+#[inline(always)]
+#[tactic(auto, unfolding(ipc_policy::specs::Rules::timed_out))]
+fn timed_out(lookup: &Lookup<'_>) -> bool
+    ensures { result ≡ timed_out lookup.now.config lookup.now.history lookup.now.event }
+{
+    lookup.is_past() && lookup.would_park()
+}
+
+/// A give to a session that is not live, or to the session itself.
+#[inline(always)]
+#[tactic(auto, unfolding(ipc_policy::specs::Rules::no_taker))]
+fn no_taker(lookup: &Lookup<'_>) -> bool
+    ensures { result ≡ no_taker lookup.now.config lookup.now.history lookup.now.event }
+{
+    match lookup.event() {
+        Event::Do {
+            sid,
+            call: Call::MqGive { taker, .. },
+        } => !lookup.is_session_live(*taker) || taker.0 == sid.0,
         _ => false,
     }
 }

@@ -1,11 +1,12 @@
 //! Running a script.
 
-ghost use Rattle.std.specs.Prelude.{◌≡◌, ◌++◌, IfErr, IfOk, OnOk, codes, false, map, unwrap_or};
+ghost use Rattle.std.specs.Prelude.{◌≡◌, ℕ, List, [], ◌∷◌, ◌++◌, IfErr, IfOk, OnOk, codes, false, map, unwrap_or};
 ghost use Rattle.std.specs.String.{string_bytes};
 ghost use Rattle.ipc_script.specs.Faults.{is_users_memory};
 ghost use Rattle.ipc_script.specs.Labels.{label_for, newest_of};
-ghost use Rattle.ipc_script.specs.Steps.{AsksFor, labelled_line};
+ghost use Rattle.ipc_script.specs.Steps.{AsksFor, labelled_line, tick_at};
 ghost use Rattle.ipc_words.specs.FaultLines.{fault_line};
+ghost use Rattle.ipc_words.specs.Readings.{Reads};
 
 use crate::fault::ScriptFault;
 use crate::labels::{Labels, is_label};
@@ -13,7 +14,7 @@ use ipc_access::Users;
 use ipc_core::{Config, Core, Limits};
 use ipc_lines::{Lines, Output, words_of};
 use ipc_terms::{Answer, Event, NoMemory, Sid};
-use ipc_words::{WordFault, call_of_words, put_fault, put_line};
+use ipc_words::{WordFault, call_of_words, put_fault, put_line, read_decimal};
 use std::alloc::{AllocError, Global};
 use std::io::{Read, Write};
 
@@ -21,10 +22,11 @@ use std::io::{Read, Write};
 ///
 /// The input is a user file, a line `.`, and then one step a line: a label and what its session
 /// does, parted by spaces or tabs. `LABEL hello KEY` starts a session; `LABEL hangup` ends the
-/// session that the label started last, and other words are a call of that session. Empty lines and
-/// lines that begin with `#` are skipped. Each answer of a step is written as a line, in their order
-/// and under the label that started the session which it is for. So a call that is parked writes none
-/// until a later step answers it, another session's or its own interrupt.
+/// session that the label started last, and other words are a call of that session. `LABEL tick MOMENT`
+/// tells a moment of the clock in milliseconds; it is no session's, so any label may stand there. Empty
+/// lines and lines that begin with `#` are skipped. Each answer of a step is written as a line, in their
+/// order and under the label that started the session which it is for. So a call that is parked writes
+/// none until a later step answers it: another session's, its own interrupt, or a tick.
 ///
 /// Lines are written in blocks. What was answered is written and flushed before more input is waited
 /// for, so whoever reads the answers has each before the next step is given.
@@ -81,6 +83,16 @@ fn read_user_file<R: Read + Drop>(
         file.push(b'\n')?;
     }
     Err(ScriptFault::Line(lines.next_number()))
+}
+
+/// The tick of the moment that a word tells.
+fn tick(moment: &str) -> Result<Event, WordFault>
+    ensures { Reads (tick_at moment.now) result }
+{
+    match read_decimal(moment, u64::MAX) {
+        Some(moment) => Ok(Event::Tick { moment }),
+        None => Err(WordFault::BadValue("moment")),
+    }
 }
 
 /// A script that runs.
@@ -189,10 +201,11 @@ impl<W: Write + Drop> Script<W> {
         }
     }
 
-    /// The event that a label's words ask for.
+    /// The event that a label's words ask for. Any label may tell a moment.
     fn event_of(&self, label: &str, words: &[&str]) -> Result<Event, WordFault>
-        ensures { IfOk result (λ event. AsksFor self.now.core.config.users
+        ensures event { IfOk result (λ event. AsksFor self.now.core.config.users
             (unwrap_or (newest_of self.now.labels label.now) Sid.NOBODY) (map (λ w. w.now) words.now) event) }
+        ensures tick { (moment : List ℕ) → map (λ w. w.now) words.now ≡ codes "tick" ∷ moment ∷ [] → Reads (tick_at moment) result }
     {
         // The session that the label started last, live or not, and nobody where it never started one.
         let sid = self.labels.newest(label).unwrap_or(Sid::NOBODY);
@@ -201,7 +214,8 @@ impl<W: Write + Drop> Script<W> {
                 found: self.core.config().users.find(key.as_bytes()),
             }),
             ["hangup"] => Ok(Event::Hangup { sid }),
-            ["hello", ..] | ["hangup", ..] => Err(WordFault::Usage),
+            ["tick", moment] => tick(moment),
+            ["hello", ..] | ["hangup", ..] | ["tick", ..] => Err(WordFault::Usage),
             _ => Ok(Event::Do {
                 sid,
                 call: call_of_words(self.alloc, words)?,

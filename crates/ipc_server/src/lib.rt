@@ -8,6 +8,7 @@ mod held;
 mod links;
 mod reading;
 mod serve;
+mod ticker;
 mod workers;
 mod writing;
 
@@ -15,4 +16,5 @@ pub use ending::{Ending, Served};
 pub use gate::{Gate, OpenGate};
 pub use links::{Link, Listen};
 pub use serve::serve_connection;
+pub use ticker::{Clock, run_ticker};
 pub use workers::{WorkersFault, run_workers};

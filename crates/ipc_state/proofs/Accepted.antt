@@ -16,7 +16,7 @@ use Rattle.ipc_terms.specs.declared.record.Event.{Event}
 use Rattle.ipc_terms.specs.declared.call.Attributes.{Attributes}
 use Rattle.ipc_terms.specs.declared.call.Call.{Call}
 use Rattle.ipc_terms.specs.declared.call.Call.TheVariants.{MqOpen, SemOpen}
-use Rattle.ipc_terms.specs.declared.record.Event.TheVariants.{Hello, Do, Hangup}
+use Rattle.ipc_terms.specs.declared.record.Event.TheVariants.{Hello, Do, Hangup, Tick}
 use Rattle.ipc_access.specs.declared.class.Cred.{Cred}
 use Rattle.ipc_access.specs.Users.{cred_of}
 use Rattle.ipc_policy.specs.declared.config.Config.{Config}
@@ -30,6 +30,7 @@ use Rattle.ipc_policy.specs.Objects.{object, attributes_of, kind_of}
 use Rattle.ipc_policy.specs.Descriptions.{holds}
 use Rattle.ipc_policy.specs.Rules.{is_some_and, is_of_family, not_held, out_of_range, above_limit, queue_made}
 use Rattle.ipc_policy.specs.Charges.{limit}
+use Rattle.ipc_policy.specs.Bodies.{due}
 use Rattle.ipc_policy.specs.Verdict.{verdict}
 use Rattle.ipc_policy.proofs.Histories.Known.{bound_iff}
 use Rattle.ipc_tables.specs.declared.rows.Session.{Session}
@@ -38,10 +39,11 @@ use Rattle.ipc_terms.specs.declared.object.Kind.{Kind}
 use Rattle.ipc_terms.specs.declared.object.Kind.TheVariants.{Queue as QueueKind, Semaphore as SemaphoreKind}
 use Rattle.ipc_tables.specs.Objects.{HasRoom}
 use Rattle.ipc_tables.specs.TablesView.{TablesView, is_live_row, live_at}
-use Rattle.ipc_state.specs.Agrees.{Agrees, SessionsAgree, ChargesAgree}
+use Rattle.ipc_state.specs.Agrees.{Agrees, IsCore, SessionsAgree, ChargesAgree}
 use Rattle.ipc_state.specs.Ranges.{first_bad}
 use Rattle.ipc_state.specs.declared.limits.Field.TheVariants.{MsgMax, MsgsizeMax}
 use Rattle.ipc_policy.proofs.Histories.Unforbidden.{off, caller_live, leaver_live}
+use Rattle.ipc_policy.proofs.Blocked.Earliest.{due_live}
 use Rattle.ipc_policy.proofs.Directories.OpenAccepted.{open_there, open_in_range, open_value_in_range, open_within_limit}
 use Rattle.ipc_policy.proofs.Queues.Limiting.{caller_limited}
 use Rattle.ipc_descr.specs.declared.charges.Charge.{Charge}
@@ -158,9 +160,14 @@ opener_live c h (Do sid (SemOpen given)) asked k accepted = let same : semaphore
 opener_live c h (Do sid call) asked k accepted = absurd cc
 opener_live c h (Hello found) asked k accepted = absurd cc
 opener_live c h (Hangup sid) asked k accepted = absurd cc
+opener_live c h (Tick moment) asked k accepted = absurd cc
 
 pub leaver_within : (c : Config) (h : History) (t : TablesView) (sid : Sid) → Agrees c h t → verdict c h (Hangup sid) ≡ None → sid.0 < length t.sessions
 leaver_within c h t sid a e = within_live t.sessions sid.0 (a.sessions.lives sid.0 ∙ leaver_live c h sid e)
+
+-- and so does the session whose call a tick ends
+pub due_within : (c : Config) (h : History) (t : TablesView) (moment : ℕ) (sid : Sid) → IsCore c h t → due c h moment ≡ Some sid.0 → sid.0 < length t.sessions
+due_within c h t moment sid k e = within_live t.sessions sid.0 (k.agrees.sessions.lives sid.0 ∙ due_live c h moment sid.0 k.legal e)
 
 -- an accepted open of an unbound name creates, and what it creates has its room
 unbound_is : (h : History) (family : Family) (name : List ℕ) → bound h family name ≡ None → is_bound h family name ≡ false

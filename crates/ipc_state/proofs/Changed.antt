@@ -59,8 +59,8 @@ record Changes (e : Event) : Type 0 where
   bindings' : (f : Family) (n : ℕ) (b : Family → List ℕ → Bool) (w : List Binding) → bindings_after f e b n w ≡ w
 
 changes_of : (sid : Sid) (call : Call) (target : Target) → changing call ≡ Some target → Changes (Do sid call)
-changes_of sid (Chmod mode target) meant k = record { calm' = λ c h o. registered_stays c h _ o refl (λ x k. refl); ends = record { none = refl; apart = record { still = refl; hellos' = λ n. refl; user' = λ s n w. refl; live' = λ s n b. refl; mask' = λ s m. refl; limit' = λ u before. refl }; named' = λ o n b w. refl; opens' = λ n. refl; nonblock' = λ s d n was. refl; creations' = λ n b. refl }; named' = λ o n b w. refl; held' = λ d i n b w. refl; bindings' = λ f n b w. refl }
-changes_of sid (Chown owner group target) meant k = record { calm' = λ c h o. registered_stays c h _ o refl (λ x k. refl); ends = record { none = refl; apart = record { still = refl; hellos' = λ n. refl; user' = λ s n w. refl; live' = λ s n b. refl; mask' = λ s m. refl; limit' = λ u before. refl }; named' = λ o n b w. refl; opens' = λ n. refl; nonblock' = λ s d n was. refl; creations' = λ n b. refl }; named' = λ o n b w. refl; held' = λ d i n b w. refl; bindings' = λ f n b w. refl }
+changes_of sid (Chmod mode target) meant k = record { calm' = λ c h o. registered_stays c h _ o refl (λ x k. refl); ends = record { none = refl; apart = record { still = refl; hellos' = λ n. refl; user' = λ s n w. refl; live' = λ s n b. refl; mask' = λ s m. refl; limit' = λ u before. refl }; named' = λ o n b w. refl; opens' = λ n. refl; nonblock' = λ d n was. refl; creations' = λ n b. refl }; named' = λ o n b w. refl; held' = λ d i n b w. refl; bindings' = λ f n b w. refl }
+changes_of sid (Chown owner group target) meant k = record { calm' = λ c h o. registered_stays c h _ o refl (λ x k. refl); ends = record { none = refl; apart = record { still = refl; hellos' = λ n. refl; user' = λ s n w. refl; live' = λ s n b. refl; mask' = λ s m. refl; limit' = λ u before. refl }; named' = λ o n b w. refl; opens' = λ n. refl; nonblock' = λ d n was. refl; creations' = λ n b. refl }; named' = λ o n b w. refl; held' = λ d i n b w. refl; bindings' = λ f n b w. refl }
 changes_of sid call meant k = absurd cc
 
 -- what it leaves of the tables
@@ -84,7 +84,7 @@ left_by c h t e p a =
     let creations' = g.creation_count ∙ p.ends.creations' _ _ in
     record {
       sessions = sessions_apart c h e t p.ends.apart a;
-      descriptions = descriptions_kept h (after_accepted h e) t.descriptions held' (λ s d. g.nonblock_of s d ∙ p.ends.nonblock' s d _ _) opens' a.descriptions;
+      descriptions = descriptions_kept h (after_accepted h e) t.descriptions held' (λ d. g.nonblock_of d ∙ p.ends.nonblock' d _ _) opens' a.descriptions;
       bindings' = λ f. g.bindings_of f ∙ p.bindings' f _ _ _;
       charges = charges_kept c h (after_accepted h e) t.charges (λ u. limit_left c h e u (p.ends.apart.limit' u h)) (λ u. charged_same c h (after_accepted h e) u alive' object' creations') a.charges;
       alive' = alive';

@@ -14,14 +14,15 @@ use Rattle.ipc_policy.specs.declared.config.Held.{Held}
 use Rattle.ipc_policy.specs.History.{History}
 use Rattle.ipc_policy.specs.Objects.{object}
 use Rattle.ipc_policy.specs.Descriptions.{holds}
-use Rattle.ipc_policy.specs.Queues.{Send, Queue, next, queue, contents}
+use Rattle.ipc_policy.specs.Queues.{Send, Queue, next}
 use Rattle.ipc_policy.specs.Verdict.{Legal}
 use Rattle.ipc_policy.proofs.Semaphores.ValueCounts.{value_counted}
 use Rattle.ipc_policy.proofs.Fates.Sent.{next_sent}
 use Rattle.ipc_terms.specs.Objects.{as_semaphore}
 use Rattle.ipc_terms.specs.declared.call.Attributes.{Attributes}
 use Rattle.ipc_policy.specs.Queues.{attributes}
-use Rattle.ipc_policy.specs.Semaphores.{Semaphore, semaphore, value}
+use Rattle.ipc_policy.specs.Semaphores.{Semaphore}
+use Rattle.ipc_policy.specs.Bodies.{queue, contents, semaphore, value}
 use Rattle.ipc_sem.specs.Counters.{Counter}
 use Rattle.ipc_state.specs.StateView.{brought, queue_by, semaphore_by, value_by}
 use Rattle.ipc_policy.specs.declared.config.Registration.{Registration}
@@ -50,7 +51,7 @@ pub held_reads : {A : Type 0} (c : Config) (h : History) (s d : ℕ) (f : Ticket
 held_reads c h s d f g same = reads (holds h s d) (attributes c h) (queue c h) (λ o. tickets_of (registered c h o) (queue c h o)) f g (λ o y. same (registered c h o) (queue c h o) y)
 
 semaphore_reads : {A : Type 0} (c : Config) (h : History) (s d : ℕ) (f : Counter → Option A) (g : Semaphore → Option A) → ((q : Semaphore) → f (counter_of q) ≡ g q) → option_and_then f (semaphore_held c h s d) ≡ option_and_then g (semaphore_by c h s d)
-semaphore_reads c h s d f g same = reads (holds h s d) (λ o. as_semaphore (object c h o)) (semaphore h) (λ o first_value. counter_of (semaphore h o)) f g (λ o y. same (semaphore h o))
+semaphore_reads c h s d f g same = reads (holds h s d) (λ o. as_semaphore (object c h o)) (semaphore c h) (λ o first_value. counter_of (semaphore c h o)) f g (λ o y. same (semaphore c h o))
 
 some_mapped : {A B : Type 0} (f : A → B) (w : Option A) → option_and_then (λ x. Some (f x)) w ≡ option_map f w
 some_mapped f None = refl
@@ -71,10 +72,10 @@ pub held_waiter : (c : Config) (h : History) (s d : ℕ) → option_and_then (λ
 held_waiter c h s d = semaphore_reads c h s d (λ q. first q.waiters) (λ q. option_map receiver_of (first q.waiters)) (λ q. longest_mapped receiver_of q.waiters)
 
 -- the value of the semaphore
-value_at : (c : Config) (h : History) → Legal c h → (w : Option Held) → option_map (λ (q : Counter). q.value) (option_and_then (semaphore_meant c h) (option_map (λ (x : Held). x.object) w)) ≡ option_and_then (λ (x : Held). option_map (λ first_value. value h x.object) (as_semaphore (object c h x.object))) w
+value_at : (c : Config) (h : History) → Legal c h → (w : Option Held) → option_map (λ (q : Counter). q.value) (option_and_then (semaphore_meant c h) (option_map (λ (x : Held). x.object) w)) ≡ option_and_then (λ (x : Held). option_map (λ first_value. value c h x.object) (as_semaphore (object c h x.object))) w
 value_at c h legal None = refl
 value_at c h legal (Some x) = at (as_semaphore (object c h x.object)) where
-  at : (v : Option ℕ) → option_map (λ (q : Counter). q.value) (option_map (λ first_value. counter_of (semaphore h x.object)) v) ≡ option_map (λ first_value. value h x.object) v
+  at : (v : Option ℕ) → option_map (λ (q : Counter). q.value) (option_map (λ first_value. counter_of (semaphore c h x.object)) v) ≡ option_map (λ first_value. value c h x.object) v
   at None = refl
   at (Some first) = ap Some (sym (value_counted c h x.object legal))
 

@@ -14,7 +14,14 @@ pub mod RegistrationTables
 pub mod Serving
 pub mod Posting
 pub mod Opens
+pub mod Leaving
 pub mod Accepting
+pub mod Withdrawals
+pub mod Releases
+pub mod Timing
+pub mod Moving
+pub mod Clocking
+pub mod Ending
 pub mod Opened
 pub mod Changed
 pub mod Looked

@@ -21,7 +21,7 @@ use Rattle.ipc_policy.specs.History.{History}
 use Rattle.ipc_policy.specs.Names.{Naming, naming, is_bound, bound}
 use Rattle.ipc_policy.specs.Objects.{object, facts}
 use Rattle.ipc_policy.specs.Descriptions.{holds, is_nonblock}
-use Rattle.ipc_policy.specs.Semaphores.{value}
+use Rattle.ipc_policy.specs.Bodies.{value}
 use Rattle.ipc_policy.specs.Registrations.{registered}
 use Rattle.ipc_policy.specs.Verdict.{Legal}
 use Rattle.ipc_policy.proofs.Histories.Known.{bound_iff}
@@ -125,9 +125,9 @@ empty_meant c h e = at (description e) where
   at None = refl
   at (Some x) = held_empty_is c h (caller e).0 x.desc.0
 
-pub value_meant : (c : Config) (h : History) (e : Event) (test : ℕ → Bool) → Legal c h → is_some_and (λ (q : Counter). test q.value) (by_description (semaphore_held c h) e) ≡ is_some_and (λ (x : Held). is_some_and (λ first_value. test (value h x.object)) (as_semaphore (object c h x.object))) (by_description (holds h) e)
+pub value_meant : (c : Config) (h : History) (e : Event) (test : ℕ → Bool) → Legal c h → is_some_and (λ (q : Counter). test q.value) (by_description (semaphore_held c h) e) ≡ is_some_and (λ (x : Held). is_some_and (λ first_value. test (value c h x.object)) (as_semaphore (object c h x.object))) (by_description (holds h) e)
 value_meant c h e test legal = at (description e) where
-  at : (w : Option Described) → is_some_and (λ (q : Counter). test q.value) (option_and_then (λ (x : Described). semaphore_held c h (caller e).0 x.desc.0) w) ≡ is_some_and (λ (x : Held). is_some_and (λ first_value. test (value h x.object)) (as_semaphore (object c h x.object))) (option_and_then (λ (x : Described). holds h (caller e).0 x.desc.0) w)
+  at : (w : Option Described) → is_some_and (λ (q : Counter). test q.value) (option_and_then (λ (x : Described). semaphore_held c h (caller e).0 x.desc.0) w) ≡ is_some_and (λ (x : Held). is_some_and (λ first_value. test (value c h x.object)) (as_semaphore (object c h x.object))) (option_and_then (λ (x : Described). holds h (caller e).0 x.desc.0) w)
   at None = refl
   at (Some x) = held_test_is c h test (caller e).0 x.desc.0 legal
 
@@ -150,9 +150,9 @@ registered_meant c h e legal = at (description e) where
   at (Some x) = registered_held c h (holds h (caller e).0 x.desc.0) legal
 
 -- NONBLOCK
-pub nonblock_meant : (c : Config) (h : History) (t : TablesView) (e : Event) → IsCore c h t → is_some_and (λ (r : Row). r.nonblock) (row_meant t.descriptions e) ≡ (is_some (by_description (holds h) e) && is_some_and (λ (x : Described). is_nonblock h (caller e).0 x.desc.0) (description e))
+pub nonblock_meant : (c : Config) (h : History) (t : TablesView) (e : Event) → IsCore c h t → is_some_and (λ (r : Row). r.nonblock) (row_meant t.descriptions e) ≡ (is_some (by_description (holds h) e) && is_some_and (λ (x : Described). is_nonblock h x.desc.0) (description e))
 nonblock_meant c h t e a = at (description e) where
-  at : (w : Option Described) → is_some_and (λ (r : Row). r.nonblock) (option_and_then (λ (x : Described). row_of t.descriptions.rows (caller e).0 x.desc.0) w) ≡ (is_some (option_and_then (λ (x : Described). holds h (caller e).0 x.desc.0) w) && is_some_and (λ (x : Described). is_nonblock h (caller e).0 x.desc.0) w)
+  at : (w : Option Described) → is_some_and (λ (r : Row). r.nonblock) (option_and_then (λ (x : Described). row_of t.descriptions.rows (caller e).0 x.desc.0) w) ≡ (is_some (option_and_then (λ (x : Described). holds h (caller e).0 x.desc.0) w) && is_some_and (λ (x : Described). is_nonblock h x.desc.0) w)
   at None = refl
   at (Some x) = nonblock_is c h t (caller e).0 x.desc.0 a.agrees
 

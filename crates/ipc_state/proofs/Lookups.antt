@@ -39,8 +39,7 @@ use Rattle.ipc_tables.specs.TablesView.{TablesView, directory_kept, parked_on_at
 use Rattle.ipc_terms.specs.Objects.{of_queue, as_queue, of_semaphore, as_semaphore}
 use Rattle.ipc_terms.specs.declared.object.Kind.{Kind}
 use Rattle.ipc_terms.specs.declared.object.Kind.TheVariants.{Queue as QueueKind, Semaphore as SemaphoreKind}
-use Rattle.ipc_policy.specs.Queues.{queue}
-use Rattle.ipc_policy.specs.Semaphores.{semaphore}
+use Rattle.ipc_policy.specs.Bodies.{queue, semaphore}
 use Rattle.ipc_policy.specs.Registrations.{registered}
 use Rattle.ipc_state.specs.Agrees.{Agrees, SessionsAgree, DirectoryAgrees, ObjectsAgree, DescriptionsAgree, tickets_of, queue_meant, counter_of, semaphore_meant, Inside, inside, body_of, row_made, row_with, row_held, held_in}
 use Rattle.ipc_terms.proofs.Lists.{counted_is, found_any, eqb_swapped}
@@ -68,19 +67,19 @@ pub parked_is : (c : Config) (h : History) (xs : List Session) (s : ℕ) → Ses
 parked_is c h xs s a = ap is_some (a.parks s) ∙ mapped_some (λ (p : Parked). p.object) (parked c h s)
 
 -- descriptions
-pub row_of_other : (b : ℕ → ℕ → Bool) (d i : ℕ) (w : Option Held) → eqb d i ≡ false → passes (is_desc d) (option_map (row_held b i) w) ≡ false
+pub row_of_other : (b : ℕ → Bool) (d i : ℕ) (w : Option Held) → eqb d i ≡ false → passes (is_desc d) (option_map (row_held b i) w) ≡ false
 row_of_other b d i None e = refl
 row_of_other b d i (Some x) e = e
 
-pub row_of_own : (b : ℕ → ℕ → Bool) (d : ℕ) (w : Option Held) (row : Row) → option_map (row_held b d) w ≡ Some row → is_desc d row ≡ true
+pub row_of_own : (b : ℕ → Bool) (d : ℕ) (w : Option Held) (row : Row) → option_map (row_held b d) w ≡ Some row → is_desc d row ≡ true
 row_of_own b d None row e = absurd cc
 row_of_own b d (Some x) row e = let same : row_held b d x ≡ row = cc in rw (← same) (eq-eqb d d refl)
 
-held_back : (b : ℕ → ℕ → Bool) (d : ℕ) (w : Option Held) → option_map held_in (option_map (row_held b d) w) ≡ w
+held_back : (b : ℕ → Bool) (d : ℕ) (w : Option Held) → option_map held_in (option_map (row_held b d) w) ≡ w
 held_back b d None = refl
 held_back b d (Some x) = refl
 
-row_some : (b : ℕ → ℕ → Bool) (d : ℕ) (w : Option Held) → is_some (option_map (row_held b d) w) ≡ true → is_some w ≡ true
+row_some : (b : ℕ → Bool) (d : ℕ) (w : Option Held) → is_some (option_map (row_held b d) w) ≡ true → is_some w ≡ true
 row_some b d None e = e
 row_some b d (Some x) e = refl
 
@@ -107,7 +106,7 @@ pub given_is : (h : History) (t : Descriptions) (s d o : ℕ) → DescriptionsAg
 unfolding holds
 given_is h t s d o a e = ap (option_map (λ (row : Row). row.object)) (row_is h t d a) ∙ object_given h s d o (held h d) e
 
-of_session : (n : ℕ → ℕ → Bool) (s d : ℕ) (w : Option Held) → passes (is_of s) (option_map (row_held n d) w) ≡ is_some (option_and_then (if_of s) w)
+of_session : (n : ℕ → Bool) (s d : ℕ) (w : Option Held) → passes (is_of s) (option_map (row_held n d) w) ≡ is_some (option_and_then (if_of s) w)
 of_session n s d None = refl
 of_session n s d (Some x) = eqb_swapped s x.session.0 ∙ at (eqb x.session.0 s) where
   at : (b : Bool) → b ≡ is_some (cond b (Some x) None)
@@ -122,7 +121,7 @@ counts_is h t s a =
     ∙ gathered_count (is_of s) (λ d. option_map (row_held (is_nonblock h) d) (held h d)) (opens h)
     ∙ how_many_below_same _ _ (opens h) (λ d lt. of_session (is_nonblock h) s d (held h d))
 
-to_object : (n : ℕ → ℕ → Bool) (o d : ℕ) (w : Option Held) → passes (is_to o) (option_map (row_held n d) w) ≡ gives_object o w
+to_object : (n : ℕ → Bool) (o d : ℕ) (w : Option Held) → passes (is_to o) (option_map (row_held n d) w) ≡ gives_object o w
 to_object n o d None = refl
 to_object n o d (Some x) = refl
 
@@ -279,7 +278,7 @@ queue_alive c h t o legal a k =
 pub semaphore_alive : (c : Config) (h : History) (t : TablesView) (o : ℕ) → Legal c h → Agrees c h t → alive h o ≡ true → semaphore_at t.objects o ≡ semaphore_meant c h o
 semaphore_alive c h t o legal a k =
     ap (option_and_then (λ (row : ObjectRow). semaphore_in row.body)) (row_at_is c h t.objects t.created o a.objects)
-    ∙ body_column semaphore_in (λ w. option_map (λ first_value. counter_of (semaphore h o)) (as_semaphore w)) (inside c h o) refl (λ x. semaphore_of_kind x (inside c h o)) o (alive h o) (object c h o) (facts c h o) k (object_with_facts c h legal o)
+    ∙ body_column semaphore_in (λ w. option_map (λ first_value. counter_of (semaphore c h o)) (as_semaphore w)) (inside c h o) refl (λ x. semaphore_of_kind x (inside c h o)) o (alive h o) (object c h o) (facts c h o) k (object_with_facts c h legal o)
 
 pub facts_alive : (c : Config) (h : History) (objects : List ObjectRow) (created o : ℕ) → Legal c h → ObjectsAgree c h objects created → alive h o ≡ true → facts_at objects o ≡ facts c h o
 facts_alive c h objects created o legal a k = ap (option_map (λ (row : ObjectRow). row.facts)) (row_at_is c h objects created o a) ∙ facts_column o (alive h o) (object c h o) (facts c h o) (inside c h o) k (object_with_facts c h legal o)

@@ -21,7 +21,8 @@ use Rattle.ipc_policy.proofs.Holdings.Holding.{kept_some}
 use Rattle.ipc_tables.specs.declared.rows.ObjectRow.{ObjectRow}
 use Rattle.ipc_descr.specs.declared.row.Row.{Row}
 use Rattle.ipc_terms.specs.Lists.{changed_first}
-use Rattle.ipc_descr.specs.Descriptions.{Descriptions, is_desc, with_nonblock}
+use Rattle.ipc_terms.specs.declared.ids.Sid.{Sid}
+use Rattle.ipc_descr.specs.Descriptions.{Descriptions, is_desc, with_nonblock, with_session}
 use Rattle.ipc_queue.specs.Tickets.{without_registration}
 use Rattle.ipc_terms.specs.declared.call.Attributes.{Attributes}
 use Rattle.ipc_terms.specs.declared.object.Kind.{Kind}
@@ -172,36 +173,36 @@ rows_changed c h k q xs created o change l made f same here n a =
     ∙ ap (gathered_below (row_with c k q)) (sym n)
 
 -- descriptions
-pub same_rows : (h k : History) (n : ℕ) → ((d : ℕ) → held k d ≡ held h d) → ((s d : ℕ) → is_nonblock k s d ≡ is_nonblock h s d) → gathered_below (λ i. option_map (row_held (is_nonblock k) i) (held k i)) n ≡ gathered_below (λ i. option_map (row_held (is_nonblock h) i) (held h i)) n
-same_rows h k n d b = gathered_same _ _ n (λ i lt. ap (option_map (row_held (is_nonblock k) i)) (d i) ∙ same_row (is_nonblock k) (is_nonblock h) i (held h i) (λ s. b s i)) where
-  same_row : (p q : ℕ → ℕ → Bool) (i : ℕ) (w : Option Held) → ((s : ℕ) → p s i ≡ q s i) → option_map (row_held p i) w ≡ option_map (row_held q i) w
+pub same_rows : (h k : History) (n : ℕ) → ((d : ℕ) → held k d ≡ held h d) → ((d : ℕ) → is_nonblock k d ≡ is_nonblock h d) → gathered_below (λ i. option_map (row_held (is_nonblock k) i) (held k i)) n ≡ gathered_below (λ i. option_map (row_held (is_nonblock h) i) (held h i)) n
+same_rows h k n d b = gathered_same _ _ n (λ i lt. ap (option_map (row_held (is_nonblock k) i)) (d i) ∙ same_row (is_nonblock k) (is_nonblock h) i (held h i) (b i)) where
+  same_row : (p q : ℕ → Bool) (i : ℕ) (w : Option Held) → p i ≡ q i → option_map (row_held p i) w ≡ option_map (row_held q i) w
   same_row p q i None e = refl
-  same_row p q i (Some x) e = ap (λ nonblock. Some (record { desc = record { 0 = i }; session = x.session; object = x.object; access = x.access; nonblock = nonblock })) (e x.session.0)
+  same_row p q i (Some x) e = ap (λ nonblock. Some (record { desc = record { 0 = i }; session = x.session; object = x.object; access = x.access; nonblock = nonblock })) e
 
-pub descriptions_kept : (h k : History) (t : Descriptions) → ((d : ℕ) → held k d ≡ held h d) → ((s d : ℕ) → is_nonblock k s d ≡ is_nonblock h s d) → opens k ≡ opens h → DescriptionsAgree h t → DescriptionsAgree k t
+pub descriptions_kept : (h k : History) (t : Descriptions) → ((d : ℕ) → held k d ≡ held h d) → ((d : ℕ) → is_nonblock k d ≡ is_nonblock h d) → opens k ≡ opens h → DescriptionsAgree h t → DescriptionsAgree k t
 descriptions_kept h k t d b n a = record {
   rows = a.rows ∙ sym (ap (gathered_below (λ i. option_map (row_held (is_nonblock k) i) (held k i))) n ∙ same_rows h k (opens h) d b);
   opened = a.opened ∙ sym n;
 }
 
 -- the rows that a test takes away are those of the descriptions that end
-dropped_at : (b : ℕ → ℕ → Bool) (i : ℕ) (x : Held) (t : Bool) → cond (not t) (Some (row_held b i x)) None ≡ option_map (row_held b i) (cond t None (Some x))
+dropped_at : (b : ℕ → Bool) (i : ℕ) (x : Held) (t : Bool) → cond (not t) (Some (row_held b i x)) None ≡ option_map (row_held b i) (cond t None (Some x))
 dropped_at b i x true = refl
 dropped_at b i x false = refl
 
-dropped : (drop' : Row → Bool) (q : ℕ → Held → Bool) (b p : ℕ → ℕ → Bool) (i : ℕ) (w : Option Held) → ((d : ℕ) (x : Held) → drop' (row_held b d x) ≡ q d x) → ((s : ℕ) → p s i ≡ b s i) → passing (λ row. not (drop' row)) (option_map (row_held b i) w) ≡ option_map (row_held p i) (unless (q i) w)
+dropped : (drop' : Row → Bool) (q : ℕ → Held → Bool) (b p : ℕ → Bool) (i : ℕ) (w : Option Held) → ((d : ℕ) (x : Held) → drop' (row_held b d x) ≡ q d x) → p i ≡ b i → passing (λ row. not (drop' row)) (option_map (row_held b i) w) ≡ option_map (row_held p i) (unless (q i) w)
 dropped drop' q b p i None same e = refl
 dropped drop' q b p i (Some x) same e = ap (λ t. cond (not t) (Some (row_held b i x)) None) (same i x) ∙ dropped_at b i x (q i x) ∙ renamed (cond (q i x) None (Some x)) where
   renamed : (w : Option Held) → option_map (row_held b i) w ≡ option_map (row_held p i) w
   renamed None = refl
-  renamed (Some y) = ap (λ nonblock. Some (record { desc = record { 0 = i }; session = y.session; object = y.object; access = y.access; nonblock = nonblock })) (sym (e y.session.0))
+  renamed (Some y) = ap (λ nonblock. Some (record { desc = record { 0 = i }; session = y.session; object = y.object; access = y.access; nonblock = nonblock })) (sym e)
 
-pub descriptions_dropped : (h k : History) (t : Descriptions) (drop' : Row → Bool) (q : ℕ → Held → Bool) → ((d : ℕ) (x : Held) → drop' (row_held (is_nonblock h) d x) ≡ q d x) → ((d : ℕ) → held k d ≡ unless (q d) (held h d)) → ((s d : ℕ) → is_nonblock k s d ≡ is_nonblock h s d) → opens k ≡ opens h → DescriptionsAgree h t → DescriptionsAgree k (record t { rows = filter (λ row. not (drop' row)) t.rows })
+pub descriptions_dropped : (h k : History) (t : Descriptions) (drop' : Row → Bool) (q : ℕ → Held → Bool) → ((d : ℕ) (x : Held) → drop' (row_held (is_nonblock h) d x) ≡ q d x) → ((d : ℕ) → held k d ≡ unless (q d) (held h d)) → ((d : ℕ) → is_nonblock k d ≡ is_nonblock h d) → opens k ≡ opens h → DescriptionsAgree h t → DescriptionsAgree k (record t { rows = filter (λ row. not (drop' row)) t.rows })
 descriptions_dropped h k t drop' q same d b n a = record {
   rows =
       ap (filter (λ row. not (drop' row))) a.rows
       ∙ gathered_filter (λ row. not (drop' row)) (λ i. option_map (row_held (is_nonblock h) i) (held h i)) (opens h)
-      ∙ gathered_same _ _ (opens h) (λ i lt. dropped drop' q (is_nonblock h) (is_nonblock k) i (held h i) same (λ s. b s i) ∙ ap (option_map (row_held (is_nonblock k) i)) (sym (d i)))
+      ∙ gathered_same _ _ (opens h) (λ i lt. dropped drop' q (is_nonblock h) (is_nonblock k) i (held h i) same (b i) ∙ ap (option_map (row_held (is_nonblock k) i)) (sym (d i)))
       ∙ ap (gathered_below (λ i. option_map (row_held (is_nonblock k) i) (held k i))) (sym n);
   opened = a.opened ∙ sym n;
 }
@@ -211,27 +212,40 @@ and_off true = refl
 and_off false = refl
 
 -- a description whose calls are refused or not where they would wait
-same_but : (p q : ℕ → ℕ → Bool) (i : ℕ) (w : Option Held) → ((s : ℕ) → p s i ≡ q s i) → option_map (row_held p i) w ≡ option_map (row_held q i) w
+same_but : (p q : ℕ → Bool) (i : ℕ) (w : Option Held) → p i ≡ q i → option_map (row_held p i) w ≡ option_map (row_held q i) w
 same_but p q i None e = refl
-same_but p q i (Some x) e = ap (λ nonblock. Some (record { desc = record { 0 = i }; session = x.session; object = x.object; access = x.access; nonblock = nonblock })) (e x.session.0)
+same_but p q i (Some x) e = ap (λ nonblock. Some (record { desc = record { 0 = i }; session = x.session; object = x.object; access = x.access; nonblock = nonblock })) e
 
-set_own : (p q : ℕ → ℕ → Bool) (s d : ℕ) (nonblock : Bool) (w : Option Held) (x : Held) → option_and_then (if_of s) w ≡ Some x → p s d ≡ nonblock → option_map (row_held p d) w ≡ option_map (with_nonblock nonblock) (option_map (row_held q d) w)
-set_own p q s d nonblock None x is e = refl
-set_own p q s d nonblock (Some y) x is e = at (eqb y.session.0 s) refl is where
-  at : (b : Bool) → eqb y.session.0 s ≡ b → cond b (Some y) None ≡ Some x → Some (row_held p d y) ≡ Some (with_nonblock nonblock (row_held q d y))
-  at true k l = ap (λ n. Some (record { desc = record { 0 = d }; session = y.session; object = y.object; access = y.access; nonblock = n })) (ap (λ i. p i d) (eqb-true y.session.0 s k) ∙ e)
-  at false k l = absurd cc
+set_own : (p q : ℕ → Bool) (d : ℕ) (nonblock : Bool) (w : Option Held) → p d ≡ nonblock → option_map (row_held p d) w ≡ option_map (with_nonblock nonblock) (option_map (row_held q d) w)
+set_own p q d nonblock None e = refl
+set_own p q d nonblock (Some x) e = ap (λ n. Some (record { desc = record { 0 = d }; session = x.session; object = x.object; access = x.access; nonblock = n })) e
 
-pub descriptions_set : (h k : History) (t : Descriptions) (s d : ℕ) (nonblock : Bool) (x : Held) → ((i : ℕ) → held k i ≡ held h i) → ((r i : ℕ) → is_nonblock k r i ≡ (if eqb s r && eqb d i then nonblock else is_nonblock h r i)) → opens k ≡ opens h → holds h s d ≡ Some x → DescriptionsAgree h t → DescriptionsAgree k (record t { rows = changed_first (is_desc d) (with_nonblock nonblock) t.rows })
-unfolding holds
-descriptions_set h k t s d nonblock x same b n is a = record {
+pub descriptions_set : (h k : History) (t : Descriptions) (d : ℕ) (nonblock : Bool) → ((i : ℕ) → held k i ≡ held h i) → ((i : ℕ) → is_nonblock k i ≡ (if eqb d i then nonblock else is_nonblock h i)) → opens k ≡ opens h → DescriptionsAgree h t → DescriptionsAgree k (record t { rows = changed_first (is_desc d) (with_nonblock nonblock) t.rows })
+descriptions_set h k t d nonblock same b n a = record {
   rows =
       ap (changed_first (is_desc d) (with_nonblock nonblock)) a.rows
       ∙ gathered_changed (is_desc d) (with_nonblock nonblock) (λ i. option_map (row_held (is_nonblock h) i) (held h i)) (λ i. option_map (row_held (is_nonblock k) i) (held k i)) (opens h) d
       (λ i ne. row_of_other (is_nonblock h) d i (held h i) (ne_eqb d i (λ q. ne (sym q))))
       (λ row e. row_of_own (is_nonblock h) d (held h d) row e)
-      (λ i ne. ap (option_map (row_held (is_nonblock k) i)) (same i) ∙ same_but (is_nonblock k) (is_nonblock h) i (held h i) (λ r. b r i ∙ rw (ne_eqb d i (λ q. ne (sym q)), and_off (eqb s r)) refl))
-      (ap (option_map (row_held (is_nonblock k) d)) (same d) ∙ set_own (is_nonblock k) (is_nonblock h) s d nonblock (held h d) x is (b s d ∙ rw (eq-eqb s s refl, eq-eqb d d refl) refl))
+      (λ i ne. ap (option_map (row_held (is_nonblock k) i)) (same i) ∙ same_but (is_nonblock k) (is_nonblock h) i (held h i) (b i ∙ rw (ne_eqb d i (λ q. ne (sym q))) refl))
+      (ap (option_map (row_held (is_nonblock k) d)) (same d) ∙ set_own (is_nonblock k) (is_nonblock h) d nonblock (held h d) (b d ∙ rw (eq-eqb d d refl) refl))
+      ∙ ap (gathered_below (λ i. option_map (row_held (is_nonblock k) i) (held k i))) (sym n);
+  opened = a.opened ∙ sym n;
+}
+
+-- a description that passes to another session
+passed_row : (p q : ℕ → Bool) (d : ℕ) (taker : Sid) (x : Held) → p d ≡ q d → Some (row_held p d (record x { session = taker })) ≡ Some (with_session taker (row_held q d x))
+passed_row p q d taker x e = ap (λ n. Some (record { desc = record { 0 = d }; session = taker; object = x.object; access = x.access; nonblock = n })) e
+
+pub descriptions_passed : (h k : History) (t : Descriptions) (d : ℕ) (taker : Sid) (x : Held) → ((i : ℕ) → eqb d i ≡ false → held k i ≡ held h i) → held h d ≡ Some x → held k d ≡ Some (record x { session = taker }) → ((i : ℕ) → is_nonblock k i ≡ is_nonblock h i) → opens k ≡ opens h → DescriptionsAgree h t → DescriptionsAgree k (record t { rows = changed_first (is_desc d) (with_session taker) t.rows })
+descriptions_passed h k t d taker x others was is b n a = record {
+  rows =
+      ap (changed_first (is_desc d) (with_session taker)) a.rows
+      ∙ gathered_changed (is_desc d) (with_session taker) (λ i. option_map (row_held (is_nonblock h) i) (held h i)) (λ i. option_map (row_held (is_nonblock k) i) (held k i)) (opens h) d
+      (λ i ne. row_of_other (is_nonblock h) d i (held h i) (ne_eqb d i (λ q. ne (sym q))))
+      (λ row e. row_of_own (is_nonblock h) d (held h d) row e)
+      (λ i ne. ap (option_map (row_held (is_nonblock k) i)) (others i (ne_eqb d i (λ q. ne (sym q)))) ∙ same_but (is_nonblock k) (is_nonblock h) i (held h i) (b i))
+      (ap (option_map (row_held (is_nonblock k) d)) is ∙ passed_row (is_nonblock k) (is_nonblock h) d taker x (b d) ∙ sym (ap (λ w. option_map (with_session taker) (option_map (row_held (is_nonblock h) d) w)) was))
       ∙ ap (gathered_below (λ i. option_map (row_held (is_nonblock k) i) (held k i))) (sym n);
   opened = a.opened ∙ sym n;
 }

@@ -20,7 +20,8 @@ use Rattle.ipc_policy.specs.Names.{Opening, Naming, nonblock_asked, unlinks, is_
 use Rattle.ipc_policy.specs.Objects.{made_by, first_facts}
 use Rattle.ipc_policy.specs.Descriptions.{opens, opened, held}
 use Rattle.ipc_policy.specs.Life.{named, bindings, gives_object, alive}
-use Rattle.ipc_policy.specs.Semaphores.{semaphore, with_first}
+use Rattle.ipc_policy.specs.Semaphores.{with_first}
+use Rattle.ipc_policy.specs.Bodies.{semaphore}
 use Rattle.ipc_policy.specs.Grow.{is_new}
 use Rattle.ipc_policy.proofs.Holdings.Holding.{kept_all}
 use Rattle.ipc_policy.proofs.Histories.Grown.{grows}
@@ -44,7 +45,8 @@ use Rattle.ipc_state.proofs.ObjectTables.{directory_kept, objects_kept, objects_
 use Rattle.ipc_state.proofs.Opens.{Apart, Opens, Ends, Unlinks, Closes, made_open, made_left, body_made, descriptions_opened, alive_opened}
 use Rattle.ipc_policy.specs.Registrations.{registered}
 use Rattle.ipc_policy.proofs.Queues.RegisteredSteps.{not_created_unregistered}
-use Rattle.ipc_state.proofs.Accepting.{others_inside, within, gone}
+use Rattle.ipc_state.proofs.Accepting.{others_inside, within}
+use Rattle.ipc_state.proofs.Releases.{gone}
 
 -- the sessions are as they were
 pub sessions_apart : (c : Config) (h : History) (e : Event) (t : TablesView) → Apart e → Agrees c h t → SessionsAgree c (after_accepted h e) t.sessions
@@ -168,7 +170,7 @@ agrees_created c h t e asked who p a new none is =
           (g.object_of n ∙ made_open e asked p.is n n (is_bound h) _ _ ∙ new_is _ _ _ _ new ∙ created_at n _ _ ∙ made_who (made_by c asked) _ who _ is)
           (facts_made c h e p.gives n ∙ made_open e asked p.is n n (is_bound h) _ _ ∙ new_is _ _ _ _ new ∙ created_at n _ _ ∙ made_who (first_facts asked (mask h asked.session.0)) _ who _ is)
           (body_made c asked.kind _ _ _ (queue_by_others c h e n p.apart.still ∙ not_created_empty c h n (omega arith)) (p.calm' c h n ∙ not_created_unregistered c h n (omega arith))
-          (semaphore_by_others h e n p.apart.still ∙ ap (λ v. with_first v (semaphore h n)) (first n ∙ created_at n _ _) ∙ ap (with_first (option_or (value_asked asked.kind) None)) (not_created_still h n (omega arith))))
+          (semaphore_by_others c h e n p.apart.still ∙ ap (λ v. with_first v (semaphore c h n)) (first n ∙ created_at n _ _) ∙ ap (with_first (option_or (value_asked asked.kind) None)) (not_created_still c h n (omega arith))))
           a.objects;
       descriptions = descriptions_opened c h k t.descriptions e asked t.created g p a.descriptions (created_opened h asked t.created new none a.objects.count);
       charges = charges_created c h k (made_by c asked who) t.charges (λ u. limit_left c h e u (p.apart.limit' u h)) (g.creation_count ∙ p.creations' n (is_bound h) ∙ rw new refl)
@@ -218,7 +220,7 @@ agrees_closed c h t e sid desc p core =
     gone_by c h t e t.queues t.semaphores _ (λ i x. eqb sid.0 x.session.0 && eqb desc.0 i) (λ s i. eqb sid.0 s && eqb desc.0 i) p.ends p.gives core held' (p.registered' c h) (λ i y. refl)
     (directory_same h e Mq t.queues p.gives (g.bindings_of Mq ∙ p.bindings' Mq _ _ _) a.queues)
     (directory_same h e Sem t.semaphores p.gives (g.bindings_of Sem ∙ p.bindings' Sem _ _ _) a.semaphores)
-    (descriptions_dropped h (after_accepted h e) t.descriptions (λ row. is_of sid.0 row && is_desc desc.0 row) (λ i x. eqb sid.0 x.session.0 && eqb desc.0 i) (λ i x. refl) held' (λ s d. g.nonblock_of s d ∙ p.ends.nonblock' s d _ _) (g.open_count ∙ p.ends.opens' _) a.descriptions)
+    (descriptions_dropped h (after_accepted h e) t.descriptions (λ row. is_of sid.0 row && is_desc desc.0 row) (λ i x. eqb sid.0 x.session.0 && eqb desc.0 i) (λ i x. refl) held' (λ d. g.nonblock_of d ∙ p.ends.nonblock' d _ _) (g.open_count ∙ p.ends.opens' _) a.descriptions)
 
 -- the name is gone from its family's directory
 names_unbound : (c : Config) (h : History) (t : TablesView) (e : Event) (f : Family) (name : List ℕ) → GivesNothing e → Agrees c h t → ((g : Family) → bindings (after_accepted h e) g ≡ filter (λ (x : Binding). not (same_family f g && same_name x.name name)) (bindings h g)) → DirectoryAgrees (after_accepted h e) Mq (without_binding f name t).queues × DirectoryAgrees (after_accepted h e) Sem (without_binding f name t).semaphores
@@ -246,4 +248,4 @@ agrees_unlinked c h t e what p core =
     rw (left_of what.family what.name t) (gone_by c h t e u.queues u.semaphores t.descriptions (λ i x. false) (λ s i. false) p.ends p.gives core held' (p.registered' c h) (λ i y. refl)
     names.0
     names.1
-    (descriptions_kept h (after_accepted h e) t.descriptions (λ i. held' i ∙ kept_all (held h i)) (λ s d. g.nonblock_of s d ∙ p.ends.nonblock' s d _ _) (g.open_count ∙ p.ends.opens' _) a.descriptions))
+    (descriptions_kept h (after_accepted h e) t.descriptions (λ i. held' i ∙ kept_all (held h i)) (λ d. g.nonblock_of d ∙ p.ends.nonblock' d _ _) (g.open_count ∙ p.ends.opens' _) a.descriptions))

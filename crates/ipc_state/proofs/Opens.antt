@@ -14,7 +14,7 @@ use Rattle.ipc_terms.specs.declared.call.Call.TheVariants.{MqOpen, MqClose, MqUn
 use Rattle.ipc_terms.specs.declared.object.Asked.{Asked}
 use Rattle.ipc_terms.specs.declared.object.Asked.TheVariants.{Queue as AskedQueue, Semaphore as AskedSemaphore}
 use Rattle.ipc_terms.specs.declared.record.Event.{Event}
-use Rattle.ipc_terms.specs.declared.record.Event.TheVariants.{Hello, Do, Hangup}
+use Rattle.ipc_terms.specs.declared.record.Event.TheVariants.{Hello, Do, Hangup, Tick}
 use Rattle.ipc_policy.specs.declared.config.Config.{Config}
 use Rattle.ipc_policy.specs.declared.config.Held.{Held}
 use Rattle.ipc_policy.specs.declared.config.Registration.{Registration}
@@ -57,20 +57,21 @@ pub record Opens (e : Event) (asked : Opening) : Type 0 where
   pub named' : (o n : ℕ) (b : Family → List ℕ → Bool) (w : Option Opening) → named_after o e b n w ≡ cond (is_new asked b && eqb n o) (Some asked) w
   pub held' : (d i n : ℕ) (b : Family → List ℕ → Option ℕ) (w : Option Held) → held_after d e i b n w ≡ option_or (cond (eqb i d) (option_map (held_as asked) (opened_by b n asked)) None) w
   pub opens' : (n : ℕ) → opens_after e n ≡ n + 1
-  pub nonblock' : (s d n : ℕ) (was : Bool) → nonblock_after s d e n was ≡ cond (eqb asked.session.0 s && eqb n d) (nonblock_asked asked.kind asked.flags) was
+  pub nonblock' : (d n : ℕ) (was : Bool) → nonblock_after d e n was ≡ cond (eqb n d) (nonblock_asked asked.kind asked.flags) was
   pub bindings' : (f : Family) (n : ℕ) (b : Family → List ℕ → Bool) (w : List Binding) → bindings_after f e b n w ≡ cond (is_new asked b && same_family asked.family f) (w ++ record { name = asked.name; object = n } ∷ []) w
   pub creations' : (n : ℕ) (b : Family → List ℕ → Bool) → creations_after e b n ≡ cond (is_new asked b) (n + 1) n
 
 pub opens_of : (e : Event) (asked : Opening) → opening e ≡ Some asked → Opens e asked
 opens_of (Do sid (MqOpen given)) asked k =
     let same : queue_opening sid given ≡ asked = cc in
-    subst (Opens (Do sid (MqOpen given))) same (record { is = refl; calm' = λ c h o. registered_stays c h _ o refl (λ x k. refl); gives = record { owner = λ m. refl; group = λ m. refl; mode = λ m. refl }; apart = record { still = refl; hellos' = λ n. refl; user' = λ s n w. refl; live' = λ s n b. refl; mask' = λ s m. refl; limit' = λ u before. refl }; family' = λ c. refl; named' = λ o n b w. refl; held' = λ d i n b w. refl; opens' = λ n. refl; nonblock' = λ s d n was. refl; bindings' = λ f n b w. refl; creations' = λ n b. refl })
+    subst (Opens (Do sid (MqOpen given))) same (record { is = refl; calm' = λ c h o. registered_stays c h _ o refl (λ x k. refl); gives = record { owner = λ m. refl; group = λ m. refl; mode = λ m. refl }; apart = record { still = refl; hellos' = λ n. refl; user' = λ s n w. refl; live' = λ s n b. refl; mask' = λ s m. refl; limit' = λ u before. refl }; family' = λ c. refl; named' = λ o n b w. refl; held' = λ d i n b w. refl; opens' = λ n. refl; nonblock' = λ d n was. refl; bindings' = λ f n b w. refl; creations' = λ n b. refl })
 opens_of (Do sid (SemOpen given)) asked k =
     let same : semaphore_opening sid given ≡ asked = cc in
-    subst (Opens (Do sid (SemOpen given))) same (record { is = refl; calm' = λ c h o. registered_stays c h _ o refl (λ x k. refl); gives = record { owner = λ m. refl; group = λ m. refl; mode = λ m. refl }; apart = record { still = refl; hellos' = λ n. refl; user' = λ s n w. refl; live' = λ s n b. refl; mask' = λ s m. refl; limit' = λ u before. refl }; family' = λ c. refl; named' = λ o n b w. refl; held' = λ d i n b w. refl; opens' = λ n. refl; nonblock' = λ s d n was. refl; bindings' = λ f n b w. refl; creations' = λ n b. refl })
+    subst (Opens (Do sid (SemOpen given))) same (record { is = refl; calm' = λ c h o. registered_stays c h _ o refl (λ x k. refl); gives = record { owner = λ m. refl; group = λ m. refl; mode = λ m. refl }; apart = record { still = refl; hellos' = λ n. refl; user' = λ s n w. refl; live' = λ s n b. refl; mask' = λ s m. refl; limit' = λ u before. refl }; family' = λ c. refl; named' = λ o n b w. refl; held' = λ d i n b w. refl; opens' = λ n. refl; nonblock' = λ d n was. refl; bindings' = λ f n b w. refl; creations' = λ n b. refl })
 opens_of (Do sid call) asked k = absurd cc
 opens_of (Hello found) asked k = absurd cc
 opens_of (Hangup sid) asked k = absurd cc
+opens_of (Tick moment) asked k = absurd cc
 
 -- an event that opens nothing says nothing of what objects are, and what it ends
 pub record Ends (e : Event) : Type 0 where
@@ -78,7 +79,7 @@ pub record Ends (e : Event) : Type 0 where
   pub apart : Apart e
   pub named' : (o n : ℕ) (b : Family → List ℕ → Bool) (w : Option Opening) → named_after o e b n w ≡ unless (λ asked. unlinks asked.family asked.name e) w
   pub opens' : (n : ℕ) → opens_after e n ≡ n
-  pub nonblock' : (s d n : ℕ) (was : Bool) → nonblock_after s d e n was ≡ was
+  pub nonblock' : (d n : ℕ) (was : Bool) → nonblock_after d e n was ≡ was
   pub creations' : (n : ℕ) (b : Family → List ℕ → Bool) → creations_after e b n ≡ n
 
 -- an unlink
@@ -92,13 +93,14 @@ pub record Unlinks (e : Event) (what : Naming) : Type 0 where
 pub unlinks_of : (e : Event) (what : Naming) → unlinking e ≡ Some what → Unlinks e what
 unlinks_of (Do sid (MqUnlink name)) what k =
     let same : record { session = sid; family = Mq; name = name } ≡ what = cc in
-    subst (Unlinks (Do sid (MqUnlink name))) same (record { registered' = λ c h o. registered_kept c h _ o (λ x. false) refl (λ x k. refl); gives = record { owner = λ m. refl; group = λ m. refl; mode = λ m. refl }; ends = record { none = refl; apart = record { still = refl; hellos' = λ n. refl; user' = λ s n w. refl; live' = λ s n b. refl; mask' = λ s m. refl; limit' = λ u before. refl }; named' = λ o n b w. refl; opens' = λ n. refl; nonblock' = λ s d n was. refl; creations' = λ n b. refl }; held' = λ d i n b w. refl; bindings' = λ f n b w. refl })
+    subst (Unlinks (Do sid (MqUnlink name))) same (record { registered' = λ c h o. registered_kept c h _ o (λ x. false) refl (λ x k. refl); gives = record { owner = λ m. refl; group = λ m. refl; mode = λ m. refl }; ends = record { none = refl; apart = record { still = refl; hellos' = λ n. refl; user' = λ s n w. refl; live' = λ s n b. refl; mask' = λ s m. refl; limit' = λ u before. refl }; named' = λ o n b w. refl; opens' = λ n. refl; nonblock' = λ d n was. refl; creations' = λ n b. refl }; held' = λ d i n b w. refl; bindings' = λ f n b w. refl })
 unlinks_of (Do sid (SemUnlink name)) what k =
     let same : record { session = sid; family = Sem; name = name } ≡ what = cc in
-    subst (Unlinks (Do sid (SemUnlink name))) same (record { registered' = λ c h o. registered_kept c h _ o (λ x. false) refl (λ x k. refl); gives = record { owner = λ m. refl; group = λ m. refl; mode = λ m. refl }; ends = record { none = refl; apart = record { still = refl; hellos' = λ n. refl; user' = λ s n w. refl; live' = λ s n b. refl; mask' = λ s m. refl; limit' = λ u before. refl }; named' = λ o n b w. refl; opens' = λ n. refl; nonblock' = λ s d n was. refl; creations' = λ n b. refl }; held' = λ d i n b w. refl; bindings' = λ f n b w. refl })
+    subst (Unlinks (Do sid (SemUnlink name))) same (record { registered' = λ c h o. registered_kept c h _ o (λ x. false) refl (λ x k. refl); gives = record { owner = λ m. refl; group = λ m. refl; mode = λ m. refl }; ends = record { none = refl; apart = record { still = refl; hellos' = λ n. refl; user' = λ s n w. refl; live' = λ s n b. refl; mask' = λ s m. refl; limit' = λ u before. refl }; named' = λ o n b w. refl; opens' = λ n. refl; nonblock' = λ d n was. refl; creations' = λ n b. refl }; held' = λ d i n b w. refl; bindings' = λ f n b w. refl })
 unlinks_of (Do sid call) what k = absurd cc
 unlinks_of (Hello found) what k = absurd cc
 unlinks_of (Hangup sid) what k = absurd cc
+unlinks_of (Tick moment) what k = absurd cc
 
 -- a close
 pub record Closes (e : Event) (sid : Sid) (desc : Desc) : Type 0 where
@@ -114,10 +116,10 @@ or_off true = refl
 or_off false = refl
 
 pub queue_closes : (sid : Sid) (desc : Desc) → Closes (Do sid (MqClose desc)) sid desc
-queue_closes sid desc = record { registered' = λ c h o. registered_kept c h _ o (λ x. eqb sid.0 x.session.0 && eqb desc.0 x.desc.0) refl (λ x k. or_off (eqb sid.0 x.session.0 && eqb desc.0 x.desc.0)); gives = record { owner = λ m. refl; group = λ m. refl; mode = λ m. refl }; ends = record { none = refl; apart = record { still = refl; hellos' = λ n. refl; user' = λ s n w. refl; live' = λ s n b. refl; mask' = λ s m. refl; limit' = λ u before. refl }; named' = λ o n b w. refl; opens' = λ n. refl; nonblock' = λ s d n was. refl; creations' = λ n b. refl }; held' = λ d i n b w. refl; bindings' = λ f n b w. refl; unlinks' = λ f name. refl }
+queue_closes sid desc = record { registered' = λ c h o. registered_kept c h _ o (λ x. eqb sid.0 x.session.0 && eqb desc.0 x.desc.0) refl (λ x k. or_off (eqb sid.0 x.session.0 && eqb desc.0 x.desc.0)); gives = record { owner = λ m. refl; group = λ m. refl; mode = λ m. refl }; ends = record { none = refl; apart = record { still = refl; hellos' = λ n. refl; user' = λ s n w. refl; live' = λ s n b. refl; mask' = λ s m. refl; limit' = λ u before. refl }; named' = λ o n b w. refl; opens' = λ n. refl; nonblock' = λ d n was. refl; creations' = λ n b. refl }; held' = λ d i n b w. refl; bindings' = λ f n b w. refl; unlinks' = λ f name. refl }
 
 pub semaphore_closes : (sid : Sid) (desc : Desc) → Closes (Do sid (SemClose desc)) sid desc
-semaphore_closes sid desc = record { registered' = λ c h o. registered_kept c h _ o (λ x. eqb sid.0 x.session.0 && eqb desc.0 x.desc.0) refl (λ x k. or_off (eqb sid.0 x.session.0 && eqb desc.0 x.desc.0)); gives = record { owner = λ m. refl; group = λ m. refl; mode = λ m. refl }; ends = record { none = refl; apart = record { still = refl; hellos' = λ n. refl; user' = λ s n w. refl; live' = λ s n b. refl; mask' = λ s m. refl; limit' = λ u before. refl }; named' = λ o n b w. refl; opens' = λ n. refl; nonblock' = λ s d n was. refl; creations' = λ n b. refl }; held' = λ d i n b w. refl; bindings' = λ f n b w. refl; unlinks' = λ f name. refl }
+semaphore_closes sid desc = record { registered' = λ c h o. registered_kept c h _ o (λ x. eqb sid.0 x.session.0 && eqb desc.0 x.desc.0) refl (λ x k. or_off (eqb sid.0 x.session.0 && eqb desc.0 x.desc.0)); gives = record { owner = λ m. refl; group = λ m. refl; mode = λ m. refl }; ends = record { none = refl; apart = record { still = refl; hellos' = λ n. refl; user' = λ s n w. refl; live' = λ s n b. refl; mask' = λ s m. refl; limit' = λ u before. refl }; named' = λ o n b w. refl; opens' = λ n. refl; nonblock' = λ d n was. refl; creations' = λ n b. refl }; held' = λ d i n b w. refl; bindings' = λ f n b w. refl; unlinks' = λ f name. refl }
 
 -- what an open makes, and what an event that opens nothing leaves
 pub made_open : {A : Type 0} (e : Event) (asked : Opening) → opening e ≡ Some asked → (o n : ℕ) (b : Family → List ℕ → Bool) (make : Opening → Option A) (w : Option A) → made_after o e b n make w ≡ cond (is_new asked b && eqb n o) (option_or (make asked) w) w
@@ -130,6 +132,7 @@ made_open (Do sid (SemOpen given)) asked k o n b make w =
 made_open (Do sid call) asked k o n b make w = absurd cc
 made_open (Hello found) asked k o n b make w = absurd cc
 made_open (Hangup sid) asked k o n b make w = absurd cc
+made_open (Tick moment) asked k o n b make w = absurd cc
 
 pub made_left : {A : Type 0} (e : Event) → opening e ≡ None → (o n : ℕ) (b : Family → List ℕ → Bool) (make : Opening → Option A) (w : Option A) → made_after o e b n make w ≡ w
 made_left (Do sid (MqOpen given)) k o n b make w = absurd cc
@@ -137,6 +140,7 @@ made_left (Do sid (SemOpen given)) k o n b make w = absurd cc
 made_left (Do sid call) k o n b make w = refl
 made_left (Hello found) k o n b make w = refl
 made_left (Hangup sid) k o n b make w = refl
+made_left (Tick moment) k o n b make w = refl
 
 -- what stands in a new object
 pub body_made : (c : Config) (asked : Asked) (q : Queue) (g : Option Registration) (u : Semaphore) → q ≡ empty_queue → g ≡ None → u ≡ with_first (option_or (value_asked asked) None) no_semaphore → body_of (kind_of c asked) (record { queue = q; registered = g; semaphore = u }) ≡ new_body (kind_of c asked)
@@ -150,17 +154,17 @@ held_new c h k e asked o g p is = g.held_by (opens h) ∙ p.held' (opens h) (ope
 held_other : (c : Config) (h k : History) (e : Event) (asked : Opening) (d : ℕ) → Grows c h k e → Opens e asked → d < opens h → held k d ≡ held h d
 held_other c h k e asked d g p lt = g.held_by d ∙ p.held' d (opens h) (creations h) (bound h) (held h d) ∙ rw (ne_eqb (opens h) d (λ (q : opens h ≡ d). absurd (omega arith))) refl
 
-nonblock_new : (c : Config) (h k : History) (e : Event) (asked : Opening) → Grows c h k e → Opens e asked → is_nonblock k asked.session.0 (opens h) ≡ nonblock_asked asked.kind asked.flags
-nonblock_new c h k e asked g p = g.nonblock_of asked.session.0 (opens h) ∙ p.nonblock' asked.session.0 (opens h) (opens h) (is_nonblock h asked.session.0 (opens h)) ∙ rw (eq-eqb asked.session.0 asked.session.0 refl, eq-eqb (opens h) (opens h) refl) refl
+nonblock_new : (c : Config) (h k : History) (e : Event) (asked : Opening) → Grows c h k e → Opens e asked → is_nonblock k (opens h) ≡ nonblock_asked asked.kind asked.flags
+nonblock_new c h k e asked g p = g.nonblock_of (opens h) ∙ p.nonblock' (opens h) (opens h) (is_nonblock h (opens h)) ∙ rw (eq-eqb (opens h) (opens h) refl) refl
 
-nonblock_other : (c : Config) (h k : History) (e : Event) (asked : Opening) (s d : ℕ) → Grows c h k e → Opens e asked → d < opens h → is_nonblock k s d ≡ is_nonblock h s d
-nonblock_other c h k e asked s d g p lt = g.nonblock_of s d ∙ p.nonblock' s d (opens h) (is_nonblock h s d) ∙ rw (ne_eqb (opens h) d (λ (q : opens h ≡ d). absurd (omega arith)), and_off (eqb asked.session.0 s)) refl
+nonblock_other : (c : Config) (h k : History) (e : Event) (asked : Opening) (d : ℕ) → Grows c h k e → Opens e asked → d < opens h → is_nonblock k d ≡ is_nonblock h d
+nonblock_other c h k e asked d g p lt = g.nonblock_of d ∙ p.nonblock' d (opens h) (is_nonblock h d) ∙ rw (ne_eqb (opens h) d (λ (q : opens h ≡ d). absurd (omega arith))) refl
 
 other_row : (c : Config) (h k : History) (e : Event) (asked : Opening) (d : ℕ) → Grows c h k e → Opens e asked → d < opens h → option_map (row_held (is_nonblock k) d) (held k d) ≡ option_map (row_held (is_nonblock h) d) (held h d)
 other_row c h k e asked d g p lt = ap (option_map (row_held (is_nonblock k) d)) (held_other c h k e asked d g p lt) ∙ same_row (held h d) where
   same_row : (w : Option Held) → option_map (row_held (is_nonblock k) d) w ≡ option_map (row_held (is_nonblock h) d) w
   same_row None = refl
-  same_row (Some x) = ap (λ nonblock. Some (record { desc = record { 0 = d }; session = x.session; object = x.object; access = x.access; nonblock = nonblock })) (nonblock_other c h k e asked x.session.0 d g p lt)
+  same_row (Some x) = ap (λ nonblock. Some (record { desc = record { 0 = d }; session = x.session; object = x.object; access = x.access; nonblock = nonblock })) (nonblock_other c h k e asked d g p lt)
 
 pub descriptions_opened : (c : Config) (h k : History) (t : Descriptions) (e : Event) (asked : Opening) (o : ℕ) → Grows c h k e → Opens e asked → DescriptionsAgree h t → opened h asked ≡ Some o → DescriptionsAgree k (with_open t asked.session o asked.access (nonblock_asked asked.kind asked.flags))
 descriptions_opened c h k t e asked o g p a is = record {
@@ -197,3 +201,4 @@ named_by_open h (Do sid (SemOpen given)) asked k =
 named_by_open h (Do sid call) asked k = absurd cc
 named_by_open h (Hello found) asked k = absurd cc
 named_by_open h (Hangup sid) asked k = absurd cc
+named_by_open h (Tick moment) asked k = absurd cc

@@ -5,17 +5,18 @@ use Rattle.ipc_terms.specs.Lists.{first}
 use Rattle.ipc_terms.specs.declared.ids.Sid.{Sid}
 use Rattle.ipc_terms.specs.declared.ids.Desc.{Desc}
 use Rattle.ipc_terms.specs.declared.call.Call.TheVariants.{MqSend, MqReceive, SemPost, SemWait, Interrupt}
-use Rattle.ipc_terms.specs.declared.record.Event.TheVariants.{Do, Hangup}
+use Rattle.ipc_terms.specs.declared.record.Event.TheVariants.{Do, Hangup, Tick}
 use Rattle.ipc_policy.specs.declared.config.Config.{Config}
 use Rattle.ipc_policy.specs.declared.config.Held.{Held}
 use Rattle.ipc_policy.specs.History.{History, after_accepted, is_some_and}
 use Rattle.ipc_policy.specs.Descriptions.{holds}
-use Rattle.ipc_policy.specs.Queues.{Send, Waiter, senders, receivers, is_full, is_empty}
-use Rattle.ipc_policy.specs.Semaphores.{waiters, is_zero}
+use Rattle.ipc_policy.specs.Queues.{Send, Waiter}
+use Rattle.ipc_policy.specs.Bodies.{senders, receivers, is_full, is_empty, waiters, is_zero, due}
 use Rattle.ipc_policy.specs.Parking.{Sending, Receiving, Waiting, Parked, parked}
 use Rattle.ipc_policy.specs.Verdict.{Legal}
 use Rattle.ipc_policy.proofs.Blocked.ParkedSteps.{parked_by_send, parked_by_receive, parked_by_interrupt, parked_by_hangup}
 use Rattle.ipc_policy.proofs.Blocked.WaitSteps.{parked_by_post, parked_by_wait}
+use Rattle.ipc_policy.proofs.Blocked.TimedSteps.{parked_by_tick}
 use Rattle.ipc_terms.proofs.Lists.{eqb_swapped}
 
 -- on which object a session is parked
@@ -47,7 +48,7 @@ column_is s sid o None false made was m excl = at (eqb sid s) where
   at true = refl
   at false = refl
 
-there_mapped : {A : Type 0} (f : A → ℕ) (s : ℕ) (w : Option A) → is_some_and (λ x. eqb (f x) s) w ≡ is_some_and (λ i. eqb i s) (option_map f w)
+pub there_mapped : {A : Type 0} (f : A → ℕ) (s : ℕ) (w : Option A) → is_some_and (λ x. eqb (f x) s) w ≡ is_some_and (λ i. eqb i s) (option_map f w)
 there_mapped f s None = refl
 there_mapped f s (Some x) = refl
 
@@ -63,10 +64,10 @@ column_by_receive c h sid desc room x s legal held excl =
     ∙ ap (λ b. option_map (λ (p : Parked). p.object) (cond (eqb sid.0 s && is_empty c h x.object) (Some (record { object = x.object; place = length h; kind = Receiving })) (cond b None (parked c h s)))) (there_mapped (λ (m : Send). m.session) s (first (senders c h x.object)))
     ∙ column_is s sid.0 x.object (option_map (λ (m : Send). m.session) (first (senders c h x.object))) (is_empty c h x.object) (record { object = x.object; place = length h; kind = Receiving }) (parked c h) refl excl
 
-pub column_by_post : (c : Config) (h : History) (sid : Sid) (desc : Desc) (x : Held) (s : ℕ) → Legal c h → holds h sid.0 desc.0 ≡ Some x → parked_object c (after_accepted h (Do sid (SemPost desc))) s ≡ column_after (option_map (λ (w : Waiter). w.session) (first (waiters h x.object))) false sid.0 x.object (parked_object c h) s
+pub column_by_post : (c : Config) (h : History) (sid : Sid) (desc : Desc) (x : Held) (s : ℕ) → Legal c h → holds h sid.0 desc.0 ≡ Some x → parked_object c (after_accepted h (Do sid (SemPost desc))) s ≡ column_after (option_map (λ (w : Waiter). w.session) (first (waiters c h x.object))) false sid.0 x.object (parked_object c h) s
 column_by_post c h sid desc x s legal held =
     ap (option_map (λ (p : Parked). p.object)) (parked_by_post c h sid desc x s legal held)
-    ∙ served (first (waiters h x.object)) where
+    ∙ served (first (waiters c h x.object)) where
       served : (w : Option Waiter) → option_map (λ (p : Parked). p.object) (cond (is_some_and (λ (v : Waiter). eqb v.session s) w) None (parked c h s)) ≡ column_after (option_map (λ (v : Waiter). v.session) w) false sid.0 x.object (parked_object c h) s
       served None = refl
       served (Some w) = none_of (eqb w.session s) (parked c h s)
@@ -81,3 +82,9 @@ column_by_interrupt c h sid s = ap (option_map (λ (p : Parked). p.object)) (par
 
 pub column_by_hangup : (c : Config) (h : History) (sid : Sid) (s : ℕ) → parked_object c (after_accepted h (Hangup sid)) s ≡ cond (eqb sid.0 s) None (parked_object c h s)
 column_by_hangup c h sid s = ap (option_map (λ (p : Parked). p.object)) (parked_by_hangup c h sid s) ∙ none_of (eqb s sid.0) (parked c h s) ∙ ap (λ b. cond b None (parked_object c h s)) (eqb_swapped s sid.0)
+
+pub column_by_tick : (c : Config) (h : History) (moment : ℕ) (sid : Sid) (s : ℕ) → due c h moment ≡ Some sid.0 → parked_object c (after_accepted h (Tick moment)) s ≡ cond (eqb sid.0 s) None (parked_object c h s)
+column_by_tick c h moment sid s is =
+    ap (option_map (λ (p : Parked). p.object)) (parked_by_tick c h moment s ∙ ap (λ w. cond (is_some_and (λ t. eqb s t) w) None (parked c h s)) is)
+    ∙ none_of (eqb s sid.0) (parked c h s)
+    ∙ ap (λ b. cond b None (parked_object c h s)) (eqb_swapped s sid.0)

@@ -11,8 +11,9 @@ use Rattle.ipc_policy.specs.declared.config.Held.{Held}
 use Rattle.ipc_policy.specs.History.{History}
 use Rattle.ipc_policy.specs.Objects.{object}
 use Rattle.ipc_policy.specs.Descriptions.{if_of, held, holds, is_nonblock}
-use Rattle.ipc_policy.specs.Queues.{has_none, attributes, queue, contents}
-use Rattle.ipc_policy.specs.Semaphores.{Semaphore, semaphore, value}
+use Rattle.ipc_policy.specs.Queues.{has_none, attributes}
+use Rattle.ipc_policy.specs.Semaphores.{Semaphore}
+use Rattle.ipc_policy.specs.Bodies.{queue, contents, semaphore, value}
 use Rattle.ipc_policy.specs.Verdict.{Legal}
 use Rattle.ipc_policy.proofs.Semaphores.ValueCounts.{value_counted}
 use Rattle.ipc_policy.specs.Life.{alive}
@@ -84,15 +85,15 @@ semaphore_is c h t s d legal a = at (holds h s d) refl where
   at (Some x) e = semaphore_alive c h t x.object legal a (holds_alive h s d x e)
 
 -- whether its value is 0, and whether it is the greatest
-test_is : (test : ℕ → Bool) (u : Semaphore) (n : ℕ) (w : Option ℕ) → n ≡ u.value → is_some_and (λ (q : Counter). test q.value) (option_map (λ first_value. counter_of u) w) ≡ is_some_and (λ first_value. test n) w
+test_is : (test : ℕ → Bool) (u : Semaphore) (n : ℕ) (w : Option ℕ) → n ≡ u.running → is_some_and (λ (q : Counter). test q.value) (option_map (λ first_value. counter_of u) w) ≡ is_some_and (λ first_value. test n) w
 test_is test u n None e = refl
 test_is test u n (Some first) e = ap test (sym e)
 
-pub held_test_is : (c : Config) (h : History) (test : ℕ → Bool) (s d : ℕ) → Legal c h → is_some_and (λ (q : Counter). test q.value) (option_and_then (semaphore_meant c h) (option_map (λ (x : Held). x.object) (holds h s d))) ≡ is_some_and (λ (x : Held). is_some_and (λ first_value. test (value h x.object)) (as_semaphore (object c h x.object))) (holds h s d)
+pub held_test_is : (c : Config) (h : History) (test : ℕ → Bool) (s d : ℕ) → Legal c h → is_some_and (λ (q : Counter). test q.value) (option_and_then (semaphore_meant c h) (option_map (λ (x : Held). x.object) (holds h s d))) ≡ is_some_and (λ (x : Held). is_some_and (λ first_value. test (value c h x.object)) (as_semaphore (object c h x.object))) (holds h s d)
 held_test_is c h test s d legal = at (holds h s d) where
-  at : (w : Option Held) → is_some_and (λ (q : Counter). test q.value) (option_and_then (semaphore_meant c h) (option_map (λ (x : Held). x.object) w)) ≡ is_some_and (λ (x : Held). is_some_and (λ first_value. test (value h x.object)) (as_semaphore (object c h x.object))) w
+  at : (w : Option Held) → is_some_and (λ (q : Counter). test q.value) (option_and_then (semaphore_meant c h) (option_map (λ (x : Held). x.object) w)) ≡ is_some_and (λ (x : Held). is_some_and (λ first_value. test (value c h x.object)) (as_semaphore (object c h x.object))) w
   at None = refl
-  at (Some x) = test_is test (semaphore h x.object) (value h x.object) (as_semaphore (object c h x.object)) (value_counted c h x.object legal)
+  at (Some x) = test_is test (semaphore c h x.object) (value c h x.object) (as_semaphore (object c h x.object)) (value_counted c h x.object legal)
 
 -- whether it is full, and whether it is empty
 pub full_is : (c : Config) (h : History) (o : ℕ) → is_some_and is_full_of (queue_meant c h o) ≡ is_full c h o
@@ -124,14 +125,14 @@ held_empty_is c h s d = at (holds h s d) where
   at (Some x) = empty_is c h x.object
 
 -- whether the calls of what a session holds are refused where they would wait
-row_nonblock : (b : ℕ → ℕ → Bool) (s d : ℕ) (w : Option Held) → is_some_and (λ (row : Row). row.nonblock) (option_and_then (if_row_of s) (option_map (row_held b d) w)) ≡ (is_some (option_and_then (if_of s) w) && b s d)
+row_nonblock : (b : ℕ → Bool) (s d : ℕ) (w : Option Held) → is_some_and (λ (row : Row). row.nonblock) (option_and_then (if_row_of s) (option_map (row_held b d) w)) ≡ (is_some (option_and_then (if_of s) w) && b d)
 row_nonblock b s d None = refl
 row_nonblock b s d (Some x) = at (eqb x.session.0 s) refl where
-  at : (i : Bool) → eqb x.session.0 s ≡ i → is_some_and (λ (row : Row). row.nonblock) (cond (eqb s x.session.0) (Some (row_held b d x)) None) ≡ (is_some (cond i (Some x) None) && b s d)
-  at true e = rw (eqb_swapped s x.session.0, e) (ap (λ n. b n d) (eqb-true _ _ e))
+  at : (i : Bool) → eqb x.session.0 s ≡ i → is_some_and (λ (row : Row). row.nonblock) (cond (eqb s x.session.0) (Some (row_held b d x)) None) ≡ (is_some (cond i (Some x) None) && b d)
+  at true e = rw (eqb_swapped s x.session.0, e) refl
   at false e = rw (eqb_swapped s x.session.0, e) refl
 
-pub nonblock_is : (c : Config) (h : History) (t : TablesView) (s d : ℕ) → Agrees c h t → is_some_and (λ (row : Row). row.nonblock) (row_of t.descriptions.rows s d) ≡ (is_some (holds h s d) && is_nonblock h s d)
+pub nonblock_is : (c : Config) (h : History) (t : TablesView) (s d : ℕ) → Agrees c h t → is_some_and (λ (row : Row). row.nonblock) (row_of t.descriptions.rows s d) ≡ (is_some (holds h s d) && is_nonblock h d)
 unfolding holds
 nonblock_is c h t s d a = ap (λ w. is_some_and (λ (row : Row). row.nonblock) (option_and_then (if_row_of s) w)) (row_is h t.descriptions d a.descriptions) ∙ row_nonblock (is_nonblock h) s d (held h d)
 
@@ -139,8 +140,8 @@ held_on : (w : Option Held) (b : Bool) → IsSome w → (is_some w && b) ≡ b
 held_on None b e = absurd cc
 held_on (Some x) b e = refl
 
-pub nonblock_there : (c : Config) (h : History) (t : TablesView) (s d : ℕ) → Agrees c h t → IsSome (holds h s d) → is_some_and (λ (row : Row). row.nonblock) (row_of t.descriptions.rows s d) ≡ is_nonblock h s d
-nonblock_there c h t s d a e = nonblock_is c h t s d a ∙ held_on (holds h s d) (is_nonblock h s d) e
+pub nonblock_there : (c : Config) (h : History) (t : TablesView) (s d : ℕ) → Agrees c h t → IsSome (holds h s d) → is_some_and (λ (row : Row). row.nonblock) (row_of t.descriptions.rows s d) ≡ is_nonblock h d
+nonblock_there c h t s d a e = nonblock_is c h t s d a ∙ held_on (holds h s d) (is_nonblock h d) e
 
 -- a description that is held has a row
 row_there : (w : Option Row) (v : Option Held) → option_map held_in w ≡ v → is_some v ≡ true → IsSome w

@@ -12,7 +12,7 @@ use Rattle.ipc_terms.specs.declared.object.Object.{Object}
 use Rattle.ipc_terms.specs.declared.call.Attributes.{Attributes}
 use Rattle.ipc_terms.specs.declared.call.Call.TheVariants.{MqNotify}
 use Rattle.ipc_terms.specs.declared.record.Event.{Event}
-use Rattle.ipc_terms.specs.declared.record.Event.TheVariants.{Hello, Do, Hangup}
+use Rattle.ipc_terms.specs.declared.record.Event.TheVariants.{Hello, Do, Hangup, Tick}
 use Rattle.ipc_policy.specs.declared.config.Config.{Config}
 use Rattle.ipc_policy.specs.declared.config.Held.{Held}
 use Rattle.ipc_policy.specs.declared.config.Registration.{Registration}
@@ -21,7 +21,8 @@ use Rattle.ipc_policy.specs.Names.{Opening, opening, is_bound, creations}
 use Rattle.ipc_policy.specs.Objects.{object}
 use Rattle.ipc_policy.specs.Descriptions.{held, holds, is_nonblock}
 use Rattle.ipc_policy.specs.Life.{gives_object}
-use Rattle.ipc_policy.specs.Queues.{act, queue, attributes}
+use Rattle.ipc_policy.specs.Queues.{attributes}
+use Rattle.ipc_policy.specs.Bodies.{act, queue}
 use Rattle.ipc_policy.specs.Registrations.{registers, ends_registration, registered}
 use Rattle.ipc_policy.specs.Grow.{is_new}
 use Rattle.ipc_policy.specs.Verdict.{verdict, Legal}
@@ -72,6 +73,7 @@ registers_queue c h o (Do sid (MqNotify desc on)) x accepted k = at (on && gives
 registers_queue c h o (Do sid call) x accepted k = absurd cc
 registers_queue c h o (Hello found) x accepted k = absurd cc
 registers_queue c h o (Hangup sid) x accepted k = absurd cc
+registers_queue c h o (Tick moment) x accepted k = absurd cc
 
 -- a queue is an object
 some_object : (w : Option Object) → is_some (as_queue w) ≡ true → is_some w ≡ true
@@ -89,7 +91,7 @@ queue_next : (c : Config) (h : History) (o : ℕ) → ((x : Registration) → re
 unfolding registered object
 queue_next c h o known e (Some rule) legal x k = known x k
 queue_next c h o known e None legal x k = at (registers (holds h) o e) refl (sym (registered_grows c h e o) ∙ k) where
-  old : (w : Option Registration) → registered c h o ≡ w → unless (λ y. ends_registration y e (act o e h) (queue c h o)) w ≡ Some x → is_some (attributes c (after_accepted h e) o) ≡ true
+  old : (w : Option Registration) → registered c h o ≡ w → unless (λ y. ends_registration y e (act c o e h) (queue c h o)) w ≡ Some x → is_some (attributes c (after_accepted h e) o) ≡ true
   old None q j = absurd cc
   old (Some y) q j = stays_queue c h o e (ap is_some q) (known y q)
 
@@ -98,7 +100,7 @@ queue_next c h o known e None legal x k = at (registers (holds h) o e) refl (sym
     made : is_some (attributes c h o) ≡ true → is_some (attributes c (after_accepted h e) o) ≡ true
     made is = ap (λ z. is_some (as_queue z)) (object_stays c h e o (object_below c h o (some_object (object c h o) is))) ∙ is
 
-  at : (w : Option Registration) → registers (holds h) o e ≡ w → option_or w (unless (λ y. ends_registration y e (act o e h) (queue c h o)) (registered c h o)) ≡ Some x → is_some (attributes c (after_accepted h e) o) ≡ true
+  at : (w : Option Registration) → registers (holds h) o e ≡ w → option_or w (unless (λ y. ends_registration y e (act c o e h) (queue c h o)) (registered c h o)) ≡ Some x → is_some (attributes c (after_accepted h e) o) ≡ true
   at None q j = old (registered c h o) refl j
   at (Some y) q j = begun y q
 

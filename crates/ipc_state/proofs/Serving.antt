@@ -28,7 +28,8 @@ use Rattle.ipc_policy.specs.Life.{alive, gives_object}
 use Rattle.ipc_policy.specs.declared.config.Registration.{Registration}
 use Rattle.ipc_policy.specs.Registrations.{fires, registered}
 use Rattle.ipc_policy.proofs.Queues.RegisteredSteps.{registered_stays, registered_send}
-use Rattle.ipc_policy.specs.Queues.{Send, Waiter, Sends, Receives, Withdraws, NoAct, Queue, next, has_none, is_filled, maxmsg_of, attributes, maxmsg, queue, queue_after, contents, senders, receivers, is_full, is_empty}
+use Rattle.ipc_policy.specs.Queues.{Send, Waiter, Sends, Receives, Withdraws, NoAct, Queue, next, has_none, is_filled, maxmsg_of, attributes, maxmsg, queue_after}
+use Rattle.ipc_policy.specs.Bodies.{queue, contents, senders, receivers, is_full, is_empty}
 use Rattle.ipc_policy.specs.Parking.{Parked, parked}
 use Rattle.ipc_policy.specs.declared.asking.Described.{Described}
 use Rattle.ipc_policy.specs.Rules.{forbids, bad_descr, described, not_held}
@@ -52,7 +53,7 @@ use Rattle.ipc_state.proofs.Mapped.{longest_mapped}
 use Rattle.ipc_state.specs.Meetings.{by_description, object_by}
 use Rattle.ipc_state.proofs.Lookups.{mapped_some, queue_alive}
 use Rattle.ipc_state.proofs.QueueLookups.{holds_alive}
-use Rattle.ipc_policy.proofs.Histories.Unforbidden.{IsFree, unforbidden}
+use Rattle.ipc_policy.proofs.Histories.Unforbidden.{IsFree, unforbidden, described_plain}
 use Rattle.ipc_state.proofs.Accepted.{within_live, not_bad_held, not_bad_queue, not_bad_semaphore, limits_some}
 use Rattle.ipc_state.proofs.QueueSteps.{IsOnce, left_registered, full_same, next_same, sent_is, received_is, withdrawn_is}
 use Rattle.ipc_state.proofs.ParkedColumn.{parked_object, column_after}
@@ -259,7 +260,7 @@ queue_stands c h t s d o legal a here = subst (λ (i : ℕ). is_some (queue_at t
 -- an accepted call that names a description is by one that gives an object
 pub object_there : (c : Config) (h : History) (sid : Sid) (call : Call) → is_some (described call) ≡ true → verdict c h (Do sid call) ≡ None → is_some (by_description (object_by h) (Do sid call)) ≡ true
 unfolding forbids bad_descr
-object_there c h sid call named accepted = at (described call) named (unforbidden c h (Do sid call) accepted BadDescr) where
+object_there c h sid call named accepted = at (described call) named (ap (is_some_and (λ (x : Described). not_held c h sid.0 x.family x.desc.0)) (sym (described_plain call)) ∙ unforbidden c h (Do sid call) accepted BadDescr) where
   at : (w : Option Described) → is_some w ≡ true → is_some_and (λ (x : Described). not_held c h sid.0 x.family x.desc.0) w ≡ false → is_some (option_and_then (λ (x : Described). object_by h sid.0 x.desc.0) w) ≡ true
   at None some free = absurd cc
   at (Some x) some free = mapped_some (λ (y : Held). y.object) (holds h sid.0 x.desc.0) ∙ not_bad_held c h sid.0 x.family x.desc.0 free

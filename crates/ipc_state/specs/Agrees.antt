@@ -35,8 +35,9 @@ use Rattle.ipc_policy.specs.Sessions.{hellos, user, live, mask}
 use Rattle.ipc_policy.specs.Names.{creations}
 use Rattle.ipc_policy.specs.Objects.{object, facts, directory}
 use Rattle.ipc_policy.specs.Descriptions.{opens, held, is_nonblock}
-use Rattle.ipc_policy.specs.Queues.{Send, Waiter, Queue, attributes, queue}
-use Rattle.ipc_policy.specs.Semaphores.{Semaphore, semaphore}
+use Rattle.ipc_policy.specs.Queues.{Send, Waiter, Queue, attributes}
+use Rattle.ipc_policy.specs.Semaphores.{Semaphore}
+use Rattle.ipc_policy.specs.Bodies.{queue, semaphore}
 use Rattle.ipc_policy.specs.Parking.{parked}
 use Rattle.ipc_policy.specs.Life.{bindings, alive}
 use Rattle.ipc_policy.specs.Charges.{charged, limit}
@@ -78,11 +79,11 @@ queue_meant c h o = option_map (tickets_of (registered c h o) (queue c h o)) (at
 
 -- a semaphore of the policy, as it is kept
 abbrev pub counter_of : Semaphore → Counter
-counter_of q = record { value = q.value; waiters = map receiver_of q.waiters }
+counter_of q = record { value = q.running; waiters = map receiver_of q.waiters }
 
 -- the semaphore that object o is, as it is kept
 abbrev pub semaphore_meant : Config → History → ℕ → Option Counter
-semaphore_meant c h o = option_map (λ first_value. counter_of (semaphore h o)) (as_semaphore (object c h o))
+semaphore_meant c h o = option_map (λ first_value. counter_of (semaphore c h o)) (as_semaphore (object c h o))
 
 -- what stands in an object, by what it is as a queue, with its registration, and as a semaphore
 pub record Inside : Type 0 where
@@ -92,7 +93,7 @@ pub record Inside : Type 0 where
 
 -- what stands in object o
 abbrev pub inside : Config → History → ℕ → Inside
-inside c h o = record { queue = queue c h o; registered = registered c h o; semaphore = semaphore h o }
+inside c h o = record { queue = queue c h o; registered = registered c h o; semaphore = semaphore c h o }
 
 -- what stands in an object of the kind, as it is kept
 abbrev pub body_of : Kind → Inside → Body
@@ -113,9 +114,9 @@ pub record ObjectsAgree (c : Config) (h : History) (objects : List ObjectRow) (c
   pub rows : objects ≡ gathered_below (row_with c h (inside c h)) (creations h)
   pub count : created ≡ creations h
 
--- the row of description d, by whether its session's calls are refused where they would wait
-abbrev pub row_held : (ℕ → ℕ → Bool) → ℕ → Held → Row
-row_held nonblock d x = record { desc = record { 0 = d }; session = x.session; object = x.object; access = x.access; nonblock = nonblock x.session.0 d }
+-- the row of description d, by whether calls by it are refused where they would wait
+abbrev pub row_held : (ℕ → Bool) → ℕ → Held → Row
+row_held nonblock d x = record { desc = record { 0 = d }; session = x.session; object = x.object; access = x.access; nonblock = nonblock d }
 
 -- what a row gives, and to whom
 abbrev pub held_in : Row → Held

@@ -4,4 +4,6 @@ pub mod Agrees
 pub mod Memory
 pub mod Changes
 pub mod Meetings
+pub mod Waiting
+pub mod OnTime
 pub mod Rows

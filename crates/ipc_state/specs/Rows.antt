@@ -13,7 +13,9 @@ use Rattle.ipc_tables.specs.Objects.{row_at}
 use Rattle.ipc_tables.specs.TablesView.{TablesView, directory_kept}
 use Rattle.ipc_policy.specs.declared.config.Config.{Config}
 use Rattle.ipc_policy.specs.History.{History}
+use Rattle.ipc_state.specs.declared.clock.Clock.{Clock}
 use Rattle.ipc_state.specs.Agrees.{IsCore}
+use Rattle.ipc_state.specs.OnTime.{IsOnTime}
 use Rattle.ipc_state.specs.Meetings.{by_description, by_name}
 
 -- the user of a session
@@ -30,8 +32,9 @@ number_meant t e = by_name (λ x. object_named (directory_kept x.family t).bindi
 
 -- each was looked up in the tables: the caller's session, the row of the description that the event names and the object
 -- that it gives, and the object to which the name is bound that the event names
-pub record IsLookup (c : Config) (h : History) (t : TablesView) (e : Event) (session : Option Session) (row : Option Row) (given : Option ObjectRow) (bound : Option ℕ) (named : Option ObjectRow) : Type 0 where
+pub record IsLookup (c : Config) (h : History) (t : TablesView) (k : Clock) (e : Event) (session : Option Session) (row : Option Row) (given : Option ObjectRow) (bound : Option ℕ) (named : Option ObjectRow) : Type 0 where
   pub core : IsCore c h t
+  pub on_time : IsOnTime c h k
   pub of_session : session ≡ slice_get t.sessions (caller e).0
   pub of_row : row ≡ row_meant t.descriptions e
   pub of_given : given ≡ option_and_then (λ r. row_at t.objects r.object) row

@@ -8,8 +8,9 @@ use Rattle.ipc_policy.specs.declared.config.Config.{Config}
 use Rattle.ipc_policy.specs.History.{History}
 use Rattle.ipc_policy.specs.Objects.{object}
 use Rattle.ipc_policy.specs.Descriptions.{holds}
-use Rattle.ipc_policy.specs.Queues.{Send, Queue, attributes, queue}
-use Rattle.ipc_policy.specs.Semaphores.{Semaphore, semaphore, value}
+use Rattle.ipc_policy.specs.Queues.{Send, Queue, attributes}
+use Rattle.ipc_policy.specs.Semaphores.{Semaphore}
+use Rattle.ipc_policy.specs.Bodies.{queue, semaphore, value}
 use Rattle.ipc_policy.specs.Verdict.{after_event}
 
 pub record StateView : Type 0 where
@@ -30,8 +31,8 @@ queue_by c h s d = option_and_then (λ x. option_map (λ given. queue c h x.obje
 
 -- the semaphore that session s has by description d, if it is one
 abbrev pub semaphore_by : Config → History → ℕ → ℕ → Option Semaphore
-semaphore_by c h s d = option_and_then (λ x. option_map (λ first_value. semaphore h x.object) (as_semaphore (object c h x.object))) (holds h s d)
+semaphore_by c h s d = option_and_then (λ x. option_map (λ first_value. semaphore c h x.object) (as_semaphore (object c h x.object))) (holds h s d)
 
 -- the value of the semaphore that session s has by description d, if it is one
 abbrev pub value_by : Config → History → ℕ → ℕ → Option ℕ
-value_by c h s d = option_and_then (λ x. option_map (λ first_value. value h x.object) (as_semaphore (object c h x.object))) (holds h s d)
+value_by c h s d = option_and_then (λ x. option_map (λ first_value. value c h x.object) (as_semaphore (object c h x.object))) (holds h s d)

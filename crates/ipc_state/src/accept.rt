@@ -1,8 +1,11 @@
 //! What an accepted event does to the tables.
 
-ghost use Rattle.std.specs.Prelude.{◌≡◌, false, ◌+◌, ◌^◌, ◌<◌, ◌∷◌, length, Some, None, IsSome, OnOk, OnErr};
-ghost use Rattle.ipc_terms.specs.declared.record.Event.TheVariants.{Hello, Do, Hangup};
-ghost use Rattle.ipc_terms.specs.declared.call.Call.TheVariants.{Umask, MqSetattr, SetLimit, Interrupt};
+ghost use Rattle.std.specs.Prelude.{◌≡◌, true, false, ◌+◌, ◌^◌, ◌<◌, ◌∷◌, length, Some, None, IsSome, OnOk, OnErr};
+ghost use Rattle.ipc_terms.specs.declared.record.Event.TheVariants.{Hello, Do, Hangup, Tick};
+ghost use Rattle.ipc_terms.specs.declared.call.Call.TheVariants.{Umask, MqSetattr, MqGive, SetLimit, Interrupt};
+ghost use Rattle.std.specs.Option.{option_map};
+ghost use Rattle.ipc_terms.specs.Timed.{plain, plain_call};
+ghost use Rattle.ipc_policy.specs.Bodies.{due};
 ghost use Rattle.ipc_policy.specs.History.{after_accepted};
 ghost use Rattle.ipc_policy.specs.Names.{opening, nonblock_asked};
 ghost use Rattle.ipc_policy.specs.Objects.{made_by, first_facts};
@@ -10,7 +13,9 @@ ghost use Rattle.ipc_policy.specs.Rules.{described};
 ghost use Rattle.ipc_policy.specs.Verdict.{verdict};
 ghost use Rattle.ipc_state.specs.Agrees.{Agrees, IsCore};
 ghost use Rattle.ipc_state.specs.Meetings.{by_description, by_name, object_by, object_bound};
+ghost use Rattle.ipc_state.specs.OnTime.{ended_call};
 ghost use Rattle.ipc_state.specs.Memory.{takes_memory};
+ghost use Rattle.ipc_state.specs.Waiting.{send_priority, is_receive, is_wait};
 
 use crate::changing::accept_change;
 use crate::lookup::Meant;
@@ -39,6 +44,7 @@ pub fn change(
     requires verdict { rule ≡ verdict config.now past.now.history event.now }
     requires held { meant.held ≡ by_description (object_by past.now.history) event.now }
     requires bound { meant.bound ≡ by_name (object_bound past.now.history) event.now }
+    requires ended { verdict config.now past.now.history event.now ≡ None → option_map (λ s. s.0) meant.ended ≡ ended_call config.now past.now.history (plain event.now) }
     requires room { length past.now.history + 1 < 2 ^ 63 }
     ensures ok { OnOk result (IsCore config.now (record { event = event.now; rule = rule } ∷ past.now.history) tables.new) }
     ensures err { OnErr result (tables.new ≡ tables.old) }
@@ -62,6 +68,7 @@ fn accept(
     requires accepted { verdict config.now past.now.history event.now ≡ None }
     requires held { meant.held ≡ by_description (object_by past.now.history) event.now }
     requires bound { meant.bound ≡ by_name (object_bound past.now.history) event.now }
+    requires ended { verdict config.now past.now.history event.now ≡ None → option_map (λ s. s.0) meant.ended ≡ ended_call config.now past.now.history (plain event.now) }
     requires room { length past.now.history + 1 < 2 ^ 63 }
     ensures ok { OnOk result (Agrees config.now (after_accepted past.now.history event.now) tables.new) }
     ensures err { OnErr result (tables.new ≡ tables.old) }
@@ -73,18 +80,20 @@ fn accept(
                 accept_open(alloc, tables, config, past, event, meant.bound)
             }
             Call::MqSend { priority, .. } => {
-                let object = object_held(config, past, *sid, call, meant.held);
-                tables.send(object, past.len() as u64, *priority, *sid)?;
-                Ok(())
+                accept_send(tables, config, past, *sid, call, *priority, meant.held)
             }
-            Call::MqReceive { .. } => {
-                tables.receive(object_held(config, past, *sid, call, meant.held), *sid)?;
-                Ok(())
+            Call::MqReceive { .. } => accept_receive(tables, config, past, *sid, call, meant.held),
+            Call::SemWait(_) => accept_wait(tables, config, past, *sid, call, meant.held),
+            Call::MqTimedSend { priority, .. } => {
+                accept_send(tables, config, past, *sid, call, *priority, meant.held)
             }
-            Call::SemWait(_) => {
-                tables.wait(object_held(config, past, *sid, call, meant.held), *sid)?;
-                Ok(())
+            Call::MqGive { desc, taker } => {
+                accept_give(tables, config, past, *sid, *desc, *taker, meant.held)
             }
+            Call::MqTimedReceive { .. } => {
+                accept_receive(tables, config, past, *sid, call, meant.held)
+            }
+            Call::SemTimedWait { .. } => accept_wait(tables, config, past, *sid, call, meant.held),
             _ => {
                 accept_in_place(tables, config, past, *sid, call, meant);
                 Ok(())
@@ -94,7 +103,74 @@ fn accept(
             accept_hangup(tables, config, past, *sid);
             Ok(())
         }
+        Event::Tick { moment } => {
+            accept_tick(tables, config, past, *moment, meant.ended);
+            Ok(())
+        }
     }
+}
+
+/// Does the same for a send, with a deadline or without.
+fn accept_send(
+    tables: &mut Tables,
+    config: &Config,
+    past: &Trail,
+    sid: Sid,
+    call: &Call,
+    priority: u32,
+    held: Option<u64>,
+) -> Result<(), NoMemory>
+    requires sends { send_priority (plain_call call.now) ≡ Some priority }
+    requires core { IsCore config.now past.now.history tables.old }
+    requires accepted { verdict config.now past.now.history (Do sid call.now) ≡ None }
+    requires held { held ≡ by_description (object_by past.now.history) (Do sid call.now) }
+    requires room { length past.now.history + 1 < 2 ^ 63 }
+    ensures ok { OnOk result (Agrees config.now (after_accepted past.now.history (Do sid call.now)) tables.new) }
+    ensures err { OnErr result (tables.new ≡ tables.old) }
+{
+    let object = object_held(config, past, sid, call, held);
+    tables.send(object, past.len() as u64, priority, sid)?;
+    Ok(())
+}
+
+/// Does the same for a receive, with a deadline or without.
+fn accept_receive(
+    tables: &mut Tables,
+    config: &Config,
+    past: &Trail,
+    sid: Sid,
+    call: &Call,
+    held: Option<u64>,
+) -> Result<(), NoMemory>
+    requires receives { is_receive (plain_call call.now) ≡ true }
+    requires core { IsCore config.now past.now.history tables.old }
+    requires accepted { verdict config.now past.now.history (Do sid call.now) ≡ None }
+    requires held { held ≡ by_description (object_by past.now.history) (Do sid call.now) }
+    ensures ok { OnOk result (Agrees config.now (after_accepted past.now.history (Do sid call.now)) tables.new) }
+    ensures err { OnErr result (tables.new ≡ tables.old) }
+{
+    tables.receive(object_held(config, past, sid, call, held), sid)?;
+    Ok(())
+}
+
+/// Does the same for a wait, with a deadline or without.
+fn accept_wait(
+    tables: &mut Tables,
+    config: &Config,
+    past: &Trail,
+    sid: Sid,
+    call: &Call,
+    held: Option<u64>,
+) -> Result<(), NoMemory>
+    requires waits { is_wait (plain_call call.now) ≡ true }
+    requires core { IsCore config.now past.now.history tables.old }
+    requires accepted { verdict config.now past.now.history (Do sid call.now) ≡ None }
+    requires held { held ≡ by_description (object_by past.now.history) (Do sid call.now) }
+    ensures ok { OnOk result (Agrees config.now (after_accepted past.now.history (Do sid call.now)) tables.new) }
+    ensures err { OnErr result (tables.new ≡ tables.old) }
+{
+    tables.wait(object_held(config, past, sid, call, held), sid)?;
+    Ok(())
 }
 
 /// Does the same for the calls that never take memory.
@@ -145,7 +221,11 @@ fn accept_in_place(
         | Call::SemOpen(_)
         | Call::MqSend { .. }
         | Call::MqReceive { .. }
-        | Call::SemWait(_) => unreachable!(),
+        | Call::MqGive { .. }
+        | Call::SemWait(_)
+        | Call::MqTimedSend { .. }
+        | Call::MqTimedReceive { .. }
+        | Call::SemTimedWait { .. } => unreachable!(),
     }
 }
 
@@ -205,6 +285,29 @@ fn accept_setattr(
     tables.set_nonblock(sid, desc, nonblock);
 }
 
+fn accept_give(
+    tables: &mut Tables,
+    config: &Config,
+    past: &Trail,
+    sid: Sid,
+    desc: Desc,
+    taker: Sid,
+    held: Option<u64>,
+) -> Result<(), NoMemory>
+    requires core { IsCore config.now past.now.history tables.old }
+    requires accepted { verdict config.now past.now.history (Do sid (MqGive desc taker)) ≡ None }
+    requires held { held ≡ by_description (object_by past.now.history) (Do sid (MqGive desc taker)) }
+    ensures ok { OnOk result (Agrees config.now (after_accepted past.now.history (Do sid (MqGive desc taker))) tables.new) }
+    ensures err { OnErr result (tables.new ≡ tables.old) }
+{
+    let Some(object) = held else {
+        unreachable!();
+    };
+    tables.hand_over(sid, desc, taker)?;
+    tables.set_registered(object, desc, false);
+    Ok(())
+}
+
 fn accept_limit(tables: &mut Tables, config: &Config, past: &Trail, sid: Sid, uid: Uid, bytes: u64)
     requires core { IsCore config.now past.now.history tables.old }
     requires accepted { verdict config.now past.now.history (Do sid (SetLimit uid bytes)) ≡ None }
@@ -227,6 +330,18 @@ fn accept_hangup(tables: &mut Tables, config: &Config, past: &Trail, sid: Sid)
     ensures { Agrees config.now (after_accepted past.now.history (Hangup sid)) tables.new }
 {
     tables.end_session(sid);
+}
+
+/// A tick ends the call of the session that is due, if one is.
+fn accept_tick(tables: &mut Tables, config: &Config, past: &Trail, moment: u64, gone: Option<Sid>)
+    requires core { IsCore config.now past.now.history tables.old }
+    requires due { option_map (λ s. s.0) gone ≡ due config.now past.now.history moment }
+    ensures { Agrees config.now (after_accepted past.now.history (Tick moment)) tables.new }
+{
+    let Some(sid) = gone else {
+        return;
+    };
+    tables.withdraw(sid);
 }
 
 fn accept_open(

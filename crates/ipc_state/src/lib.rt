@@ -4,6 +4,7 @@
 
 mod accept;
 mod changing;
+mod clock;
 mod limits;
 mod looking;
 mod lookup;

@@ -2,6 +2,7 @@
 
 ghost use Rattle.std.specs.Prelude.{◌≡◌, ◌==◌, length, is_some, option_and_then};
 ghost use Rattle.std.specs.Option.{option_map, option_copied};
+ghost use Rattle.ipc_terms.specs.Lists.{first};
 ghost use Rattle.ipc_queue.specs.Tickets.{is_full_of};
 ghost use Rattle.ipc_tables.specs.Objects.{row_at, queue_in, semaphore_in};
 ghost use Rattle.ipc_tables.specs.TablesView.{is_live_row};
@@ -15,7 +16,7 @@ use ipc_policy::{Config, Held, description_of, naming_of};
 use ipc_queue::Queue;
 use ipc_sem::Sem;
 use ipc_tables::{Body, ObjectRow, Session, Tables};
-use ipc_terms::{Event, Facts, Object};
+use ipc_terms::{Event, Facts, Object, Sid};
 
 /// The user of the session.
 pub fn user_in(config: &Config, session: Option<Session>) -> Option<&Cred>
@@ -172,4 +173,25 @@ pub fn has_value(semaphore: Option<&Sem>, value: u32) -> bool
         Some(semaphore) => semaphore.value() == value,
         None => false,
     }
+}
+
+/// The session whose receive from the queue has been parked longest.
+pub fn receiver_in(queue: Option<&Queue>) -> Option<Sid>
+    ensures { result ≡ option_and_then (λ q. first q.receivers) (option_copied queue.entry) }
+{
+    queue?.receiver()
+}
+
+/// The session whose send to the queue has been parked longest.
+pub fn sender_in(queue: Option<&Queue>) -> Option<Sid>
+    ensures { result ≡ option_and_then (λ q. option_map (λ sender. sender.session) (first q.senders)) (option_copied queue.entry) }
+{
+    queue?.sender()
+}
+
+/// The session whose wait for the semaphore has been parked longest.
+pub fn waiter_in(semaphore: Option<&Sem>) -> Option<Sid>
+    ensures { result ≡ option_and_then (λ q. first q.waiters) (option_copied semaphore.entry) }
+{
+    semaphore?.waiter()
 }

@@ -1,23 +1,28 @@
 //! What an event meets: each table is asked once.
 
-ghost use Rattle.std.specs.Prelude.{◌≡◌, ◌&&◌, is_some, option_and_then, IsTrue};
-ghost use Rattle.std.specs.Option.{option_copied};
+ghost use Rattle.std.specs.Prelude.{◌≡◌, ◌&&◌, is_some, None, option_and_then, IsTrue};
+ghost use Rattle.std.specs.Option.{option_copied, option_map};
 ghost use Rattle.ipc_terms.specs.Events.{caller};
+ghost use Rattle.ipc_terms.specs.Timed.{plain, deadline};
 ghost use Rattle.ipc_policy.specs.Sessions.{live, cred, mask};
 ghost use Rattle.ipc_policy.specs.Names.{naming, is_bound};
 ghost use Rattle.ipc_policy.specs.Objects.{facts, directory};
+ghost use Rattle.ipc_policy.specs.Bodies.{due};
 ghost use Rattle.ipc_policy.specs.Descriptions.{holds, is_nonblock};
 ghost use Rattle.ipc_policy.specs.Parking.{parked};
 ghost use Rattle.ipc_policy.specs.Registrations.{registered};
-ghost use Rattle.ipc_policy.specs.Rules.{is_some_and, object_held, is_full, is_empty, is_zero, is_greatest};
-ghost use Rattle.ipc_policy.specs.Verdict.{Legal};
+ghost use Rattle.ipc_policy.specs.Rules.{is_some_and, object_held, is_full, is_empty, is_zero, is_greatest, would_park};
+ghost use Rattle.ipc_policy.specs.Timed.{now, is_past};
+ghost use Rattle.ipc_policy.specs.Verdict.{verdict, Legal};
 ghost use Rattle.ipc_state.specs.Agrees.{IsCore};
+ghost use Rattle.ipc_state.specs.OnTime.{ended_call};
 ghost use Rattle.ipc_state.specs.Meetings.{description, by_description, by_name, object_by, object_bound, queue_held, semaphore_held, facts_asked};
 
+use crate::clock::{Clock, deadline_in, due_at};
 use crate::looking::{
     facts_in, given_by, has_registration, has_value, held_in, is_empty_queue, is_full_queue,
     is_live_in, is_nonblock_in, is_parked_in, number_in, number_meant, object_at, object_in,
-    queue_in, row_meant, semaphore_in, user_in,
+    queue_in, receiver_in, row_meant, semaphore_in, sender_in, user_in, waiter_in,
 };
 use crate::states::State;
 use ipc_access::Cred;
@@ -26,7 +31,7 @@ use ipc_policy::{Config, Held, Registration};
 use ipc_queue::Queue;
 use ipc_sem::Sem;
 use ipc_tables::{ObjectRow, Session, Tables};
-use ipc_terms::{Event, Facts, Family, Mode, Object, SEM_VALUE_MAX, Sid, Target};
+use ipc_terms::{Call, Event, Facts, Family, Mode, Object, SEM_VALUE_MAX, Sid, Target};
 use ipc_trail::Trail;
 use std::marker::Model;
 
@@ -37,6 +42,10 @@ pub struct Meant {
     pub held: Option<u64>,
     /// That to which the name is bound that the event names.
     pub bound: Option<u64>,
+    /// The session whose parked call the event ends, if it is accepted.
+    pub ended: Option<Sid>,
+    /// Whether the event parks, if it is accepted.
+    pub parks: bool,
 }
 
 /// An event, and what it meets in a state: who calls, what the description that it names gives, and to what the name that it
@@ -46,6 +55,7 @@ pub struct Lookup<'a> {
     config: &'a Config,
     trail: &'a Trail,
     tables: &'a Tables,
+    clock: &'a Clock,
     event: &'a Event,
     session: Option<Session>,
     row: Option<&'a Row>,
@@ -63,7 +73,7 @@ impl<'a> Model for Lookup<'a> {
 
     ghost view = { λ a. record { config = a.config.now; history = a.trail.now.history; event = a.event.now } };
 
-    ghost invariant = { λ a. IsLookup a.config.now a.trail.now.history a.tables.now a.event.now a.session (option_copied a.row) (option_copied a.given) a.bound (option_copied a.named) };
+    ghost invariant = { λ a. IsLookup a.config.now a.trail.now.history a.tables.now a.clock.now a.event.now a.session (option_copied a.row) (option_copied a.given) a.bound (option_copied a.named) };
 }
 
 impl<'a> Lookup<'a> {
@@ -79,6 +89,7 @@ impl<'a> Lookup<'a> {
             config,
             trail: state.trail(),
             tables,
+            clock: state.clock(),
             event,
             session,
             row,
@@ -153,14 +164,73 @@ impl<'a> Lookup<'a> {
         is_live_in(self.tables.session(sid))
     }
 
-    /// The objects that the event means, by their numbers.
+    /// The objects that the event means, by their numbers, and what it does to the parked calls.
     pub fn meant(&self) -> Meant
         ensures held { result.held ≡ by_description (object_by self.now.history) self.now.event }
         ensures bound { result.bound ≡ by_name (object_bound self.now.history) self.now.event }
+        ensures ended { verdict self.now.config self.now.history self.now.event ≡ None → option_map (λ s. s.0) result.ended ≡ ended_call self.now.config self.now.history (plain self.now.event) }
+        ensures parks { result.parks ≡ would_park self.now.config self.now.history (plain self.now.event) }
     {
         Meant {
             held: number_in(self.row),
             bound: self.bound,
+            ended: self.ended(),
+            parks: self.would_park(),
+        }
+    }
+
+    /// Whether the event has a deadline, and the time has reached it.
+    pub fn is_past(&self) -> bool
+        ensures { result ≡ is_past (now self.now.history) (deadline self.now.event) }
+    {
+        match deadline_in(self.event) {
+            Some(deadline) => deadline <= self.clock.time,
+            None => false,
+        }
+    }
+
+    /// Whether the event, without its deadline, parks, if it is accepted.
+    pub fn would_park(&self) -> bool
+        ensures { result ≡ would_park self.now.config self.now.history (plain self.now.event) }
+    {
+        let Event::Do { call, .. } = self.event else {
+            return false;
+        };
+        match call {
+            Call::MqSend { .. } => self.is_full(),
+            Call::MqReceive { .. } => self.is_empty(),
+            Call::SemWait(_) => self.is_zero(),
+            Call::MqTimedSend { .. } => self.is_full(),
+            Call::MqTimedReceive { .. } => self.is_empty(),
+            Call::SemTimedWait { .. } => self.is_zero(),
+            _ => false,
+        }
+    }
+
+    /// The session whose call a tick of this moment ends, if there is one.
+    pub fn due(&self, moment: u64) -> Option<Sid>
+        ensures { option_map (λ s. s.0) result ≡ due self.now.config self.now.history moment }
+    {
+        due_at(self.clock, moment)
+    }
+
+    /// The session whose parked call the event ends, if it is accepted.
+    pub fn ended(&self) -> Option<Sid>
+        ensures { verdict self.now.config self.now.history self.now.event ≡ None → option_map (λ s. s.0) result ≡ ended_call self.now.config self.now.history (plain self.now.event) }
+    {
+        match self.event {
+            Event::Hello { .. } => None,
+            Event::Do { sid, call } => match call {
+                Call::MqSend { .. } => receiver_in(self.queue()),
+                Call::MqReceive { .. } => sender_in(self.queue()),
+                Call::MqTimedSend { .. } => receiver_in(self.queue()),
+                Call::MqTimedReceive { .. } => sender_in(self.queue()),
+                Call::SemPost(_) => waiter_in(self.semaphore()),
+                Call::Interrupt => Some(*sid),
+                _ => None,
+            },
+            Event::Hangup { sid } => Some(*sid),
+            Event::Tick { moment } => due_at(self.clock, *moment),
         }
     }
 
@@ -194,7 +264,7 @@ impl<'a> Lookup<'a> {
 
     /// Whether the caller holds the description that the event names, and calls by it are refused where they would block.
     pub fn is_nonblock(&self) -> bool
-        ensures { result ≡ (is_some (by_description (holds self.now.history) self.now.event) && is_some_and (λ x. is_nonblock self.now.history (caller self.now.event).0 x.desc.0) (description self.now.event)) }
+        ensures { result ≡ (is_some (by_description (holds self.now.history) self.now.event) && is_some_and (λ x. is_nonblock self.now.history x.desc.0) (description self.now.event)) }
     {
         is_nonblock_in(self.row)
     }

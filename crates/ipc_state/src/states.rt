@@ -1,16 +1,23 @@
 //! The state of a server: what happened so far, and the tables that say the same.
 
-ghost use Rattle.std.specs.Prelude.{◌≡◌, None, [], IfOk, OnOk, OnErr};
+ghost use Rattle.std.specs.Prelude.{◌≡◌, ◌+◌, ◌^◌, ◌<◌, ◌∷◌, length, None, [], IfOk, OnOk, OnErr};
+ghost use Rattle.std.specs.Option.{option_map};
+ghost use Rattle.ipc_terms.specs.Timed.{plain};
+ghost use Rattle.ipc_policy.specs.Bodies.{due};
+ghost use Rattle.ipc_policy.specs.Rules.{would_park};
 ghost use Rattle.ipc_policy.specs.Sessions.{live};
 ghost use Rattle.ipc_policy.specs.Verdict.{verdict, Legal};
 ghost use Rattle.ipc_state.specs.Ranges.{first_bad};
 ghost use Rattle.ipc_state.specs.StateView.{with_event};
 ghost use Rattle.ipc_state.specs.Agrees.{IsCore};
 ghost use Rattle.ipc_state.specs.Meetings.{by_description, by_name, object_by, object_bound};
+ghost use Rattle.ipc_state.specs.OnTime.{ended_call, IsOnTime, IsState};
 
 use crate::accept::change;
+use crate::clock::{Clock, due_at, leave, make_room, push, session_in, tell, timed_call};
 use crate::looking::is_live_in;
 use crate::lookup::Meant;
+use ipc_deadlines::TimedCalls;
 use ipc_policy::Config;
 use ipc_tables::Tables;
 use ipc_terms::{Event, NoMemory, Record, Rule, Sid};
@@ -25,6 +32,7 @@ pub struct State {
     config: Config,
     trail: Trail,
     tables: Tables,
+    clock: Clock,
 }
 
 impl Model for State {
@@ -32,11 +40,11 @@ impl Model for State {
 
     ghost Value = { StateView };
 
-    ghost use Rattle.ipc_state.specs.Agrees.{IsCore};
+    ghost use Rattle.ipc_state.specs.OnTime.{IsState};
 
     ghost view = { λ a. record { config = a.config; history = a.trail.history } };
 
-    ghost invariant = { λ a. IsCore a.config a.trail.history a.tables };
+    ghost invariant = { λ a. IsState a.config a.trail.history a.tables a.clock };
 }
 
 impl State {
@@ -50,6 +58,10 @@ impl State {
             config,
             trail: Trail::new(alloc),
             tables,
+            clock: Clock {
+                time: 0,
+                calls: TimedCalls::new(alloc),
+            },
         })
     }
 
@@ -82,6 +94,20 @@ impl State {
         &self.tables
     }
 
+    /// The clock, which says the same as the history.
+    pub(crate) fn clock(&self) -> &Clock
+        ensures { IsOnTime self.now.config self.now.history result.now }
+    {
+        &self.clock
+    }
+
+    /// The session whose call a tick of this moment ends, if there is one.
+    pub fn due(&self, moment: u64) -> Option<Sid>
+        ensures { option_map (λ s. s.0) result ≡ due self.now.config self.now.history moment }
+    {
+        due_at(&self.clock, moment)
+    }
+
     /// Whether the session is live.
     pub fn is_live(&self, sid: Sid) -> bool
         ensures { result ≡ live self.now.history sid.0 }
@@ -101,13 +127,16 @@ impl State {
         requires verdict { rule ≡ verdict self.old.config self.old.history event }
         requires held { meant.held ≡ by_description (object_by self.old.history) event }
         requires bound { meant.bound ≡ by_name (object_bound self.old.history) event }
+        requires ended { verdict self.old.config self.old.history event ≡ None → option_map (λ s. s.0) meant.ended ≡ ended_call self.old.config self.old.history (plain event) }
+        requires parks { meant.parks ≡ would_park self.old.config self.old.history (plain event) }
         ensures ok { OnOk result (self.new ≡ with_event event self.old) }
         ensures err { OnErr result (self.new ≡ self.old) }
     {
         self.trail.reserve_one()?;
-        change(
+        step(
             alloc,
             &mut self.tables,
+            &mut self.clock,
             &self.config,
             &self.trail,
             &event,
@@ -117,4 +146,40 @@ impl State {
         self.trail.push_reserved(Record { event, rule });
         Ok(())
     }
+}
+
+/// Brings the tables and the clock up to date with an event after this past, on which this is the verdict. An `Err`
+/// leaves them the history's.
+fn step(
+    alloc: Global,
+    tables: &mut Tables,
+    clock: &mut Clock,
+    config: &Config,
+    past: &Trail,
+    event: &Event,
+    rule: Option<Rule>,
+    meant: Meant,
+) -> Result<(), NoMemory>
+    requires state { IsState config.now past.now.history tables.old clock.old }
+    requires verdict { rule ≡ verdict config.now past.now.history event.now }
+    requires held { meant.held ≡ by_description (object_by past.now.history) event.now }
+    requires bound { meant.bound ≡ by_name (object_bound past.now.history) event.now }
+    requires ended { verdict config.now past.now.history event.now ≡ None → option_map (λ s. s.0) meant.ended ≡ ended_call config.now past.now.history (plain event.now) }
+    requires parks { meant.parks ≡ would_park config.now past.now.history (plain event.now) }
+    requires room { length past.now.history + 1 < 2 ^ 63 }
+    ensures ok { OnOk result (IsState config.now (record { event = event.now; rule = rule } ∷ past.now.history) tables.new clock.new) }
+    ensures err { OnErr result (IsState config.now past.now.history tables.new clock.new) }
+{
+    make_room(clock, event)?;
+    let call = timed_call(past, event, rule, meant.parks);
+    push(clock, alloc, call)?;
+    if let Err(full) = change(alloc, tables, config, past, event, rule, meant) {
+        leave(clock, session_in(call));
+        return Err(full);
+    }
+    if rule.is_none() {
+        leave(clock, meant.ended);
+        tell(clock, event);
+    }
+    Ok(())
 }

@@ -17,7 +17,7 @@ use Rattle.ipc_queue.specs.declared.queue.ParkedSend.{ParkedSend}
 use Rattle.ipc_queue.specs.Tickets.{Tickets, is_full_of, with_sender, with_ticket, sent, sent_to, received, received_by, admitted, withdrawn, without_registration, with_registration, next_ticket, without_next}
 use Rattle.ipc_sem.specs.Counters.{Counter}
 use Rattle.ipc_descr.specs.declared.row.Row.{Row}
-use Rattle.ipc_descr.specs.Descriptions.{is_desc, is_to, is_open, with_nonblock}
+use Rattle.ipc_descr.specs.Descriptions.{is_desc, is_to, is_open, with_nonblock, with_session}
 use Rattle.ipc_numbered.specs.Slots.{at as slot_at}
 use Rattle.ipc_tables.specs.declared.objects.Objects.{Objects}
 use Rattle.ipc_tables.specs.declared.rows.Body.{Body}
@@ -246,33 +246,46 @@ pub record Wider (rows more : List Row) : Type 0 where
 pub wider_opened : (rows : List Row) (row : Row) → Wider rows (rows ++ row ∷ [])
 wider_opened rows row = record { opens = λ o e. any_more (is_to o) rows row e; gives = λ d o e. found_more (λ r. r.object) (is_desc d) rows row o e }
 
--- a description that is set gives what it gave
-open_by_test : (d o : ℕ) (to : Bool) (row : Row) (rows : List Row) (b : Bool) → is_open (changed_first (is_desc d) (with_nonblock to) rows) o ≡ is_open rows o → list_any (is_to o) (cond b (with_nonblock to row ∷ rows) (row ∷ changed_first (is_desc d) (with_nonblock to) rows)) ≡ is_open (row ∷ rows) o
-open_by_test d o to row rows true rest = refl
-open_by_test d o to row rows false rest = ap (λ c. is_to o row || c) rest
+-- a change that leaves a row its description and its object
+pub record Same (change : Row → Row) : Type 0 where
+  pub desc : (row : Row) → (change row).desc ≡ row.desc
+  pub object : (row : Row) → (change row).object ≡ row.object
 
-open_set : (d o : ℕ) (to : Bool) (rows : List Row) → is_open (changed_first (is_desc d) (with_nonblock to) rows) o ≡ is_open rows o
-open_set d o to [] = refl
-open_set d o to (row ∷ rows) = open_by_test d o to row rows (is_desc d row) (open_set d o to rows)
+-- a description that changes so gives what it gave
+open_by_test : (d o : ℕ) (change : Row → Row) → Same change → (row : Row) (rows : List Row) (b : Bool) → is_open (changed_first (is_desc d) change rows) o ≡ is_open rows o → list_any (is_to o) (cond b (change row ∷ rows) (row ∷ changed_first (is_desc d) change rows)) ≡ is_open (row ∷ rows) o
+open_by_test d o change same row rows true rest = ap (λ n. (n == o) || is_open rows o) (same.object row)
+open_by_test d o change same row rows false rest = ap (λ c. is_to o row || c) rest
 
-gives_same : (to c : Bool) (row : Row) (found : Option Row) → option_map (λ r. r.object) (cond c (Some (with_nonblock to row)) found) ≡ option_map (λ r. r.object) (cond c (Some row) found)
-gives_same to true row found = refl
-gives_same to false row found = refl
+open_set : (d o : ℕ) (change : Row → Row) → Same change → (rows : List Row) → is_open (changed_first (is_desc d) change rows) o ≡ is_open rows o
+open_set d o change same [] = refl
+open_set d o change same (row ∷ rows) = open_by_test d o change same row rows (is_desc d row) (open_set d o change same rows)
+
+gives_same : (change : Row → Row) → Same change → (e : ℕ) (row : Row) (found : Option Row) → option_map (λ r. r.object) (cond (is_desc e (change row)) (Some (change row)) found) ≡ option_map (λ r. r.object) (cond (is_desc e row) (Some row) found)
+gives_same change same e row found = ap (λ (n : Desc). option_map (λ (r : Row). r.object) (cond (e == n.0) (Some (change row)) found)) (same.desc row) ∙ at (is_desc e row) where
+  at : (c : Bool) → option_map (λ (r : Row). r.object) (cond c (Some (change row)) found) ≡ option_map (λ (r : Row). r.object) (cond c (Some row) found)
+  at true = ap Some (same.object row)
+  at false = refl
 
 gives_other : (c : Bool) (row : Row) (found found' : Option Row) → option_map (λ r. r.object) found' ≡ option_map (λ r. r.object) found → option_map (λ r. r.object) (cond c (Some row) found') ≡ option_map (λ r. r.object) (cond c (Some row) found)
 gives_other true row found found' e = refl
 gives_other false row found found' e = e
 
-gives_by_test : (d e : ℕ) (to : Bool) (row : Row) (rows : List Row) (b : Bool) → option_map (λ r. r.object) (find (is_desc e) (changed_first (is_desc d) (with_nonblock to) rows)) ≡ option_map (λ r. r.object) (find (is_desc e) rows) → option_map (λ r. r.object) (find (is_desc e) (cond b (with_nonblock to row ∷ rows) (row ∷ changed_first (is_desc d) (with_nonblock to) rows))) ≡ option_map (λ r. r.object) (find (is_desc e) (row ∷ rows))
-gives_by_test d e to row rows true rest = gives_same to (is_desc e row) row (find (is_desc e) rows)
-gives_by_test d e to row rows false rest = gives_other (is_desc e row) row (find (is_desc e) rows) (find (is_desc e) (changed_first (is_desc d) (with_nonblock to) rows)) rest
+gives_by_test : (d e : ℕ) (change : Row → Row) → Same change → (row : Row) (rows : List Row) (b : Bool) → option_map (λ r. r.object) (find (is_desc e) (changed_first (is_desc d) change rows)) ≡ option_map (λ r. r.object) (find (is_desc e) rows) → option_map (λ r. r.object) (find (is_desc e) (cond b (change row ∷ rows) (row ∷ changed_first (is_desc d) change rows))) ≡ option_map (λ r. r.object) (find (is_desc e) (row ∷ rows))
+gives_by_test d e change same row rows true rest = gives_same change same e row (find (is_desc e) rows)
+gives_by_test d e change same row rows false rest = gives_other (is_desc e row) row (find (is_desc e) rows) (find (is_desc e) (changed_first (is_desc d) change rows)) rest
 
-gives_set : (d e : ℕ) (to : Bool) (rows : List Row) → option_map (λ r. r.object) (find (is_desc e) (changed_first (is_desc d) (with_nonblock to) rows)) ≡ option_map (λ r. r.object) (find (is_desc e) rows)
-gives_set d e to [] = refl
-gives_set d e to (row ∷ rows) = gives_by_test d e to row rows (is_desc d row) (gives_set d e to rows)
+gives_set : (d e : ℕ) (change : Row → Row) → Same change → (rows : List Row) → option_map (λ r. r.object) (find (is_desc e) (changed_first (is_desc d) change rows)) ≡ option_map (λ r. r.object) (find (is_desc e) rows)
+gives_set d e change same [] = refl
+gives_set d e change same (row ∷ rows) = gives_by_test d e change same row rows (is_desc d row) (gives_set d e change same rows)
+
+wider_changed : (d : ℕ) (change : Row → Row) → Same change → (rows : List Row) → Wider rows (changed_first (is_desc d) change rows)
+wider_changed d change same rows = record { opens = λ o e. open_set d o change same rows ∙ e; gives = λ e o k. gives_set d e change same rows ∙ k }
 
 pub wider_set : (d : ℕ) (to : Bool) (rows : List Row) → Wider rows (changed_first (is_desc d) (with_nonblock to) rows)
-wider_set d to rows = record { opens = λ o e. open_set d o to rows ∙ e; gives = λ e o k. gives_set d e to rows ∙ k }
+wider_set d to rows = wider_changed d (with_nonblock to) (record { desc = λ row. refl; object = λ row. refl }) rows
+
+pub wider_passed : (d : ℕ) (taker : Sid) (rows : List Row) → Wider rows (changed_first (is_desc d) (with_session taker) rows)
+wider_passed d taker rows = wider_changed d (with_session taker) (record { desc = λ row. refl; object = λ row. refl }) rows
 
 alive_by : (a b c d : Bool) → (c ≡ true → d ≡ true) → (a || b || c) ≡ true → (a || b || d) ≡ true
 alive_by true b c d f e = refl

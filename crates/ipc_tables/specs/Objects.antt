@@ -6,8 +6,8 @@ use Rattle.ipc_terms.specs.declared.object.Kind.{Kind}
 use Rattle.ipc_terms.specs.declared.object.Kind.TheVariants.{Queue as QueueKind, Semaphore as SemaphoreKind}
 use Rattle.ipc_terms.specs.declared.object.TheConstants.{SEM_VALUE_MAX}
 use Rattle.ipc_terms.specs.declared.object.Object.{Object}
+use Rattle.ipc_terms.specs.Objects.{queue_bytes}
 use Rattle.ipc_terms.specs.declared.ids.Sid.{Sid}
-use Rattle.ipc_descr.specs.Charges.{bytes_of}
 use Rattle.ipc_terms.specs.declared.ids.Desc.{Desc}
 use Rattle.ipc_descr.specs.declared.row.Row.{Row}
 use Rattle.ipc_descr.specs.Descriptions.{is_desc}
@@ -49,7 +49,7 @@ without_call who (SemaphoreBody semaphore) = SemaphoreBody (withdrawn_wait who s
 
 -- the bytes that an object takes: those of a queue
 abbrev pub bytes_taken : Kind → ℕ
-bytes_taken (QueueKind attributes) = bytes_of attributes.maxmsg attributes.msgsize
+bytes_taken (QueueKind attributes) = queue_bytes attributes.maxmsg attributes.msgsize
 bytes_taken (SemaphoreKind value) = 0
 
 -- what stands in a new object

@@ -15,7 +15,7 @@ use Rattle.ipc_names.specs.Directory.{Directory, first_directory, without_name}
 use Rattle.ipc_descr.specs.declared.row.Row.{Row}
 use Rattle.ipc_access.specs.declared.users.User.{User}
 use Rattle.ipc_descr.specs.Charges.{uncharged, with_limit}
-use Rattle.ipc_descr.specs.Descriptions.{with_open, is_desc, without_desc, without_session, with_nonblock}
+use Rattle.ipc_descr.specs.Descriptions.{with_open, is_desc, without_desc, without_session, with_nonblock, with_session}
 use Rattle.ipc_queue.specs.declared.queue.Ticket.{Ticket}
 use Rattle.ipc_queue.specs.declared.queue.SendOutcome.{SendOutcome}
 use Rattle.ipc_queue.specs.declared.queue.SendOutcome.TheVariants.{HandedTo, Parked as SendParks}
@@ -207,6 +207,10 @@ after_hangup t sid = ended (after_withdrawal t sid) sid.0
 
 abbrev pub after_setattr : TablesView → ℕ → Bool → TablesView
 after_setattr t d nonblock = record t { descriptions = record t.descriptions { rows = changed_first (is_desc d) (with_nonblock nonblock) t.descriptions.rows } }
+
+-- a description passes to another session
+abbrev pub after_hand_over : TablesView → ℕ → Sid → TablesView
+after_hand_over t d taker = record t { descriptions = record t.descriptions { rows = changed_first (is_desc d) (with_session taker) t.descriptions.rows } }
 
 -- an object has this owner, group and mode, or the directory of a family has them
 abbrev pub after_facts : TablesView → Owned → Facts → TablesView

@@ -10,7 +10,7 @@ ghost use Rattle.ipc_tables.specs.Standing.{rows_in, IsCounted, OthersKept, Othe
 use crate::rows::ObjectRow;
 use ipc_descr::{Charges, Descrs, bytes_of};
 use ipc_names::NameDir;
-use ipc_numbered::Numbered;
+use ipc_numbered::NumberedBoxes;
 use ipc_queue::Queue;
 use ipc_sem::Sem;
 use ipc_terms::Kind;
@@ -18,7 +18,7 @@ use ipc_terms::Kind;
 /// The objects that are alive, by their numbers, and what their creators are charged with.
 #[derive(Drop)]
 pub struct Objects {
-    pub rows: Numbered<ObjectRow>,
+    pub rows: NumberedBoxes<ObjectRow>,
     /// How many of those that are alive are queues.
     pub queue_count: usize,
     /// How many bytes each user's queues take, and how many they may.

@@ -10,7 +10,7 @@ ghost use Rattle.ipc_tables.specs.Charging.{Covered, Affords};
 ghost use Rattle.ipc_tables.specs.Objects.{HasRoom, is_queue, row_at, queue_at, semaphore_at};
 ghost use Rattle.ipc_sem.specs.Counters.{overflows};
 ghost use Rattle.ipc_tables.specs.TablesView.{TablesView, directory_kept};
-ghost use Rattle.ipc_tables.specs.Steps.{with_object, with_binding, without_binding, after_post, after_wait, after_try, after_hello, after_umask, after_found, after_created, after_close, after_unlink, after_hangup, after_send, after_receive, after_withdrawal, after_setattr, after_facts, after_limit, after_notify, first_tables};
+ghost use Rattle.ipc_tables.specs.Steps.{with_object, with_binding, without_binding, after_post, after_wait, after_try, after_hello, after_umask, after_found, after_created, after_close, after_unlink, after_hangup, after_send, after_receive, after_withdrawal, after_setattr, after_hand_over, after_facts, after_limit, after_notify, first_tables};
 
 use crate::objects::{Objects, bytes_taken};
 use crate::rows::{Body, ObjectRow, Session};
@@ -18,7 +18,7 @@ use crate::sessions::Sessions;
 use ipc_access::Users;
 use ipc_descr::{Charges, Descrs};
 use ipc_names::NameDir;
-use ipc_numbered::Numbered;
+use ipc_numbered::NumberedBoxes;
 use ipc_queue::{Queue, ReceiveOutcome, SendOutcome};
 use ipc_sem::{Sem, WaitOutcome};
 use ipc_terms::{Access, Desc, Facts, Family, Kind, Mode, Name, NoMemory, Object, Sid, Uid};
@@ -74,7 +74,7 @@ impl Tables {
             queues: NameDir::new(alloc, Family::Mq),
             semaphores: NameDir::new(alloc, Family::Sem),
             objects: Objects {
-                rows: Numbered::new(alloc),
+                rows: NumberedBoxes::new(alloc),
                 queue_count: 0,
                 charges,
             },
@@ -227,12 +227,12 @@ impl Tables {
             bytes,
             body: Body::new(alloc, object.kind),
         };
-        self.objects.rows.push(alloc, row)?;
+        self.objects.rows.push(row)?;
         let opened = self
             .descriptions
             .open(grant.session, number, grant.access, grant.nonblock);
         if opened.is_err() {
-            self.objects.rows.truncate(number as usize);
+            self.objects.rows.undo_push();
             return Err(NoMemory);
         }
         let objects = &mut self.objects;
@@ -397,6 +397,16 @@ impl Tables {
         ensures { self.new ≡ after_setattr self.old desc.0 nonblock }
     {
         self.descriptions.set_nonblock(sid, desc, nonblock);
+    }
+
+    /// Passes the description on to another session. Its registration stays. An `Err` changes nothing.
+    pub fn hand_over(&mut self, sid: Sid, desc: Desc, taker: Sid) -> Result<(), NoMemory>
+        requires { IsSome (row_of self.old.descriptions.rows sid.0 desc.0) }
+        ensures ok { OnOk result (self.new ≡ after_hand_over self.old desc.0 taker) }
+        ensures err { OnErr result (self.new ≡ self.old) }
+    {
+        self.descriptions.hand_over(sid, desc, taker)?;
+        Ok(())
     }
 
     /// Sets how many bytes the user's queues may take, if it is a user.

@@ -1,7 +1,7 @@
 -- A history is a list of records, the newest first. What came before a record is the list behind it, and
 -- the record's place is how many records came before it.
 use Rattle.std.specs.Prelude.{ℕ, ◌==◌, List, [], ◌∷◌, length, Option, Some, None, if◌then◌else◌, option_and_then}
-use Rattle.ipc_terms.specs.declared.call.Call.TheVariants.{MqSend}
+use Rattle.ipc_terms.specs.declared.call.Call.TheVariants.{MqSend, MqTimedSend}
 use Rattle.ipc_terms.specs.declared.record.Event.{Event}
 use Rattle.ipc_terms.specs.declared.record.Event.TheVariants.{Do}
 use Rattle.ipc_terms.specs.declared.record.Record.{Record}
@@ -22,6 +22,7 @@ pub record Message : Type 0 where
 -- the message that an event sends, if it is a send
 abbrev pub message_of : Event → Option Message
 message_of (Do sid (MqSend desc priority bytes)) = Some (record { priority = priority; bytes = bytes })
+message_of (Do sid (MqTimedSend desc priority deadline bytes)) = Some (record { priority = priority; bytes = bytes })
 message_of _ = None
 
 -- the message of the send at a place, accepted or refused; none where no send stands

@@ -4,7 +4,7 @@ use Rattle.std.specs.Cmp.Lexicographic.{pointwise}
 use Rattle.std.specs.Ordering.{on, eq_of_both}
 use Rattle.ipc_terms.specs.Rules.{number_of}
 use Rattle.ipc_terms.specs.Events.{caller}
-use Rattle.ipc_terms.specs.Ops.{hello_number, hang_up_number, call_number, call_op}
+use Rattle.ipc_terms.specs.Ops.{hello_number, hang_up_number, tick_number, call_number, call_op}
 use Rattle.ipc_terms.specs.History.{History}
 use Rattle.ipc_terms.specs.declared.ids.Target.TheVariants.{Name}
 use Rattle.ipc_terms.specs.declared.line.Line.{Line}
@@ -12,7 +12,7 @@ use Rattle.ipc_terms.specs.declared.rule.Rule.{Rule}
 use Rattle.ipc_terms.specs.declared.call.Call.{Call}
 use Rattle.ipc_terms.specs.declared.call.Call.TheVariants.{MqOpen, MqUnlink, SemOpen, SemUnlink, StatName, Chmod, Chown}
 use Rattle.ipc_terms.specs.declared.record.Event.{Event}
-use Rattle.ipc_terms.specs.declared.record.Event.TheVariants.{Hello, Do, Hangup}
+use Rattle.ipc_terms.specs.declared.record.Event.TheVariants.{Hello, Do, Hangup, Tick}
 use Rattle.ipc_terms.specs.declared.record.Record.{Record}
 
 -- the number of a call, as its frames carry it
@@ -24,6 +24,7 @@ abbrev pub event_op : Event → ℕ
 event_op (Hello found) = hello_number
 event_op (Do sid call) = op_of call
 event_op (Hangup sid) = hang_up_number
+event_op (Tick moment) = tick_number
 
 -- the name that a call names, if it names one
 abbrev pub name_of : Call → Option (List ℕ)

@@ -1,8 +1,9 @@
 -- What an object is, by its family.
-use Rattle.std.specs.Prelude.{ℕ, Option, Some, None, option_and_then}
+use Rattle.std.specs.Prelude.{ℕ, ◌+◌, ◌*◌, min, Option, Some, None, option_and_then}
 use Rattle.ipc_terms.specs.declared.ids.Family.{Family}
 use Rattle.ipc_terms.specs.declared.ids.Family.TheVariants.{Mq, Sem}
 use Rattle.ipc_terms.specs.declared.call.Attributes.{Attributes}
+use Rattle.ipc_terms.specs.declared.limits.TheConstants.{MQ_PRIO_MAX}
 use Rattle.ipc_terms.specs.declared.object.Object.{Object}
 use Rattle.ipc_terms.specs.declared.object.Kind.{Kind}
 use Rattle.ipc_terms.specs.declared.object.Kind.TheVariants.{Queue, Semaphore}
@@ -41,3 +42,8 @@ attributes_asked (AskedSemaphore value) = None
 abbrev pub value_asked : Asked → Option ℕ
 value_asked (AskedQueue given) = None
 value_asked (AskedSemaphore value) = Some value
+
+-- the bytes that a queue of so many messages of so many bytes takes: 48 for each message, 48 for each priority that its
+-- messages can have, and the messages' own
+abbrev pub queue_bytes : ℕ → ℕ → ℕ
+queue_bytes maxmsg msgsize = maxmsg * 48 + min maxmsg MQ_PRIO_MAX * 48 + maxmsg * msgsize

@@ -9,12 +9,15 @@ use Rattle.ipc_terms.specs.declared.op.CallOp.TheVariants as asks
 use Rattle.ipc_terms.specs.declared.op.AnswerOp.{AnswerOp}
 use Rattle.ipc_terms.specs.declared.op.AnswerOp.TheVariants as says
 
--- the number of a hello, and of a hang-up
+-- the number of a hello, of a hang-up, and of a tick
 abbrev pub hello_number : ℕ
 hello_number = 1
 
 abbrev pub hang_up_number : ℕ
 hang_up_number = 25
+
+abbrev pub tick_number : ℕ
+tick_number = 29
 
 -- the number of each call
 abbrev pub call_number : CallOp → ℕ
@@ -41,10 +44,14 @@ call_number asks.Chown = 21
 call_number asks.SetLimit = 22
 call_number asks.Interrupt = 23
 call_number asks.Audit = 24
+call_number asks.MqTimedSend = 26
+call_number asks.MqTimedReceive = 27
+call_number asks.SemTimedWait = 28
+call_number asks.MqGive = 30
 
 -- every call, in the order of their numbers
 abbrev pub every_call : List CallOp
-every_call = asks.Umask ∷ asks.MqOpen ∷ asks.MqClose ∷ asks.MqUnlink ∷ asks.MqSend ∷ asks.MqReceive ∷ asks.MqGetattr ∷ asks.MqSetattr ∷ asks.MqNotify ∷ asks.SemOpen ∷ asks.SemClose ∷ asks.SemUnlink ∷ asks.SemPost ∷ asks.SemWait ∷ asks.SemTryWait ∷ asks.SemGetvalue ∷ asks.ListNames ∷ asks.StatName ∷ asks.Chmod ∷ asks.Chown ∷ asks.SetLimit ∷ asks.Interrupt ∷ asks.Audit ∷ []
+every_call = asks.Umask ∷ asks.MqOpen ∷ asks.MqClose ∷ asks.MqUnlink ∷ asks.MqSend ∷ asks.MqReceive ∷ asks.MqGetattr ∷ asks.MqSetattr ∷ asks.MqNotify ∷ asks.SemOpen ∷ asks.SemClose ∷ asks.SemUnlink ∷ asks.SemPost ∷ asks.SemWait ∷ asks.SemTryWait ∷ asks.SemGetvalue ∷ asks.ListNames ∷ asks.StatName ∷ asks.Chmod ∷ asks.Chown ∷ asks.SetLimit ∷ asks.Interrupt ∷ asks.Audit ∷ asks.MqTimedSend ∷ asks.MqTimedReceive ∷ asks.SemTimedWait ∷ asks.MqGive ∷ []
 
 -- the call of this number, if there is one
 unfoldable pub call_of_number : ℕ → Option CallOp
@@ -61,6 +68,7 @@ call_op (call.MqReceive desc size) = asks.MqReceive
 call_op (call.MqGetattr desc) = asks.MqGetattr
 call_op (call.MqSetattr desc nonblock) = asks.MqSetattr
 call_op (call.MqNotify desc on) = asks.MqNotify
+call_op (call.MqGive desc taker) = asks.MqGive
 call_op (call.SemOpen asked) = asks.SemOpen
 call_op (call.SemClose desc) = asks.SemClose
 call_op (call.SemUnlink name) = asks.SemUnlink
@@ -75,6 +83,9 @@ call_op (call.Chown owner group target) = asks.Chown
 call_op (call.SetLimit uid bytes) = asks.SetLimit
 call_op call.Interrupt = asks.Interrupt
 call_op (call.Audit start count) = asks.Audit
+call_op (call.MqTimedSend desc priority deadline bytes) = asks.MqTimedSend
+call_op (call.MqTimedReceive desc size deadline) = asks.MqTimedReceive
+call_op (call.SemTimedWait desc deadline) = asks.SemTimedWait
 
 -- the number of each answer
 abbrev pub answer_number : AnswerOp → ℕ
@@ -92,10 +103,11 @@ answer_number says.Records = 75
 answer_number says.Refused = 76
 answer_number says.Interrupted = 77
 answer_number says.Notice = 78
+answer_number says.Taken = 79
 
 -- every answer, in the order of their numbers
 abbrev pub every_answer : List AnswerOp
-every_answer = says.Started ∷ says.Done ∷ says.Opened ∷ says.Mask ∷ says.Attrs ∷ says.Sent ∷ says.Received ∷ says.Value ∷ says.Names ∷ says.Stat ∷ says.Records ∷ says.Refused ∷ says.Interrupted ∷ says.Notice ∷ []
+every_answer = says.Started ∷ says.Done ∷ says.Opened ∷ says.Mask ∷ says.Attrs ∷ says.Sent ∷ says.Received ∷ says.Value ∷ says.Names ∷ says.Stat ∷ says.Records ∷ says.Refused ∷ says.Interrupted ∷ says.Notice ∷ says.Taken ∷ []
 
 -- the answer of this number, if there is one
 unfoldable pub answer_of_number : ℕ → Option AnswerOp
@@ -117,3 +129,4 @@ answer_op (answer.Records lines) = says.Records
 answer_op (answer.Refused rule) = says.Refused
 answer_op answer.Interrupted = says.Interrupted
 answer_op (answer.Notice desc) = says.Notice
+answer_op (answer.Taken desc) = says.Taken

@@ -85,6 +85,12 @@ pub enum Call {
         desc: Desc,
         on: bool,
     },
+    /// Passes a queue's description on to another live session, which then has it with its object, its access and its
+    /// NONBLOCK. Its registration for a notice is dropped.
+    MqGive {
+        desc: Desc,
+        taker: Sid,
+    },
     /// Leaves a queue's name unbound at once. The queue lives until its last description is closed
     /// (POSIX.1-2017, `mq_unlink`).
     MqUnlink(Name),
@@ -141,6 +147,24 @@ pub enum Call {
     /// Ends the session's call that is parked: that call is answered that it was interrupted, and has no
     /// other effect (POSIX.1-2017, `EINTR`).
     Interrupt,
+    /// A send that waits no longer than to this moment, in milliseconds (POSIX.1-2017, `mq_timedsend`).
+    MqTimedSend {
+        desc: Desc,
+        priority: u32,
+        deadline: u64,
+        bytes: Bytes,
+    },
+    /// A receive that waits no longer than to this moment (POSIX.1-2017, `mq_timedreceive`).
+    MqTimedReceive {
+        desc: Desc,
+        length: u32,
+        deadline: u64,
+    },
+    /// A wait for a semaphore, no longer than to this moment (POSIX.1-2017, `sem_timedwait`).
+    SemTimedWait {
+        desc: Desc,
+        deadline: u64,
+    },
 }
 
 impl Call {
@@ -158,6 +182,7 @@ impl Call {
             Call::MqGetattr(..) => CallOp::MqGetattr,
             Call::MqSetattr { .. } => CallOp::MqSetattr,
             Call::MqNotify { .. } => CallOp::MqNotify,
+            Call::MqGive { .. } => CallOp::MqGive,
             Call::SemOpen(..) => CallOp::SemOpen,
             Call::SemClose(..) => CallOp::SemClose,
             Call::SemUnlink(..) => CallOp::SemUnlink,
@@ -172,6 +197,9 @@ impl Call {
             Call::SetLimit { .. } => CallOp::SetLimit,
             Call::Interrupt => CallOp::Interrupt,
             Call::Audit { .. } => CallOp::Audit,
+            Call::MqTimedSend { .. } => CallOp::MqTimedSend,
+            Call::MqTimedReceive { .. } => CallOp::MqTimedReceive,
+            Call::SemTimedWait { .. } => CallOp::SemTimedWait,
         }
     }
 
@@ -233,6 +261,8 @@ pub enum Answer {
     /// To no call: a message came to the empty queue for which a notice was asked by this description
     /// (POSIX.1-2017, `mq_notify`).
     Notice(Desc),
+    /// To no call: another session passed this description on to the session.
+    Taken(Desc),
     /// To anything: the rule of the lowest number that forbids it.
     Refused(Rule),
     /// To a call that was parked: an interrupt ended it (POSIX.1-2017, `EINTR`).
@@ -259,6 +289,7 @@ impl Answer {
             Answer::Refused(..) => AnswerOp::Refused,
             Answer::Interrupted => AnswerOp::Interrupted,
             Answer::Notice(..) => AnswerOp::Notice,
+            Answer::Taken(..) => AnswerOp::Taken,
         }
     }
 }

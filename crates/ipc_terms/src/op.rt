@@ -9,6 +9,9 @@ pub const HELLO_NUMBER: u8 = 1;
 /// The number of a hang-up.
 pub const HANG_UP_NUMBER: u8 = 25;
 
+/// The number of a tick.
+pub const TICK_NUMBER: u8 = 29;
+
 /// Which call it is, apart from what it is given.
 #[derive(Clone, Copy, PartialEq, Eq)]
 pub enum CallOp {
@@ -35,10 +38,14 @@ pub enum CallOp {
     SetLimit = 22,
     Interrupt = 23,
     Audit = 24,
+    MqTimedSend = 26,
+    MqTimedReceive = 27,
+    SemTimedWait = 28,
+    MqGive = 30,
 }
 
 /// Every call, in the order of their numbers.
-pub const EVERY_CALL: [CallOp; 23] = [
+pub const EVERY_CALL: [CallOp; 27] = [
     CallOp::Umask,
     CallOp::MqOpen,
     CallOp::MqClose,
@@ -62,6 +69,10 @@ pub const EVERY_CALL: [CallOp; 23] = [
     CallOp::SetLimit,
     CallOp::Interrupt,
     CallOp::Audit,
+    CallOp::MqTimedSend,
+    CallOp::MqTimedReceive,
+    CallOp::SemTimedWait,
+    CallOp::MqGive,
 ];
 
 impl CallOp {
@@ -98,10 +109,11 @@ pub enum AnswerOp {
     Refused = 76,
     Interrupted = 77,
     Notice = 78,
+    Taken = 79,
 }
 
 /// Every answer, in the order of their numbers.
-pub const EVERY_ANSWER: [AnswerOp; 14] = [
+pub const EVERY_ANSWER: [AnswerOp; 15] = [
     AnswerOp::Started,
     AnswerOp::Done,
     AnswerOp::Opened,
@@ -116,6 +128,7 @@ pub const EVERY_ANSWER: [AnswerOp; 14] = [
     AnswerOp::Refused,
     AnswerOp::Interrupted,
     AnswerOp::Notice,
+    AnswerOp::Taken,
 ];
 
 impl AnswerOp {

@@ -9,7 +9,7 @@ use crate::call::Call;
 use crate::errors::NoMemory;
 use crate::ids::{Sid, Uid};
 use crate::name::Name;
-use crate::op::{HANG_UP_NUMBER, HELLO_NUMBER};
+use crate::op::{HANG_UP_NUMBER, HELLO_NUMBER, TICK_NUMBER};
 use crate::rule::Rule;
 
 /// One step of the server.
@@ -21,6 +21,8 @@ pub enum Event {
     Do { sid: Sid, call: Call },
     /// A session hung up. It has no answer if it is accepted.
     Hangup { sid: Sid },
+    /// The clock tells a moment, in milliseconds. The earliest parked call whose deadline has passed ends.
+    Tick { moment: u64 },
 }
 
 impl Event {
@@ -31,17 +33,17 @@ impl Event {
         Ok(self.clone()?)
     }
 
-    /// The session that the event names; a hello names nobody.
+    /// The session that the event names; a hello and a tick name nobody.
     pub fn caller(&self) -> Sid
         ensures { result ≡ caller self.now }
     {
         match self {
-            Event::Hello { .. } => Sid::NOBODY,
+            Event::Hello { .. } | Event::Tick { .. } => Sid::NOBODY,
             Event::Do { sid, .. } | Event::Hangup { sid } => *sid,
         }
     }
 
-    /// The number of the call, or that of a hello or of a hang-up.
+    /// The number of the call, or that of a hello, a hang-up or a tick.
     pub fn op(&self) -> u8
         ensures { result ≡ event_op self.now }
     {
@@ -49,6 +51,7 @@ impl Event {
             Event::Hello { .. } => HELLO_NUMBER,
             Event::Do { call, .. } => call.op().number(),
             Event::Hangup { .. } => HANG_UP_NUMBER,
+            Event::Tick { .. } => TICK_NUMBER,
         }
     }
 

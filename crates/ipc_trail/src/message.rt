@@ -13,7 +13,7 @@ pub(crate) fn bytes_of(event: &Event) -> &Bytes
 {
     match event {
         Event::Do {
-            call: Call::MqSend { bytes, .. },
+            call: Call::MqSend { bytes, .. } | Call::MqTimedSend { bytes, .. },
             ..
         } => bytes,
         _ => unreachable!(),
@@ -27,7 +27,7 @@ pub(crate) fn priority_of(event: &Event) -> u32
 {
     match event {
         Event::Do {
-            call: Call::MqSend { priority, .. },
+            call: Call::MqSend { priority, .. } | Call::MqTimedSend { priority, .. },
             ..
         } => *priority,
         _ => unreachable!(),

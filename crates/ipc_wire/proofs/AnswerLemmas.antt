@@ -61,6 +61,8 @@ rule_again rule.NotifyTaken p = (refl, refl)
 rule_again rule.WouldBlock p = (refl, refl)
 rule_again rule.Overflow p = (refl, refl)
 rule_again rule.BadKey p = (refl, refl)
+rule_again rule.TimedOut p = (refl, refl)
+rule_again rule.NoTaker p = (refl, refl)
 
 rule_exact : IsExact rule_field
 unfolding rule_field
@@ -116,6 +118,7 @@ fields_take op.Records = takes_by answers op.Records (only (counted line_field))
 fields_take op.Refused = takes_by answers op.Refused (only rule_field) refused_body (λ rule. answer.Refused rule) (λ x. refl) (λ x. refl) (λ x. refl)
 fields_take op.Interrupted = takes_by answers op.Interrupted nothing nothing_exact (λ u. answer.Interrupted) (λ x. refl) (λ x. refl) (λ x. refl)
 fields_take op.Notice = takes_by answers op.Notice (only desc_field) opened_body (λ desc. answer.Notice desc) (λ x. refl) (λ x. refl) (λ x. refl)
+fields_take op.Taken = takes_by answers op.Taken (only desc_field) opened_body (λ desc. answer.Taken desc) (λ x. refl) (λ x. refl) (λ x. refl)
 
 fields_again : (a : Answer) (w : List ℕ) → answer_fits a ≡ true → answer_fields a ≡ Some w → answer_fields_at (answer_op a) w ≡ Ok a
 unfolding answer_fields_at answer_with
@@ -133,6 +136,7 @@ fields_again (answer.Records lines) = again_by (only (counted line_field)) recor
 fields_again (answer.Refused rule) = again_by (only rule_field) refused_body (λ rule. answer.Refused rule) rule
 fields_again answer.Interrupted = again_by nothing nothing_exact (λ u. answer.Interrupted) tt
 fields_again (answer.Notice desc) = again_by (only desc_field) opened_body (λ desc. answer.Notice desc) desc
+fields_again (answer.Taken desc) = again_by (only desc_field) opened_body (λ desc. answer.Taken desc) desc
 
 codes : (o : AnswerOp) → answer_of_number (answer_number o) ≡ Some o
 unfolding answer_of_number
@@ -150,6 +154,7 @@ codes op.Records = refl
 codes op.Refused = refl
 codes op.Interrupted = refl
 codes op.Notice = refl
+codes op.Taken = refl
 
 kinds : (b : ℕ) (o : AnswerOp) → answer_of_number b ≡ Some o → answer_number o ≡ b
 unfolding answer_of_number

@@ -6,7 +6,7 @@ use Rattle.ipc_terms.specs.declared.op.CallOp.TheVariants as asks
 use Rattle.ipc_fields.specs.declared.fault.WireFault.{WireFault}
 use Rattle.ipc_fields.specs.Field.{◌>>=◌, u16, u32, u64, text, boolean, optional, ◌⊗◌, nothing, only, then_rest}
 use Rattle.ipc_fields.specs.Format.{allowed}
-use Rattle.ipc_fields.specs.Terms.{desc_field, uid_field, gid_field, mode_field, family_field, target_field}
+use Rattle.ipc_fields.specs.Terms.{sid_field, desc_field, uid_field, gid_field, mode_field, family_field, target_field}
 use Rattle.ipc_fields.proofs.FieldLemmas.{bind_ok, ok_is}
 use Rattle.ipc_fields.proofs.FormatLemmas.{allowed_ok}
 use Rattle.ipc_fields.proofs.FrontLemmas.{front_some}
@@ -34,6 +34,7 @@ read_op (op.Call asks.MqReceive) w q e = made_by (op.Call asks.MqReceive) (λ x.
 read_op (op.Call asks.MqGetattr) w q e = made_by (op.Call asks.MqGetattr) (λ desc. request.Do (call.MqGetattr desc)) ((only desc_field).read w) q (λ x. refl) e
 read_op (op.Call asks.MqSetattr) w q e = made_by (op.Call asks.MqSetattr) (λ x. request.Do (call.MqSetattr x.0 x.1)) ((only (desc_field ⊗ boolean)).read w) q (λ x. refl) e
 read_op (op.Call asks.MqNotify) w q e = made_by (op.Call asks.MqNotify) (λ x. request.Do (call.MqNotify x.0 x.1)) ((only (desc_field ⊗ boolean)).read w) q (λ x. refl) e
+read_op (op.Call asks.MqGive) w q e = made_by (op.Call asks.MqGive) (λ x. request.Do (call.MqGive x.0 x.1)) ((only (desc_field ⊗ sid_field)).read w) q (λ x. refl) e
 read_op (op.Call asks.SemOpen) w q e = made_by (op.Call asks.SemOpen) (λ asked. request.Do (call.SemOpen asked)) ((only semaphore_open_field).read w) q (λ x. refl) e
 read_op (op.Call asks.SemClose) w q e = made_by (op.Call asks.SemClose) (λ desc. request.Do (call.SemClose desc)) ((only desc_field).read w) q (λ x. refl) e
 read_op (op.Call asks.SemUnlink) w q e = made_by (op.Call asks.SemUnlink) (λ name. request.Do (call.SemUnlink name)) ((only text).read w) q (λ x. refl) e
@@ -48,6 +49,9 @@ read_op (op.Call asks.Chown) w q e = made_by (op.Call asks.Chown) (λ x. request
 read_op (op.Call asks.SetLimit) w q e = made_by (op.Call asks.SetLimit) (λ x. request.Do (call.SetLimit x.0 x.1)) ((only (uid_field ⊗ u64)).read w) q (λ x. refl) e
 read_op (op.Call asks.Interrupt) w q e = made_by (op.Call asks.Interrupt) (λ u. request.Do call.Interrupt) (nothing.read w) q (λ x. refl) e
 read_op (op.Call asks.Audit) w q e = made_by (op.Call asks.Audit) (λ x. request.Do (call.Audit x.0 x.1)) ((only (u64 ⊗ u16)).read w) q (λ x. refl) e
+read_op (op.Call asks.MqTimedSend) w q e = made_by (op.Call asks.MqTimedSend) (λ x. request.Do (call.MqTimedSend x.0.0 x.0.1.0 x.0.1.1 x.1)) ((then_rest (desc_field ⊗ u32 ⊗ u64)).read w) q (λ x. refl) e
+read_op (op.Call asks.MqTimedReceive) w q e = made_by (op.Call asks.MqTimedReceive) (λ x. request.Do (call.MqTimedReceive x.0 x.1.0 x.1.1)) ((only (desc_field ⊗ u32 ⊗ u64)).read w) q (λ x. refl) e
+read_op (op.Call asks.SemTimedWait) w q e = made_by (op.Call asks.SemTimedWait) (λ x. request.Do (call.SemTimedWait x.0 x.1)) ((only (desc_field ⊗ u64)).read w) q (λ x. refl) e
 
 stands : (first : Bool) (w : List ℕ) (q : Request) → request_at first w ≡ Ok q → may_stand first (op_of_request q) ≡ true
 unfolding request_at

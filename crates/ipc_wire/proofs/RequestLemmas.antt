@@ -19,10 +19,10 @@ use Rattle.ipc_wire.specs.declared.request.Request.{Request}
 use Rattle.ipc_wire.specs.declared.request.Request.TheVariants as request
 use Rattle.ipc_wire.specs.declared.opcodes.RequestOp.{RequestOp}
 use Rattle.ipc_wire.specs.declared.opcodes.RequestOp.TheVariants as op
-use Rattle.ipc_fields.specs.Terms.{desc_field, uid_field, gid_field, mode_field, access_field, family_field, flags_field, attributes_field, target_field}
+use Rattle.ipc_fields.specs.Terms.{sid_field, desc_field, uid_field, gid_field, mode_field, access_field, family_field, flags_field, attributes_field, target_field}
 use Rattle.ipc_wire.specs.Requests.{queue_flags, queue_open_of, queue_open_parts, queue_open_field, semaphore_flags, semaphore_open_of, semaphore_open_parts, semaphore_open_field, request_opcode, request_op, request_with, op_of_request, request_fields, is_plain, fields_at, requests, request_body, plain, fits, is_hello_request, same, may_stand, request_at}
 use Rattle.ipc_wire.specs.Streams.{spell, front, IsSpelledBy}
-use Rattle.ipc_fields.proofs.TermLemmas.{desc_exact, uid_exact, gid_exact, mode_exact, access_exact, family_exact, flags_exact, attributes_exact, target_exact}
+use Rattle.ipc_fields.proofs.TermLemmas.{sid_exact, desc_exact, uid_exact, gid_exact, mode_exact, access_exact, family_exact, flags_exact, attributes_exact, target_exact}
 
 queue_open_exact : IsExact queue_open_field
 unfolding queue_open_field
@@ -58,6 +58,9 @@ mq_setattr_body = only_exact _ (pair_exact desc_field _ desc_exact boolean_exact
 sem_open_body : IsExactBody (only semaphore_open_field)
 sem_open_body = only_exact semaphore_open_field semaphore_open_exact
 
+mq_give_body : IsExactBody (only (desc_field ⊗ sid_field))
+mq_give_body = only_exact _ (pair_exact desc_field _ desc_exact sid_exact)
+
 list_names_body : IsExactBody (only (family_field ⊗ u32 ⊗ u16))
 list_names_body = only_exact _ (pair_exact family_field _ family_exact (pair_exact u32 _ u32_exact u16_exact))
 
@@ -76,6 +79,18 @@ set_limit_body = only_exact _ (pair_exact uid_field _ uid_exact u64_exact)
 audit_body : IsExactBody (only (u64 ⊗ u16))
 audit_body = only_exact _ (pair_exact u64 _ u64_exact u16_exact)
 
+mq_timed_exact : IsExact (desc_field ⊗ u32 ⊗ u64)
+mq_timed_exact = pair_exact desc_field _ desc_exact (pair_exact u32 _ u32_exact u64_exact)
+
+mq_timed_send_body : IsExactBody (then_rest (desc_field ⊗ u32 ⊗ u64))
+mq_timed_send_body = rest_exact _ mq_timed_exact
+
+mq_timed_receive_body : IsExactBody (only (desc_field ⊗ u32 ⊗ u64))
+mq_timed_receive_body = only_exact _ mq_timed_exact
+
+sem_timed_wait_body : IsExactBody (only (desc_field ⊗ u64))
+sem_timed_wait_body = only_exact _ (pair_exact desc_field _ desc_exact u64_exact)
+
 -- ---- requests
 
 fields_take : (o : RequestOp) (w : List ℕ) (q : Request) → IsBytes w → fields_at o w ≡ Ok q → IsTaken requests o w q
@@ -90,6 +105,7 @@ fields_take (op.Call asks.MqReceive) = takes_by requests (op.Call asks.MqReceive
 fields_take (op.Call asks.MqGetattr) = takes_by requests (op.Call asks.MqGetattr) (only desc_field) mq_close_body (λ desc. request.Do (call.MqGetattr desc)) (λ x. refl) (λ x. refl) (λ x. refl)
 fields_take (op.Call asks.MqSetattr) = takes_by requests (op.Call asks.MqSetattr) (only (desc_field ⊗ boolean)) mq_setattr_body (λ x. request.Do (call.MqSetattr x.0 x.1)) (λ x. refl) (λ x. refl) (λ x. refl)
 fields_take (op.Call asks.MqNotify) = takes_by requests (op.Call asks.MqNotify) (only (desc_field ⊗ boolean)) mq_setattr_body (λ x. request.Do (call.MqNotify x.0 x.1)) (λ x. refl) (λ x. refl) (λ x. refl)
+fields_take (op.Call asks.MqGive) = takes_by requests (op.Call asks.MqGive) (only (desc_field ⊗ sid_field)) mq_give_body (λ x. request.Do (call.MqGive x.0 x.1)) (λ x. refl) (λ x. refl) (λ x. refl)
 fields_take (op.Call asks.SemOpen) = takes_by requests (op.Call asks.SemOpen) (only semaphore_open_field) sem_open_body (λ asked. request.Do (call.SemOpen asked)) (λ x. refl) (λ x. refl) (λ x. refl)
 fields_take (op.Call asks.SemClose) = takes_by requests (op.Call asks.SemClose) (only desc_field) mq_close_body (λ desc. request.Do (call.SemClose desc)) (λ x. refl) (λ x. refl) (λ x. refl)
 fields_take (op.Call asks.SemUnlink) = takes_by requests (op.Call asks.SemUnlink) (only text) hello_body (λ name. request.Do (call.SemUnlink name)) (λ x. refl) (λ x. refl) (λ x. refl)
@@ -104,6 +120,9 @@ fields_take (op.Call asks.Chown) = takes_by requests (op.Call asks.Chown) (only 
 fields_take (op.Call asks.SetLimit) = takes_by requests (op.Call asks.SetLimit) (only (uid_field ⊗ u64)) set_limit_body (λ x. request.Do (call.SetLimit x.0 x.1)) (λ x. refl) (λ x. refl) (λ x. refl)
 fields_take (op.Call asks.Interrupt) = takes_by requests (op.Call asks.Interrupt) nothing nothing_exact (λ u. request.Do call.Interrupt) (λ x. refl) (λ x. refl) (λ x. refl)
 fields_take (op.Call asks.Audit) = takes_by requests (op.Call asks.Audit) (only (u64 ⊗ u16)) audit_body (λ x. request.Do (call.Audit x.0 x.1)) (λ x. refl) (λ x. refl) (λ x. refl)
+fields_take (op.Call asks.MqTimedSend) = takes_by requests (op.Call asks.MqTimedSend) (then_rest (desc_field ⊗ u32 ⊗ u64)) mq_timed_send_body (λ x. request.Do (call.MqTimedSend x.0.0 x.0.1.0 x.0.1.1 x.1)) (λ x. refl) (λ x. refl) (λ x. refl)
+fields_take (op.Call asks.MqTimedReceive) = takes_by requests (op.Call asks.MqTimedReceive) (only (desc_field ⊗ u32 ⊗ u64)) mq_timed_receive_body (λ x. request.Do (call.MqTimedReceive x.0 x.1.0 x.1.1)) (λ x. refl) (λ x. refl) (λ x. refl)
+fields_take (op.Call asks.SemTimedWait) = takes_by requests (op.Call asks.SemTimedWait) (only (desc_field ⊗ u64)) sem_timed_wait_body (λ x. request.Do (call.SemTimedWait x.0 x.1)) (λ x. refl) (λ x. refl) (λ x. refl)
 
 fields_again : (q : Request) (w : List ℕ) → is_plain q ≡ true → request_fields q ≡ Some w → fields_at (op_of_request q) w ≡ Ok q
 unfolding fields_at request_with
@@ -117,6 +136,7 @@ fields_again (request.Do (call.MqReceive desc size)) = again_by (only (desc_fiel
 fields_again (request.Do (call.MqGetattr desc)) = again_by (only desc_field) mq_close_body (λ desc. request.Do (call.MqGetattr desc)) desc
 fields_again (request.Do (call.MqSetattr desc nonblock)) = again_by (only (desc_field ⊗ boolean)) mq_setattr_body (λ x. request.Do (call.MqSetattr x.0 x.1)) (desc, nonblock)
 fields_again (request.Do (call.MqNotify desc on)) = again_by (only (desc_field ⊗ boolean)) mq_setattr_body (λ x. request.Do (call.MqNotify x.0 x.1)) (desc, on)
+fields_again (request.Do (call.MqGive desc taker)) = again_by (only (desc_field ⊗ sid_field)) mq_give_body (λ x. request.Do (call.MqGive x.0 x.1)) (desc, taker)
 fields_again (request.Do (call.SemOpen asked)) = again_by (only semaphore_open_field) sem_open_body (λ asked. request.Do (call.SemOpen asked)) asked
 fields_again (request.Do (call.SemClose desc)) = again_by (only desc_field) mq_close_body (λ desc. request.Do (call.SemClose desc)) desc
 fields_again (request.Do (call.SemUnlink name)) = again_by (only text) hello_body (λ name. request.Do (call.SemUnlink name)) name
@@ -131,6 +151,9 @@ fields_again (request.Do (call.Chown owner group target)) = again_by (only (opti
 fields_again (request.Do (call.SetLimit uid bytes)) = again_by (only (uid_field ⊗ u64)) set_limit_body (λ x. request.Do (call.SetLimit x.0 x.1)) (uid, bytes)
 fields_again (request.Do call.Interrupt) = again_by nothing nothing_exact (λ u. request.Do call.Interrupt) tt
 fields_again (request.Do (call.Audit start count)) = again_by (only (u64 ⊗ u16)) audit_body (λ x. request.Do (call.Audit x.0 x.1)) (start, count)
+fields_again (request.Do (call.MqTimedSend desc priority deadline bytes)) = again_by (then_rest (desc_field ⊗ u32 ⊗ u64)) mq_timed_send_body (λ x. request.Do (call.MqTimedSend x.0.0 x.0.1.0 x.0.1.1 x.1)) ((desc, (priority, deadline)), bytes)
+fields_again (request.Do (call.MqTimedReceive desc size deadline)) = again_by (only (desc_field ⊗ u32 ⊗ u64)) mq_timed_receive_body (λ x. request.Do (call.MqTimedReceive x.0 x.1.0 x.1.1)) (desc, (size, deadline))
+fields_again (request.Do (call.SemTimedWait desc deadline)) = again_by (only (desc_field ⊗ u64)) sem_timed_wait_body (λ x. request.Do (call.SemTimedWait x.0 x.1)) (desc, deadline)
 
 codes : (o : RequestOp) → request_op (request_opcode o) ≡ Some o
 unfolding request_op call_of_number
@@ -144,6 +167,7 @@ codes (op.Call asks.MqReceive) = refl
 codes (op.Call asks.MqGetattr) = refl
 codes (op.Call asks.MqSetattr) = refl
 codes (op.Call asks.MqNotify) = refl
+codes (op.Call asks.MqGive) = refl
 codes (op.Call asks.SemOpen) = refl
 codes (op.Call asks.SemClose) = refl
 codes (op.Call asks.SemUnlink) = refl
@@ -158,6 +182,9 @@ codes (op.Call asks.Chown) = refl
 codes (op.Call asks.SetLimit) = refl
 codes (op.Call asks.Interrupt) = refl
 codes (op.Call asks.Audit) = refl
+codes (op.Call asks.MqTimedSend) = refl
+codes (op.Call asks.MqTimedReceive) = refl
+codes (op.Call asks.SemTimedWait) = refl
 
 call_kind : (b : ℕ) (o : RequestOp) (found : Option CallOp) → call_of_number b ≡ found → option_map op.Call found ≡ Some o → request_opcode o ≡ b
 unfolding call_of_number
@@ -220,6 +247,7 @@ plain_alike (request.Do (call.MqReceive desc size)) = (refl, refl)
 plain_alike (request.Do (call.MqGetattr desc)) = (refl, refl)
 plain_alike (request.Do (call.MqSetattr desc nonblock)) = (refl, refl)
 plain_alike (request.Do (call.MqNotify desc on)) = (refl, refl)
+plain_alike (request.Do (call.MqGive desc taker)) = (refl, refl)
 plain_alike (request.Do (call.SemOpen o)) =
     (ap (λ (flags : ℕ). framed (Some (11 ∷ []) ⊕ (text.spell o.name ⊕ (Some (flags ∷ []) ⊕ (mode_field.spell o.mode ⊕ u32.spell o.value))))) (three_again o.flags.0), refl)
 plain_alike (request.Do (call.SemClose desc)) = (refl, refl)
@@ -235,6 +263,9 @@ plain_alike (request.Do (call.Chown owner group target)) = (refl, refl)
 plain_alike (request.Do (call.SetLimit uid bytes)) = (refl, refl)
 plain_alike (request.Do call.Interrupt) = (refl, refl)
 plain_alike (request.Do (call.Audit start count)) = (refl, refl)
+plain_alike (request.Do (call.MqTimedSend desc priority deadline bytes)) = (refl, refl)
+plain_alike (request.Do (call.MqTimedReceive desc size deadline)) = (refl, refl)
+plain_alike (request.Do (call.SemTimedWait desc deadline)) = (refl, refl)
 
 -- a request without them
 plain_is_read : (q : Request) (text rest : List ℕ) → is_plain q ≡ true → spell q ≡ Some text → front (is_hello_request q) (text ++ rest) ≡ Ok (Some (q, rest))

@@ -92,6 +92,7 @@ fields_within most (answer.Records lines) le small = more 300000 16777299 ((coun
 fields_within most (answer.Refused rule) le small = known _ _ (omega arith)
 fields_within most answer.Interrupted le small = known _ _ (omega arith)
 fields_within most (answer.Notice desc) le small = known _ _ (omega arith)
+fields_within most (answer.Taken desc) le small = known _ _ (omega arith)
 
 pub small_spelled : (most : ℕ) (a : Answer) → most ≤ 16777216 → IsSmall most a → (text : List ℕ) × (spell_answer a ≡ Some text)
 unfolding answer_body

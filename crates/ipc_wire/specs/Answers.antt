@@ -36,7 +36,7 @@ line_parts l = (l.place, (l.sid, (l.op, (l.rule, l.name))))
 unfoldable pub line_field : Field Line
 line_field = seen line_of line_parts (u64 ⊗ sid_field ⊗ byte ⊗ u16 ⊗ text)
 
--- the rule of this number, from 1 to 31
+-- the rule of this number, if there is one
 unfoldable pub rule_of : ℕ → Option Rule
 rule_of n = among number_of every_rule n
 
@@ -59,6 +59,7 @@ answer_with k (answer.Records lines) = k _ (only (counted line_field)) lines
 answer_with k (answer.Refused rule) = k _ (only rule_field) rule
 answer_with k answer.Interrupted = k _ nothing tt
 answer_with k (answer.Notice desc) = k _ (only desc_field) desc
+answer_with k (answer.Taken desc) = k _ (only desc_field) desc
 
 -- what is spelled behind the opcode
 abbrev pub answer_fields : Answer → Option (List ℕ)
@@ -84,6 +85,7 @@ answer_fields_at op.Records w = (only (counted line_field)).read w >>= λ lines.
 answer_fields_at op.Refused w = (only rule_field).read w >>= λ rule. Ok (answer.Refused rule)
 answer_fields_at op.Interrupted w = nothing.read w >>= λ u. Ok answer.Interrupted
 answer_fields_at op.Notice w = (only desc_field).read w >>= λ desc. Ok (answer.Notice desc)
+answer_fields_at op.Taken w = (only desc_field).read w >>= λ desc. Ok (answer.Taken desc)
 
 abbrev pub answers : Format AnswerOp Answer
 answers = record { opcode = answer_number; kind = answer_of_number; op_of = answer_op; fields = answer_fields; is_plain = answer_fits; read = answer_fields_at }

@@ -16,7 +16,7 @@ use Rattle.ipc_wire.specs.declared.request.Request.{Request}
 use Rattle.ipc_wire.specs.declared.request.Request.TheVariants as request
 use Rattle.ipc_wire.specs.declared.opcodes.RequestOp.{RequestOp}
 use Rattle.ipc_wire.specs.declared.opcodes.RequestOp.TheVariants as op
-use Rattle.ipc_fields.specs.Terms.{desc_field, uid_field, gid_field, mode_field, access_field, family_field, masked, flags_field, attributes_field, target_field}
+use Rattle.ipc_fields.specs.Terms.{sid_field, desc_field, uid_field, gid_field, mode_field, access_field, family_field, masked, flags_field, attributes_field, target_field}
 
 -- the flags that mean something to an open of a queue, and to one of a semaphore
 abbrev pub queue_flags : ℕ
@@ -68,6 +68,7 @@ request_with k (request.Do (call.MqReceive desc size)) = k _ (only (desc_field �
 request_with k (request.Do (call.MqGetattr desc)) = k _ (only desc_field) desc
 request_with k (request.Do (call.MqSetattr desc nonblock)) = k _ (only (desc_field ⊗ boolean)) (desc, nonblock)
 request_with k (request.Do (call.MqNotify desc on)) = k _ (only (desc_field ⊗ boolean)) (desc, on)
+request_with k (request.Do (call.MqGive desc taker)) = k _ (only (desc_field ⊗ sid_field)) (desc, taker)
 request_with k (request.Do (call.SemOpen asked)) = k _ (only semaphore_open_field) asked
 request_with k (request.Do (call.SemClose desc)) = k _ (only desc_field) desc
 request_with k (request.Do (call.SemUnlink name)) = k _ (only text) name
@@ -82,6 +83,9 @@ request_with k (request.Do (call.Chown owner group target)) = k _ (only (optiona
 request_with k (request.Do (call.SetLimit uid bytes)) = k _ (only (uid_field ⊗ u64)) (uid, bytes)
 request_with k (request.Do call.Interrupt) = k _ nothing tt
 request_with k (request.Do (call.Audit start count)) = k _ (only (u64 ⊗ u16)) (start, count)
+request_with k (request.Do (call.MqTimedSend desc priority deadline bytes)) = k _ (then_rest (desc_field ⊗ u32 ⊗ u64)) ((desc, (priority, deadline)), bytes)
+request_with k (request.Do (call.MqTimedReceive desc size deadline)) = k _ (only (desc_field ⊗ u32 ⊗ u64)) (desc, (size, deadline))
+request_with k (request.Do (call.SemTimedWait desc deadline)) = k _ (only (desc_field ⊗ u64)) (desc, deadline)
 
 -- what is spelled behind the opcode
 abbrev pub request_fields : Request → Option (List ℕ)
@@ -103,6 +107,7 @@ fields_at (op.Call asks.MqReceive) w = (only (desc_field ⊗ u32)).read w >>= λ
 fields_at (op.Call asks.MqGetattr) w = (only desc_field).read w >>= λ desc. Ok (request.Do (call.MqGetattr desc))
 fields_at (op.Call asks.MqSetattr) w = (only (desc_field ⊗ boolean)).read w >>= λ x. Ok (request.Do (call.MqSetattr x.0 x.1))
 fields_at (op.Call asks.MqNotify) w = (only (desc_field ⊗ boolean)).read w >>= λ x. Ok (request.Do (call.MqNotify x.0 x.1))
+fields_at (op.Call asks.MqGive) w = (only (desc_field ⊗ sid_field)).read w >>= λ x. Ok (request.Do (call.MqGive x.0 x.1))
 fields_at (op.Call asks.SemOpen) w = (only semaphore_open_field).read w >>= λ asked. Ok (request.Do (call.SemOpen asked))
 fields_at (op.Call asks.SemClose) w = (only desc_field).read w >>= λ desc. Ok (request.Do (call.SemClose desc))
 fields_at (op.Call asks.SemUnlink) w = (only text).read w >>= λ name. Ok (request.Do (call.SemUnlink name))
@@ -117,6 +122,9 @@ fields_at (op.Call asks.Chown) w = (only (optional uid_field ⊗ optional gid_fi
 fields_at (op.Call asks.SetLimit) w = (only (uid_field ⊗ u64)).read w >>= λ x. Ok (request.Do (call.SetLimit x.0 x.1))
 fields_at (op.Call asks.Interrupt) w = nothing.read w >>= λ u. Ok (request.Do call.Interrupt)
 fields_at (op.Call asks.Audit) w = (only (u64 ⊗ u16)).read w >>= λ x. Ok (request.Do (call.Audit x.0 x.1))
+fields_at (op.Call asks.MqTimedSend) w = (then_rest (desc_field ⊗ u32 ⊗ u64)).read w >>= λ x. Ok (request.Do (call.MqTimedSend x.0.0 x.0.1.0 x.0.1.1 x.1))
+fields_at (op.Call asks.MqTimedReceive) w = (only (desc_field ⊗ u32 ⊗ u64)).read w >>= λ x. Ok (request.Do (call.MqTimedReceive x.0 x.1.0 x.1.1))
+fields_at (op.Call asks.SemTimedWait) w = (only (desc_field ⊗ u64)).read w >>= λ x. Ok (request.Do (call.SemTimedWait x.0 x.1))
 
 abbrev pub requests : Format RequestOp Request
 requests = record { opcode = request_opcode; kind = request_op; op_of = op_of_request; fields = request_fields; is_plain = is_plain; read = fields_at }

@@ -185,6 +185,7 @@ fn fields_of(alloc: Global, op: AnswerOp, bytes: &[u8]) -> Result<Answer, ReadFa
         AnswerOp::Refused => refused_at(bytes),
         AnswerOp::Interrupted => alone(Answer::Interrupted, bytes),
         AnswerOp::Notice => Ok(Answer::Notice(only_description(bytes)?)),
+        AnswerOp::Taken => Ok(Answer::Taken(only_description(bytes)?)),
     }
 }
 

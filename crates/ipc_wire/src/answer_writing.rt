@@ -115,7 +115,9 @@ fn put_fields(out: &mut Vec<u8>, answer: &Answer) -> Result<(), WriteFault>
     match answer {
         Answer::Started(sid) => put_u64(out, sid.0),
         Answer::Done | Answer::Sent | Answer::Interrupted => Ok(()),
-        Answer::Opened(desc) | Answer::Notice(desc) => put_u64(out, desc.0),
+        Answer::Opened(desc) | Answer::Notice(desc) | Answer::Taken(desc) => {
+            put_u64(out, desc.0)
+        }
         Answer::Mask(mask) => put_u16(out, mask.0),
         Answer::Attrs {
             nonblock,

@@ -32,6 +32,9 @@ pub fn read_request(
 /// About as many bytes as a short frame has.
 const SHORT_FRAME: usize = 16;
 
+/// For how many requests room is made at least where bytes stand behind the first.
+const FEW_REQUESTS: usize = 4;
+
 /// For how many requests room is made at most with the first.
 const USUAL_REQUESTS: usize = 16;
 
@@ -44,8 +47,11 @@ fn push_request(
     ensures { OnOk result (requests.new.items ≡ requests.old.items ++ request ∷ []) }
 {
     if requests.is_empty() {
-        let room = behind / SHORT_FRAME + 1;
-        requests.reserve_exact(room.min(USUAL_REQUESTS))?;
+        let room = match behind {
+            0 => 1,
+            _ => (behind / SHORT_FRAME + 1).clamp(FEW_REQUESTS, USUAL_REQUESTS),
+        };
+        requests.reserve_exact(room)?;
     }
     requests.push(request)?;
     Ok(())

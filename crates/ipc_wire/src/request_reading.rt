@@ -1,7 +1,7 @@
 //! Reading requests.
 
 ghost use Rattle.std.specs.Prelude.{◌≡◌, List, length};
-ghost use Rattle.ipc_fields.specs.Field.{text, only};
+ghost use Rattle.ipc_fields.specs.Field.{◌⊗◌, u32, u64, text, only};
 ghost use Rattle.ipc_fields.specs.Given.{Gives};
 ghost use Rattle.ipc_fields.specs.Terms.{desc_field, target_field};
 ghost use Rattle.ipc_wire.specs.Requests.{queue_open_field, semaphore_open_field, fields_at, opcode_at, request_at};
@@ -15,7 +15,9 @@ use ipc_fields::{
     optional_attributes_at, optional_gid_at, optional_uid_at, target_at, text_at, u16_at, u32_at,
     u64_at,
 };
-use ipc_terms::{Bytes, Call, CallOp, Desc, Mode, Name, QueueOpen, SemaphoreOpen, Target, Uid};
+use ipc_terms::{
+    Bytes, Call, CallOp, Desc, Mode, Name, QueueOpen, SemaphoreOpen, Sid, Target, Uid,
+};
 use std::alloc::Global;
 
 /// The flags of a queue's open: `CREATE`, `EXCLUSIVE` and `NONBLOCK`.
@@ -148,6 +150,19 @@ fn notify_at(bytes: &[u8]) -> Result<Request, ReadFault>
 }
 
 #[tactic(auto, unfolding(crate::specs::Requests::fields_at))]
+fn give_at(bytes: &[u8]) -> Result<Request, ReadFault>
+    ensures { Gives (λ x. x) result (fields_at (op.Call asks.MqGive) bytes.now) }
+{
+    let (desc, rest) = u64_at(bytes)?;
+    let (taker, rest) = u64_at(rest)?;
+    let call = Call::MqGive {
+        desc: Desc(desc),
+        taker: Sid(taker),
+    };
+    alone(Request::Do(call), rest)
+}
+
+#[tactic(auto, unfolding(crate::specs::Requests::fields_at))]
 fn list_names_at(bytes: &[u8]) -> Result<Request, ReadFault>
     ensures { Gives (λ x. x) result (fields_at (op.Call asks.ListNames) bytes.now) }
 {
@@ -218,6 +233,55 @@ fn audit_at(bytes: &[u8]) -> Result<Request, ReadFault>
     alone(Request::Do(call), rest)
 }
 
+/// A description, a priority or a length, and a deadline: what a timed send and a timed receive begin with.
+fn timed_at(bytes: &[u8]) -> Result<((Desc, (u32, u64)), &[u8]), ReadFault>
+    ensures { Gives (λ x. (x.0, x.1.now)) result ((desc_field ⊗ u32 ⊗ u64).read bytes.now) }
+{
+    let (desc, rest) = u64_at(bytes)?;
+    let (number, rest) = u32_at(rest)?;
+    let (deadline, rest) = u64_at(rest)?;
+    Ok(((Desc(desc), (number, deadline)), rest))
+}
+
+#[tactic(auto, unfolding(crate::specs::Requests::fields_at))]
+fn timed_send_at(alloc: Global, bytes: &[u8]) -> Result<Request, ReadFault>
+    ensures { Gives (λ x. x) result (fields_at (op.Call asks.MqTimedSend) bytes.now) }
+{
+    let ((desc, (priority, deadline)), rest) = timed_at(bytes)?;
+    Ok(Request::Do(Call::MqTimedSend {
+        desc,
+        priority,
+        deadline,
+        bytes: Bytes::from_slice(alloc, rest)?,
+    }))
+}
+
+#[tactic(auto, unfolding(crate::specs::Requests::fields_at))]
+fn timed_receive_at(bytes: &[u8]) -> Result<Request, ReadFault>
+    ensures { Gives (λ x. x) result (fields_at (op.Call asks.MqTimedReceive) bytes.now) }
+{
+    let ((desc, (length, deadline)), rest) = timed_at(bytes)?;
+    let call = Call::MqTimedReceive {
+        desc,
+        length,
+        deadline,
+    };
+    alone(Request::Do(call), rest)
+}
+
+#[tactic(auto, unfolding(crate::specs::Requests::fields_at))]
+fn timed_wait_at(bytes: &[u8]) -> Result<Request, ReadFault>
+    ensures { Gives (λ x. x) result (fields_at (op.Call asks.SemTimedWait) bytes.now) }
+{
+    let (desc, rest) = u64_at(bytes)?;
+    let (deadline, rest) = u64_at(rest)?;
+    let call = Call::SemTimedWait {
+        desc: Desc(desc),
+        deadline,
+    };
+    alone(Request::Do(call), rest)
+}
+
 /// What follows the opcode.
 #[tactic(auto, unfolding(crate::specs::Requests::fields_at))]
 fn fields_of(alloc: Global, op: RequestOp, bytes: &[u8]) -> Result<Request, ReadFault>
@@ -237,6 +301,7 @@ fn fields_of(alloc: Global, op: RequestOp, bytes: &[u8]) -> Result<Request, Read
         CallOp::MqGetattr => Ok(Request::Do(Call::MqGetattr(only_description(bytes)?))),
         CallOp::MqSetattr => setattr_at(bytes),
         CallOp::MqNotify => notify_at(bytes),
+        CallOp::MqGive => give_at(bytes),
         CallOp::SemOpen => Ok(Request::Do(Call::SemOpen(semaphore_open_at(alloc, bytes)?))),
         CallOp::SemClose => Ok(Request::Do(Call::SemClose(only_description(bytes)?))),
         CallOp::SemUnlink => Ok(Request::Do(Call::SemUnlink(only_name(alloc, bytes)?))),
@@ -251,6 +316,9 @@ fn fields_of(alloc: Global, op: RequestOp, bytes: &[u8]) -> Result<Request, Read
         CallOp::SetLimit => set_limit_at(bytes),
         CallOp::Interrupt => interrupt_at(bytes),
         CallOp::Audit => audit_at(bytes),
+        CallOp::MqTimedSend => timed_send_at(alloc, bytes),
+        CallOp::MqTimedReceive => timed_receive_at(bytes),
+        CallOp::SemTimedWait => timed_wait_at(bytes),
     }
 }
 

@@ -3,7 +3,7 @@
 ghost use Rattle.std.specs.Prelude.{◌≡◌, List, length, Some, None, IfOk, IsErrOf, OnOk, OnErr};
 ghost use Rattle.ipc_fields.specs.Field.{◌⊕◌, ◌⊗◌, u16, u32, u64, boolean, optional, only, then_rest};
 ghost use Rattle.ipc_fields.specs.Given.{Begins, Puts};
-ghost use Rattle.ipc_fields.specs.Terms.{desc_field, family_field, mode_field, uid_field, gid_field, target_field};
+ghost use Rattle.ipc_fields.specs.Terms.{sid_field, desc_field, family_field, mode_field, uid_field, gid_field, target_field};
 ghost use Rattle.ipc_wire.specs.Requests.{queue_open_field, semaphore_open_field, request_fields, request_body};
 ghost use Rattle.ipc_wire.specs.Streams.{spell};
 
@@ -14,7 +14,7 @@ use ipc_fields::{
     WriteFault, put_access, put_bool, put_bytes, put_family, put_flags, put_optional_attributes,
     put_optional_gid, put_optional_uid, put_target, put_text, put_u8, put_u16, put_u32, put_u64,
 };
-use ipc_terms::{Bytes, Call, Desc, Family, Gid, Mode, QueueOpen, SemaphoreOpen, Target, Uid};
+use ipc_terms::{Bytes, Call, Desc, Family, Gid, Mode, QueueOpen, SemaphoreOpen, Sid, Target, Uid};
 use std::alloc::Global;
 
 #[tactic(auto, using(ipc_fields::proofs::Joins::joins), unfolding(crate::specs::Requests::queue_open_field))]
@@ -103,6 +103,15 @@ fn put_chown(
 }
 
 #[tactic(auto, using(ipc_fields::proofs::Joins::joins))]
+fn put_give(out: &mut Vec<u8>, desc: Desc, taker: Sid) -> Result<(), WriteFault>
+    ensures puts { Puts out.old.items out.new.items result ((only (desc_field ⊗ sid_field)).spell (desc, taker)) }
+    ensures begins { Begins out.old.items out.new.items }
+{
+    put_u64(out, desc.0)?;
+    put_u64(out, taker.0)
+}
+
+#[tactic(auto, using(ipc_fields::proofs::Joins::joins))]
 fn put_set_limit(out: &mut Vec<u8>, uid: Uid, limit: u64) -> Result<(), WriteFault>
     ensures puts { Puts out.old.items out.new.items result ((only (uid_field ⊗ u64)).spell (uid, limit)) }
     ensures begins { Begins out.old.items out.new.items }
@@ -118,6 +127,41 @@ fn put_audit(out: &mut Vec<u8>, start: u64, count: u16) -> Result<(), WriteFault
 {
     put_u64(out, start)?;
     put_u16(out, count)
+}
+
+/// A description, a priority or a length, and a deadline: what a timed send and a timed receive begin with.
+#[tactic(auto, using(ipc_fields::proofs::Joins::joins))]
+fn put_timed(out: &mut Vec<u8>, desc: Desc, number: u32, deadline: u64) -> Result<(), WriteFault>
+    ensures puts { Puts out.old.items out.new.items result ((desc_field ⊗ u32 ⊗ u64).spell (desc, (number, deadline))) }
+    ensures begins { Begins out.old.items out.new.items }
+{
+    put_u64(out, desc.0)?;
+    put_u32(out, number)?;
+    put_u64(out, deadline)
+}
+
+#[tactic(auto, using(ipc_fields::proofs::Joins::joins))]
+fn put_timed_send(
+    out: &mut Vec<u8>,
+    desc: Desc,
+    priority: u32,
+    deadline: u64,
+    bytes: &Bytes,
+) -> Result<(), WriteFault>
+    ensures puts { Puts out.old.items out.new.items result ((then_rest (desc_field ⊗ u32 ⊗ u64)).spell ((desc, (priority, deadline)), bytes.now)) }
+    ensures begins { Begins out.old.items out.new.items }
+{
+    put_timed(out, desc, priority, deadline)?;
+    put_bytes(out, bytes.as_slice())
+}
+
+#[tactic(auto, using(ipc_fields::proofs::Joins::joins))]
+fn put_timed_wait(out: &mut Vec<u8>, desc: Desc, deadline: u64) -> Result<(), WriteFault>
+    ensures puts { Puts out.old.items out.new.items result ((only (desc_field ⊗ u64)).spell (desc, deadline)) }
+    ensures begins { Begins out.old.items out.new.items }
+{
+    put_u64(out, desc.0)?;
+    put_u64(out, deadline)
 }
 
 #[tactic(auto, using(ipc_fields::proofs::Joins::joins), unfolding(crate::specs::Requests::request_with))]
@@ -148,6 +192,7 @@ fn put_fields(out: &mut Vec<u8>, request: &Request) -> Result<(), WriteFault>
         Call::MqReceive { desc, length } => put_receive(out, *desc, *length),
         Call::MqSetattr { desc, nonblock } => put_described_flag(out, *desc, *nonblock),
         Call::MqNotify { desc, on } => put_described_flag(out, *desc, *on),
+        Call::MqGive { desc, taker } => put_give(out, *desc, *taker),
         Call::SemOpen(asked) => put_semaphore_open(out, asked),
         Call::ListNames {
             family,
@@ -164,6 +209,18 @@ fn put_fields(out: &mut Vec<u8>, request: &Request) -> Result<(), WriteFault>
         Call::SetLimit { uid, bytes } => put_set_limit(out, *uid, *bytes),
         Call::Interrupt => Ok(()),
         Call::Audit { start, count } => put_audit(out, *start, *count),
+        Call::MqTimedSend {
+            desc,
+            priority,
+            deadline,
+            bytes,
+        } => put_timed_send(out, *desc, *priority, *deadline, bytes),
+        Call::MqTimedReceive {
+            desc,
+            length,
+            deadline,
+        } => put_timed(out, *desc, *length, *deadline),
+        Call::SemTimedWait { desc, deadline } => put_timed_wait(out, *desc, *deadline),
     }
 }
 

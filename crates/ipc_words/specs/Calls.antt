@@ -14,13 +14,13 @@ use Rattle.ipc_terms.specs.declared.ids.Target.{Target}
 use Rattle.ipc_terms.specs.declared.ids.Target.TheVariants as target
 use Rattle.ipc_words.specs.declared.calls.Manner.{Manner}
 use Rattle.ipc_terms.specs.declared.op.CallOp.{CallOp}
-use Rattle.ipc_terms.specs.declared.op.CallOp.TheVariants.{Umask, MqOpen, MqClose, MqSend, MqReceive, MqGetattr, MqSetattr, MqNotify, MqUnlink, SemOpen, SemClose, SemUnlink, SemPost, SemWait, SemTryWait, SemGetvalue, ListNames, StatName, Chmod, Chown, SetLimit, Interrupt, Audit}
+use Rattle.ipc_terms.specs.declared.op.CallOp.TheVariants.{Umask, MqOpen, MqClose, MqSend, MqReceive, MqTimedSend, MqTimedReceive, MqGetattr, MqSetattr, MqNotify, MqGive, MqUnlink, SemOpen, SemClose, SemUnlink, SemPost, SemWait, SemTryWait, SemTimedWait, SemGetvalue, ListNames, StatName, Chmod, Chown, SetLimit, Interrupt, Audit}
 use Rattle.ipc_words.specs.declared.faults.WordFault.{WordFault}
 use Rattle.ipc_words.specs.declared.faults.WordFault.TheVariants.{Usage, NoMemory}
 use Rattle.ipc_words.specs.Grammar.{Form, app_of_form, form_of_word}
 use Rattle.ipc_words.specs.Numbers.{decimal_within, octal_mode}
 use Rattle.ipc_words.specs.Parses.{IsParsed}
-use Rattle.ipc_words.specs.Readings.{Meaning, Reads, ◌>>=◌, description_at, is_given, option_at, value_at}
+use Rattle.ipc_words.specs.Readings.{Meaning, Reads, ◌>>=◌, deadline_at, session_at, description_at, is_given, option_at, value_at}
 use Rattle.ipc_words.specs.Values.{access_of_word, bytes_of_word, family_of_word, id_of_word, nonblock_of_word, notification_of_word}
 
 -- 1 for CREATE, 2 for EXCLUSIVE and 4 for NONBLOCK
@@ -106,6 +106,17 @@ meaning_of MqReceive rows =
     description_at rows >>= λ desc.
     count_at (codes "len") rows >>= λ length.
     Ok (call.MqReceive desc length)
+meaning_of MqTimedSend rows =
+    description_at rows >>= λ desc.
+    count_at (codes "prio") rows >>= λ priority.
+    deadline_at rows >>= λ deadline.
+    value_at bytes_of_word (codes "bytes") rows >>= λ bytes.
+    Ok (call.MqTimedSend desc priority deadline bytes)
+meaning_of MqTimedReceive rows =
+    description_at rows >>= λ desc.
+    count_at (codes "len") rows >>= λ length.
+    deadline_at rows >>= λ deadline.
+    Ok (call.MqTimedReceive desc length deadline)
 meaning_of MqGetattr rows = description_at rows >>= λ desc. Ok (call.MqGetattr desc)
 meaning_of MqSetattr rows =
     description_at rows >>= λ desc.
@@ -115,6 +126,10 @@ meaning_of MqNotify rows =
     description_at rows >>= λ desc.
     value_at notification_of_word (codes "how") rows >>= λ on.
     Ok (call.MqNotify desc on)
+meaning_of MqGive rows =
+    description_at rows >>= λ desc.
+    session_at rows >>= λ taker.
+    Ok (call.MqGive desc taker)
 meaning_of MqUnlink rows = value_at bytes_of_word (codes "name") rows >>= λ name. Ok (call.MqUnlink name)
 meaning_of SemOpen rows = semaphore_open_of_rows rows >>= λ asked. Ok (call.SemOpen asked)
 meaning_of SemClose rows = description_at rows >>= λ desc. Ok (call.SemClose desc)
@@ -122,6 +137,10 @@ meaning_of SemUnlink rows = value_at bytes_of_word (codes "name") rows >>= λ na
 meaning_of SemPost rows = description_at rows >>= λ desc. Ok (call.SemPost desc)
 meaning_of SemWait rows = description_at rows >>= λ desc. Ok (call.SemWait desc)
 meaning_of SemTryWait rows = description_at rows >>= λ desc. Ok (call.SemTryWait desc)
+meaning_of SemTimedWait rows =
+    description_at rows >>= λ desc.
+    deadline_at rows >>= λ deadline.
+    Ok (call.SemTimedWait desc deadline)
 meaning_of SemGetvalue rows = description_at rows >>= λ desc. Ok (call.SemGetvalue desc)
 meaning_of ListNames rows =
     value_at family_of_word (codes "family") rows >>= λ family.

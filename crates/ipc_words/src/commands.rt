@@ -93,7 +93,7 @@ pub struct Form {
 }
 
 /// All commands.
-pub static FORMS: [Form; 23] = [
+pub static FORMS: [Form; 27] = [
     Form {
         word: "umask",
         op: CallOp::Umask,
@@ -129,6 +129,21 @@ pub static FORMS: [Form; 23] = [
         arguments: &[Required("d"), Required("len")],
     },
     Form {
+        word: "mq-timedsend",
+        op: CallOp::MqTimedSend,
+        arguments: &[
+            Required("d"),
+            Required("prio"),
+            Required("deadline"),
+            Required("bytes"),
+        ],
+    },
+    Form {
+        word: "mq-timedreceive",
+        op: CallOp::MqTimedReceive,
+        arguments: &[Required("d"), Required("len"), Required("deadline")],
+    },
+    Form {
         word: "mq-getattr",
         op: CallOp::MqGetattr,
         arguments: &[Required("d")],
@@ -142,6 +157,11 @@ pub static FORMS: [Form; 23] = [
         word: "mq-notify",
         op: CallOp::MqNotify,
         arguments: &[Required("d"), Required("how")],
+    },
+    Form {
+        word: "mq-give",
+        op: CallOp::MqGive,
+        arguments: &[Required("d"), Required("sid")],
     },
     Form {
         word: "mq-unlink",
@@ -183,6 +203,11 @@ pub static FORMS: [Form; 23] = [
         word: "sem-trywait",
         op: CallOp::SemTryWait,
         arguments: &[Required("d")],
+    },
+    Form {
+        word: "sem-timedwait",
+        op: CallOp::SemTimedWait,
+        arguments: &[Required("d"), Required("deadline")],
     },
     Form {
         word: "sem-getvalue",

@@ -31,6 +31,7 @@ use crate::readings::Found;
 pub use answers::{line_of_answer, put_line};
 pub use faults::{WordFault, put_fault};
 use ipc_terms::Call;
+pub use numbers::read_decimal;
 pub use readings::{optional_count, optional_number, optional_word};
 use std::alloc::Global;
 pub use usage::{USAGE_OF_VALUES, usage_of_commands};

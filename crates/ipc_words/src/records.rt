@@ -54,7 +54,7 @@ fn put_session(text: &mut String, session: Sid) -> Result<(), AllocError>
     }
 }
 
-/// The word of the command whose call has this number, `hello` or `hangup`; the number where none has it.
+/// The word of the command whose call has this number, `hello`, `hangup` or `tick`; the number where none has it.
 #[tactic(auto, unfolding(crate::specs::Answers::event_text))]
 fn put_event(text: &mut String, op: u8) -> Result<(), AllocError>
     ensures { OnOk result (string_bytes text.new ≡ string_bytes text.old ++ event_text op) }
@@ -62,6 +62,7 @@ fn put_event(text: &mut String, op: u8) -> Result<(), AllocError>
     match op {
         1 => text.push_str("hello"),
         25 => text.push_str("hangup"),
+        29 => text.push_str("tick"),
         _ => match form_of_op(op) {
             Some(form) => text.push_str(form.word),
             None => write!(text, "{op}"),

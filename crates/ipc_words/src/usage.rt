@@ -13,11 +13,13 @@ pub const USAGE_OF_VALUES: &str = "\
   <octal>           one to four octal digits, as 0660
   <name>            a slash and what the queue or semaphore is called, as /jobs
   <access>          r, w, rw
-  <d>               a number, as `opened` told it
+  <d>               a number, as `opened` or `taken` told it
   <prio>            a number, 0 to 32767
   <bytes>           text without blanks; of set-limit a number
   <len>             a number, at least the queue's message size
+  <deadline>        a moment in milliseconds, by the server's clock
   <how>             of mq-setattr block, nonblock; of mq-notify on, off
+  <sid>             a number, as `started` told it
   <family>          mq, sem
   <start>, <count>  a number
   <uid>, <gid>      a number; of chown also keep

@@ -7,7 +7,7 @@ use std::alloc::{AllocError, Global};
 use std::test::Fail;
 
 /// An input, what is printed of it, and whether no line is at fault.
-static INPUTS: [(&str, &str, bool); 8] = [
+static INPUTS: [(&str, &str, bool); 10] = [
     ("", "", true),
     ("mq-close 0\n", "00000009040000000000000000\n", true),
     (
@@ -20,6 +20,12 @@ static INPUTS: [(&str, &str, bool); 8] = [
         "0000000a0300022f61030101b600\n0000000f060000000000000000000000056869\n0000000d07000000000000000000002000\n",
         true,
     ),
+    (
+        "mq-timedsend 1 2 3 hi\nmq-timedreceive 1 2 3\nsem-timedwait 1 3\nmq-give 1 2\n",
+        "000000171a00000000000000010000000200000000000000036869\n000000151b0000000000000001000000020000000000000003\n000000111c00000000000000010000000000000003\n000000111e00000000000000010000000000000002\n",
+        true,
+    ),
+    ("tick 5\n", "fault usage\n", false),
     ("\n", "fault usage\n", false),
     (
         "# a comment\ninterrupt\n",

@@ -3,7 +3,7 @@
 use crate::made::{act, config, core_of, open, receive, send};
 use bitflags::Flags;
 use ipc_core::{Core, CoreFault, Field, Limits, laws};
-use ipc_terms::{Answer, Call, Event, Mode, NoMemory, OpenFlags, Rule, Sid, Uid};
+use ipc_terms::{Answer, Call, Desc, Event, Mode, NoMemory, OpenFlags, Rule, Sid, Uid};
 use std::alloc::Global;
 use std::mem;
 use std::test::Fail;
@@ -17,8 +17,13 @@ enum Asked {
     Create(u64, &'static [u8]),
     Send(u64, u64, u32, &'static [u8]),
     Receive(u64, u64),
+    /// A receive by the description that waits no longer than to the moment.
+    ReceiveUntil(u64, u64, u64),
+    /// The description, and who takes it.
+    Give(u64, u64, u64),
     Interrupt(u64),
     Hangup(u64),
+    Tick(u64),
 }
 
 fn event(alloc: Global, asked: &Asked) -> Result<Event, NoMemory> {
@@ -29,8 +34,26 @@ fn event(alloc: Global, asked: &Asked) -> Result<Event, NoMemory> {
         Create(sid, name) => act(*sid, open(alloc, name, OpenFlags::CREATE, 0o666)?),
         Send(sid, desc, priority, bytes) => act(*sid, send(alloc, *desc, *priority, bytes)?),
         Receive(sid, desc) => act(*sid, receive(*desc)),
+        ReceiveUntil(sid, desc, deadline) => act(*sid, receive_until(*desc, *deadline)),
+        Give(sid, desc, taker) => act(*sid, give(*desc, *taker)),
         Interrupt(sid) => act(*sid, Call::Interrupt),
+        Tick(moment) => Event::Tick { moment: *moment },
     })
+}
+
+fn receive_until(desc: u64, deadline: u64) -> Call {
+    Call::MqTimedReceive {
+        desc: Desc(desc),
+        length: 8192,
+        deadline,
+    }
+}
+
+fn give(desc: u64, taker: u64) -> Call {
+    Call::MqGive {
+        desc: Desc(desc),
+        taker: Sid(taker),
+    }
 }
 
 /// One step on a core, and what it is to give.
@@ -39,6 +62,8 @@ enum Step {
     Post(Asked, Option<Rule>, Option<Sid>, Option<Sid>),
     /// The verdict on an event that is not made.
     Decide(Asked, Option<Rule>),
+    /// The session that a tick of this moment would answer.
+    Due(u64, Option<Sid>),
     /// How many answers the session has not taken yet.
     Waiting(u64, usize),
     /// How many it takes.
@@ -55,8 +80,8 @@ enum Step {
     Run,
 }
 
-use Asked::{Create, Hangup, Hello, Interrupt, Receive, Send, Umask};
-use Step::{Clear, Decide, New, Post, Records, Run, Standard, Take, Waiting};
+use Asked::{Create, Give, Hangup, Hello, Interrupt, Receive, ReceiveUntil, Send, Tick, Umask};
+use Step::{Clear, Decide, Due, New, Post, Records, Run, Standard, Take, Waiting};
 
 const ANN: Option<Sid> = Some(Sid(0));
 
@@ -131,6 +156,7 @@ fn gives(alloc: Global, core: &mut Core, step: &Step) -> Result<bool, Fail> {
     Ok(match step {
         Post(asked, rule, caller, other) => { posts(alloc, core, asked, *rule, (*caller, *other))? }
         Decide(asked, rule) => core.decide(&event(alloc, asked)?) == *rule,
+        Due(moment, sid) => core.due(*moment) == *sid,
         Waiting(sid, count) => {
             core.waiting(Sid(*sid)) == *count && core.answers(Sid(*sid)).len() == *count
         }
@@ -148,7 +174,7 @@ fn gives(alloc: Global, core: &mut Core, step: &Step) -> Result<bool, Fail> {
 
 /// Answers wait in outboxes until they are taken, once; a call that parks is answered later; what is
 /// answered to nobody, or to a session that is not live, stands nowhere.
-static STEPS: [Step; 43] = [
+static STEPS: [Step; 66] = [
     Records(0),
     Post(Hello(Some(Uid(1000))), None, ANN, None),
     Post(Hello(None), Some(Rule::BadKey), Some(Sid::NOBODY), None),
@@ -190,6 +216,30 @@ static STEPS: [Step; 43] = [
     Post(Umask(0, 0), None, ANN, None),
     Waiting(0, 1),
     Standard,
+    // A tick answers the session that is due, and nobody where none is; a description is passed on.
+    New,
+    Post(Hello(Some(Uid(1000))), None, ANN, None),
+    Post(Hello(Some(Uid(1001))), None, BOB, None),
+    Post(Create(0, b"/q"), None, ANN, None),
+    Post(Give(0, 0, 1), None, ANN, BOB),
+    Post(Create(0, b"/q"), None, ANN, None),
+    Due(u64::MAX, None),
+    Post(ReceiveUntil(1, 0, 7), None, None, None),
+    Post(ReceiveUntil(0, 1, 5), None, None, None),
+    Due(4, None),
+    Due(5, ANN),
+    Due(6, ANN),
+    Due(7, BOB),
+    Post(Tick(4), None, None, None),
+    Post(Tick(9), None, BOB, None),
+    Due(0, ANN),
+    Take(1, 3),
+    Decide(Tick(0), None),
+    Post(Tick(0), None, ANN, None),
+    Due(u64::MAX, None),
+    Post(ReceiveUntil(0, 1, 9), Some(Rule::TimedOut), ANN, None),
+    Post(ReceiveUntil(0, 1, 10), None, None, None),
+    Records(12),
     // A run answers each event, and what was answered waits.
     New,
     Run,

@@ -16,6 +16,8 @@ enum Step {
     Open(Sid, u64, Access, bool, Desc),
     Get(Sid, Desc, Option<Row>),
     SetNonblock(Sid, Desc, bool),
+    /// The first session, which holds the description, passes it on to the other.
+    HandOver(Sid, Desc, Sid),
     Close(Sid, Desc, Option<u64>),
     CloseAll(Sid),
     First(Sid, Option<Desc>),
@@ -27,7 +29,8 @@ enum Step {
 }
 
 use Step::{
-    Close, CloseAll, Count, First, Get, Holder, New, Open, Opened, SetNonblock, Slot, Uses,
+    Close, CloseAll, Count, First, Get, HandOver, Holder, New, Open, Opened, SetNonblock, Slot,
+    Uses,
 };
 
 /// Opens. An open that is refused for want of memory is made again: it used up no number.
@@ -57,6 +60,12 @@ fn sets(descrs: &mut Descrs, sid: Sid, desc: Desc, nonblock: bool) -> bool {
     held
 }
 
+/// Passes the description on, and says whether the session held it and there was memory.
+fn hands_over(descrs: &mut Descrs, sid: Sid, desc: Desc, taker: Sid) -> bool {
+    let held = descrs.get(sid, desc).is_some();
+    held && descrs.hand_over(sid, desc, taker).is_ok()
+}
+
 /// Does the step, and says whether it gave what it is to give.
 fn gives(alloc: Global, descrs: &mut Descrs, step: &Step) -> Result<bool, Fail> {
     Ok(match *step {
@@ -69,6 +78,7 @@ fn gives(alloc: Global, descrs: &mut Descrs, step: &Step) -> Result<bool, Fail> 
         }
         Get(sid, desc, wanted) => descrs.get(sid, desc).copied() == wanted,
         SetNonblock(sid, desc, nonblock) => sets(descrs, sid, desc, nonblock),
+        HandOver(sid, desc, taker) => hands_over(descrs, sid, desc, taker),
         Close(sid, desc, wanted) => descrs.close(sid, desc) == wanted,
         CloseAll(sid) => {
             descrs.close_all(sid);
@@ -117,7 +127,16 @@ const TO_BOTH: Row = Row {
     nonblock: false,
 };
 
-static STEPS: [Step; 58] = [
+/// What bob opened, in ann's hands.
+const PASSED_ON: Row = Row {
+    desc: Desc(1),
+    session: ANN,
+    object: 4,
+    access: Access::Both,
+    nonblock: true,
+};
+
+static STEPS: [Step; 88] = [
     // No descriptions.
     New,
     Opened(0),
@@ -136,6 +155,38 @@ static STEPS: [Step; 58] = [
     Holder(Desc(0), Some(ANN)),
     Close(ANN, Desc(0), Some(4)),
     First(BOB, Some(Desc(1))),
+    // Its description is passed on, and nothing else of it changes.
+    HandOver(BOB, Desc(1), ANN),
+    Get(ANN, Desc(1), Some(PASSED_ON)),
+    Get(BOB, Desc(1), None),
+    Holder(Desc(1), Some(ANN)),
+    First(ANN, Some(Desc(1))),
+    First(BOB, None),
+    Count(ANN, 1),
+    Count(BOB, 0),
+    Uses(4, 1),
+    Slot(ANN, Desc(1), Some(1)),
+    Opened(2),
+    CloseAll(BOB),
+    Get(ANN, Desc(1), Some(PASSED_ON)),
+    // A number comes behind and before those that the taker holds; it may come back.
+    New,
+    Open(ANN, 4, Access::Read, false, Desc(0)),
+    Open(BOB, 5, Access::Read, false, Desc(1)),
+    Open(ANN, 6, Access::Read, false, Desc(2)),
+    HandOver(ANN, Desc(2), BOB),
+    HandOver(ANN, Desc(0), BOB),
+    Count(BOB, 3),
+    First(BOB, Some(Desc(0))),
+    HandOver(BOB, Desc(1), ANN),
+    HandOver(BOB, Desc(0), ANN),
+    HandOver(ANN, Desc(0), ANN),
+    Count(ANN, 2),
+    First(ANN, Some(Desc(0))),
+    First(BOB, Some(Desc(2))),
+    CloseAll(ANN),
+    Uses(4, 0),
+    Uses(6, 1),
     // A closed description leaves its slot to a later one.
     New,
     Open(ANN, 1, Access::Read, false, Desc(0)),

@@ -10,6 +10,8 @@ mod client_tests;
 #[cfg(test)]
 mod core_tests;
 #[cfg(test)]
+mod deadlines_tests;
+#[cfg(test)]
 mod descriptions_tests;
 #[cfg(test)]
 mod fault_tests;

@@ -24,6 +24,7 @@ enum Said {
     /// Place, session, event, rule and name of each line.
     Recorded(&'static [(u64, u64, u8, u16, &'static [u8])]),
     Notice(u64),
+    Taken(u64),
     Refused(Rule),
     Interrupted,
 }
@@ -56,6 +57,7 @@ fn answer_of(alloc: Global, said: &Said) -> Result<Answer, NoMemory> {
         }),
         Said::Recorded(shown) => Answer::Records(lines(alloc, shown)?),
         Said::Notice(number) => Answer::Notice(Desc(*number)),
+        Said::Taken(number) => Answer::Taken(Desc(*number)),
         Said::Refused(rule) => Answer::Refused(*rule),
         Said::Interrupted => Answer::Interrupted,
     })
@@ -75,7 +77,7 @@ fn lines(alloc: Global, shown: &[(u64, u64, u8, u16, &[u8])]) -> Result<Lines, N
     Ok(Lines::new(listed))
 }
 
-static LINES: [(Said, &str); 53] = [
+static LINES: [(Said, &str); 58] = [
     (Said::Value(0), "value 0"),
     (Said::Value(u32::MAX), "value 4294967295"),
     (Said::Started(3), "started 3"),
@@ -94,6 +96,11 @@ static LINES: [(Said, &str); 53] = [
     ),
     (Said::Refused(Rule::NoSession), "refused 1 ESRCH NoSession"),
     (Said::Refused(Rule::BadKey), "refused 31 EACCES BadKey"),
+    (
+        Said::Refused(Rule::TimedOut),
+        "refused 32 ETIMEDOUT TimedOut",
+    ),
+    (Said::Refused(Rule::NoTaker), "refused 33 ESRCH NoTaker"),
     (Said::Received(0, b"hi"), "received 0 hi"),
     (Said::Received(5, b"!~"), "received 5 !~"),
     (Said::Received(32_767, b"-"), "received 32767 -"),
@@ -140,6 +147,8 @@ static LINES: [(Said, &str); 53] = [
     ),
     (Said::Refused(Rule::Sticky), "refused 17 EACCES Sticky"),
     (Said::Notice(2), "notice 2"),
+    (Said::Taken(2), "taken 2"),
+    (Said::Taken(u64::MAX), "taken 18446744073709551615"),
     (Said::Recorded(&[]), "records 0"),
     (
         Said::Recorded(&[(3, u64::MAX, 1, 0, b""), (4, 1, 3, 13, b"/x")]),
@@ -149,10 +158,20 @@ static LINES: [(Said, &str); 53] = [
     (
         Said::Recorded(&[
             (u64::MAX, 0, 0, u16::MAX, b"hex:"),
-            (0, u64::MAX - 1, 26, 0, b"/ "),
+            (0, u64::MAX - 1, 31, 0, b"/ "),
             (1, 0, 255, 0, b""),
         ]),
-        "records 3 18446744073709551615:0:0:65535:hex:6865783a 0:18446744073709551614:26:0:hex:2f20 1:0:255:0:hex:",
+        "records 3 18446744073709551615:0:0:65535:hex:6865783a 0:18446744073709551614:31:0:hex:2f20 1:0:255:0:hex:",
+    ),
+    (
+        Said::Recorded(&[
+            (0, 7, 26, 32, b""),
+            (1, 7, 27, 0, b""),
+            (2, 7, 28, 0, b""),
+            (3, u64::MAX, 29, 0, b""),
+            (4, 7, 30, 33, b""),
+        ]),
+        "records 5 0:7:mq-timedsend:32:hex: 1:7:mq-timedreceive:0:hex: 2:7:sem-timedwait:0:hex: 3:-:tick:0:hex: 4:7:mq-give:33:hex:",
     ),
     (
         Said::Recorded(&[
@@ -217,7 +236,7 @@ fn lines_are_added_to_a_text(rt: HostRuntime) -> Result<(), Fail> {
 }
 
 /// The names of the rules, in the order of their numbers.
-static NAMES: [&str; 31] = [
+static NAMES: [&str; 33] = [
     "NoSession",
     "InCall",
     "NotInCall",
@@ -249,6 +268,8 @@ static NAMES: [&str; 31] = [
     "WouldBlock",
     "Overflow",
     "BadKey",
+    "TimedOut",
+    "NoTaker",
 ];
 
 /// Whether the line of a refusal by the rule ends with the name.

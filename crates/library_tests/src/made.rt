@@ -45,6 +45,21 @@ pub(crate) fn send(
     })
 }
 
+pub(crate) fn timed_send(
+    alloc: Global,
+    desc: u64,
+    priority: u32,
+    deadline: u64,
+    bytes: &[u8],
+) -> Result<Call, NoMemory> {
+    Ok(Call::MqTimedSend {
+        desc: Desc(desc),
+        priority,
+        deadline,
+        bytes: Bytes::from_slice(alloc, bytes)?,
+    })
+}
+
 /// An open of a queue for both, without attributes.
 pub(crate) fn open(
     alloc: Global,

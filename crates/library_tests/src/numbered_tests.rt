@@ -15,13 +15,17 @@ enum Step {
     /// Another value stands at the number, if one stands there.
     Set(usize, u32),
     Take(usize, Option<u32>),
-    Truncate(usize),
+    Undo,
     NextNumber(usize),
+    /// Pushes values, each its own number, until this is the next number.
+    PushTo(u32),
+    /// Takes the values at the numbers from the one to below the other.
+    TakeAll(usize, usize),
 }
 
-use Step::{Get, New, NextNumber, Push, Set, Take, Truncate};
+use Step::{Get, New, NextNumber, Push, PushTo, Set, Take, TakeAll, Undo};
 
-static STEPS: [Step; 40] = [
+static STEPS: [Step; 61] = [
     // No values.
     New,
     NextNumber(0),
@@ -57,28 +61,62 @@ static STEPS: [Step; 40] = [
     Get(3, Some(40)),
     Take(3, Some(40)),
     NextNumber(4),
-    // The numbers of values that are forgotten are.
-    Truncate(5),
-    NextNumber(4),
-    Truncate(2),
+    // The number of a push that is undone is.
+    Undo,
+    NextNumber(3),
+    Undo,
     NextNumber(2),
     Get(0, Some(30)),
     Get(2, None),
     Push(50, 2),
     Get(2, Some(50)),
     Get(1, None),
+    New,
+    Undo,
+    NextNumber(0),
+    // Values are found across pages, and where a page went.
+    PushTo(70),
+    Get(31, Some(31)),
+    Get(32, Some(32)),
+    Get(64, Some(64)),
+    Get(70, None),
+    TakeAll(0, 40),
+    Get(31, None),
+    Get(32, None),
+    Get(39, None),
+    Get(40, Some(40)),
+    Take(64, Some(64)),
+    TakeAll(40, 70),
+    Get(69, None),
+    NextNumber(70),
+    Push(7, 70),
+    Get(70, Some(7)),
+    Get(38, None),
+    Get(6, None),
 ];
 
 /// Pushes the value, and says whether it got this number.
-fn pushes(
-    alloc: Global,
-    values: &mut Numbered<u32>,
-    value: u32,
-    number: usize,
-) -> Result<bool, NoMemory> {
+fn pushes(values: &mut Numbered<u32>, value: u32, number: usize) -> Result<bool, NoMemory> {
     let next = values.next_number();
-    values.push(alloc, value)?;
+    values.push(value)?;
     Ok(next == number)
+}
+
+/// Pushes the numbers from 0 on, and says whether each got its own.
+fn pushes_to(values: &mut Numbered<u32>, next: u32) -> Result<bool, NoMemory> {
+    for number in 0..next {
+        if !pushes(values, number, number as usize)? {
+            return Ok(false);
+        }
+    }
+    Ok(true)
+}
+
+/// Takes the values at the numbers from the one to below the other.
+fn take_all(values: &mut Numbered<u32>, from: usize, to: usize) {
+    for number in from..to {
+        values.take(number);
+    }
 }
 
 /// Puts another value at the number, if one stands there.
@@ -92,11 +130,13 @@ fn set(values: &mut Numbered<u32>, number: usize, next: u32) {
 fn gives(alloc: Global, values: &mut Numbered<u32>, step: &Step) -> Result<bool, NoMemory> {
     match *step {
         New => *values = Numbered::new(alloc),
-        Push(value, number) => return pushes(alloc, values, value, number),
+        Push(value, number) => return pushes(values, value, number),
         Get(number, wanted) => return Ok(values.get(number).copied() == wanted),
         Set(number, value) => set(values, number, value),
         Take(number, wanted) => return Ok(values.take(number) == wanted),
-        Truncate(number) => values.truncate(number),
+        Undo => values.undo_push(),
+        PushTo(next) => return pushes_to(values, next),
+        TakeAll(from, to) => take_all(values, from, to),
         NextNumber(wanted) => return Ok(values.next_number() == wanted),
     }
     Ok(true)

@@ -2,7 +2,9 @@
 
 use crate::made::{joined, name, names};
 use bitflags::Flags;
-use ipc_terms::{Answer, AnswerOp, Bytes, Call, CallOp, Desc, Names, NoMemory, OpenFlags, Rule};
+use ipc_terms::{
+    Answer, AnswerOp, Bytes, Call, CallOp, Desc, Event, Names, NoMemory, OpenFlags, Rule,
+};
 use std::alloc::Global;
 use std::test::Fail;
 
@@ -78,12 +80,14 @@ fn lists_of_names_are_their_names_in_order(rt: HostRuntime) -> Result<(), Fail> 
 }
 
 /// Rules, their numbers, their error words and their names.
-static RULES: [(Rule, u16, &str, &str); 5] = [
+static RULES: [(Rule, u16, &str, &str); 7] = [
     (Rule::NoSession, 1, "ESRCH", "NoSession"),
     (Rule::NameLong, 5, "ENAMETOOLONG", "NameLong"),
     (Rule::Sticky, 17, "EACCES", "Sticky"),
     (Rule::WouldBlock, 29, "EAGAIN", "WouldBlock"),
     (Rule::BadKey, 31, "EACCES", "BadKey"),
+    (Rule::TimedOut, 32, "ETIMEDOUT", "TimedOut"),
+    (Rule::NoTaker, 33, "ESRCH", "NoTaker"),
 ];
 
 #[test]
@@ -101,15 +105,15 @@ fn stands_for_itself(number: u8) -> bool {
     let call = CallOp::of_number(number).map(|op| op.number());
     let answer = AnswerOp::of_number(number).map(|op| op.number());
     let (known_call, known_answer) = match number {
-        2..=24 => (Some(number), None),
-        65..=78 => (None, Some(number)),
+        2..=24 | 26..=28 | 30 => (Some(number), None),
+        65..=79 => (None, Some(number)),
         _ => (None, None),
     };
     call == known_call && answer == known_answer
 }
 
 #[test]
-fn calls_are_2_to_24_and_answers_65_to_78(_rt: HostRuntime) -> Result<(), Fail> {
+fn calls_are_2_to_30_but_25_and_29_and_answers_65_to_79(_rt: HostRuntime) -> Result<(), Fail> {
     for number in 0..=u8::MAX {
         if !stands_for_itself(number) {
             return Err(Fail::new(format_args!("at {number}")));
@@ -124,6 +128,7 @@ fn a_call_and_an_answer_say_which_they_are(rt: HostRuntime) {
     assert!(rt; Call::Interrupt.op().number() == 23);
     assert!(rt; Answer::Notice(Desc(7)).op() == AnswerOp::Notice);
     assert!(rt; Answer::Done.op().number() == 66);
+    assert!(rt; Event::Tick { moment: 7 }.op() == 29);
 }
 
 /// Bits, and whether they create, exclude, and refuse where others wait.

@@ -1,6 +1,6 @@
 //! Trails: what was pushed stands at its place, and a send's message with it.
 
-use crate::made::{act, name, send};
+use crate::made::{act, name, send, timed_send};
 use ipc_terms::{Call, Event, Line, NoMemory, Record, Rule, Sid, Uid};
 use ipc_trail::{Receipt, Trail};
 use std::alloc::Global;
@@ -13,9 +13,13 @@ enum Pushed {
     Hello(u32),
     /// A send of this priority and these bytes, and the rule that refused it.
     Send(u32, &'static [u8], Option<Rule>),
+    /// The same with a deadline.
+    TimedSend(u32, &'static [u8], Option<Rule>),
+    /// A tick of this moment.
+    Tick(u64),
 }
 
-use Pushed::{Hello, Send};
+use Pushed::{Hello, Send, Tick, TimedSend};
 
 /// The record: session 0 acts, by description 0.
 fn made(alloc: Global, pushed: &Pushed) -> Result<Record, NoMemory> {
@@ -28,6 +32,11 @@ fn made(alloc: Global, pushed: &Pushed) -> Result<Record, NoMemory> {
             let call = send(alloc, 0, *priority, bytes)?;
             Ok(record_of(act(0, call), *rule))
         }
+        TimedSend(priority, bytes, rule) => {
+            let call = timed_send(alloc, 0, *priority, 9, bytes)?;
+            Ok(record_of(act(0, call), *rule))
+        }
+        Tick(moment) => Ok(record_of(Event::Tick { moment: *moment }, None)),
     }
 }
 
@@ -60,18 +69,26 @@ fn stands(trail: &Trail, place: usize, pushed: &Pushed) -> bool {
                 ..
             },
             Send(priority, bytes, rule),
+        )
+        | (
+            Event::Do {
+                call: Call::MqTimedSend { .. },
+                ..
+            },
+            TimedSend(priority, bytes, rule),
         ) => {
             let place = place as u64;
             record.rule == *rule
                 && trail.prio_at(place) == *priority
                 && trail.bytes_at(place).as_slice() == *bytes
         }
+        (Event::Tick { moment }, Tick(told)) => moment == told && record.rule == None,
         _ => false,
     }
 }
 
 /// Refused sends have messages too, and a message may be empty.
-static PUSHED: [Pushed; 8] = [
+static PUSHED: [Pushed; 11] = [
     Hello(0),
     Send(3, b"old", None),
     Hello(1000),
@@ -80,6 +97,9 @@ static PUSHED: [Pushed; 8] = [
     Send(32_767, b"\0\xff", None),
     Hello(7),
     Send(5, b"old", None),
+    Tick(9),
+    TimedSend(4, b"late", Some(Rule::TimedOut)),
+    TimedSend(32_767, b"new", None),
 ];
 
 #[test]
@@ -104,7 +124,7 @@ fn all_stand(trail: &Trail) -> Result<(), Fail> {
 }
 
 /// Session, event and rule that the audit shows of each of `PUSHED`.
-static SHOWN: [(u64, u8, u16); 8] = [
+static SHOWN: [(u64, u8, u16); 11] = [
     (u64::MAX, 1, 0),
     (0, 6, 0),
     (u64::MAX, 1, 0),
@@ -113,16 +133,19 @@ static SHOWN: [(u64, u8, u16); 8] = [
     (0, 6, 0),
     (u64::MAX, 1, 0),
     (0, 6, 0),
+    (u64::MAX, 29, 0),
+    (0, 26, 32),
+    (0, 26, 0),
 ];
 
 /// The start and the count of a page, and how many lines it has.
 static PAGES: [(u64, u16, usize); 7] = [
     (0, 5, 5),
-    (0, 8, 8),
-    (6, 9, 2),
+    (0, 11, 11),
+    (6, 12, 5),
     (3, 0, 0),
     (3, 1, 1),
-    (8, 1, 0),
+    (11, 1, 0),
     (u64::MAX, u16::MAX, 0),
 ];
 

@@ -9,7 +9,7 @@ pub(crate) const HELLO: &[u8] = b"\0\0\0\x06\x01\0\x03ka1";
 
 /// A body of each kind of request and answer, with each option there and not there, and how many of its bytes are
 /// fields of a known length: the others are a message, which may be cut.
-static BODIES: [(&[u8], usize); 45] = [
+static BODIES: [(&[u8], usize); 50] = [
     (b"\x01\0\x03ka1", 6),
     (b"\x02\0\x12", 3),
     (b"\x03\0\x02/a\x03\x01\x01\xb6\0", 10),
@@ -39,6 +39,10 @@ static BODIES: [(&[u8], usize); 45] = [
     (b"\x16\0\0\x03\xe8\0\0\0\0\0\x0c\x35\0", 13),
     (b"\x17", 1),
     (b"\x18\0\0\0\0\0\0\0\0\x03\xe8", 11),
+    (b"\x1a\0\0\0\0\0\0\0\0\0\0\0\x05\0\0\0\0\0\0\0\x09hi", 21),
+    (b"\x1b\0\0\0\0\0\0\0\0\0\0\x20\0\0\0\0\0\0\0\0\x09", 21),
+    (b"\x1c\0\0\0\0\0\0\0\x07\0\0\0\0\0\0\0\x09", 17),
+    (b"\x1e\0\0\0\0\0\0\0\x07\0\0\0\0\0\0\0\x02", 17),
     (b"\x41\0\0\0\0\0\0\0\0", 9),
     (b"\x42", 1),
     (b"\x43\0\0\0\0\0\0\0\x07", 9),
@@ -55,9 +59,10 @@ static BODIES: [(&[u8], usize); 45] = [
         b"\x4b\0\x01\0\0\0\0\0\0\0\x03\xff\xff\xff\xff\xff\xff\xff\xff\x01\0\0\0\x02/x",
         26,
     ),
-    (b"\x4c\0\x1f", 3),
+    (b"\x4c\0\x21", 3),
     (b"\x4d", 1),
     (b"\x4e\0\0\0\0\0\0\0\x02", 9),
+    (b"\x4f\0\0\0\0\0\0\0\x02", 9),
 ];
 
 /// Bodies with one value that is not allowed.
@@ -81,10 +86,10 @@ static NOT_ALLOWED: [&[u8]; 18] = [
     b"\x12\0\0\0\0\0\0\x0a",
     b"\x13\x03\0",
     b"\x14\x01\xff\0\0",
-    // Rules of 0, 32 and 287, whose low byte is 31.
+    // Rules of 0, 34 and 289, whose low byte is 33.
     b"\x4c\0\0",
-    b"\x4c\0\x20",
-    b"\x4c\x01\x1f",
+    b"\x4c\0\x22",
+    b"\x4c\x01\x21",
 ];
 
 /// The front, and the frame of this body behind it.
@@ -171,13 +176,18 @@ fn is_no_opcode(fault: Option<WireFault>) -> bool {
     fault == Some(WireFault::BadOpcode)
 }
 
+/// A hang-up and a tick have the numbers 25 and 29, and no frame.
+fn is_call(byte: u8) -> bool {
+    matches!(byte, 2..=24 | 26..=28 | 30)
+}
+
 #[test]
 fn each_byte_is_an_opcode_or_none(rt: HostRuntime) -> Result<(), Fail> {
     for byte in 0..=255_u8 {
         let first = is_no_opcode(request_fault(rt.alloc(), b"", &[byte])?);
         let later = is_no_opcode(request_fault(rt.alloc(), HELLO, &[byte])?);
         let answer = is_no_opcode(answer_fault(rt.alloc(), &[byte])?);
-        let known = (byte == 1, 2 <= byte && byte <= 24, 65 <= byte && byte <= 78);
+        let known = (byte == 1, is_call(byte), 65 <= byte && byte <= 79);
         if (!first, !later, !answer) != known {
             return Err(Fail::new(format_args!("at {byte}")));
         }

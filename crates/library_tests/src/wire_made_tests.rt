@@ -8,11 +8,46 @@ use std::test::Fail;
 
 /// The fields of each opcode from 1 on: `b` a bool, `f` a family, `a` an access, `q` the flags of a queue's
 /// open, `s` those of a semaphore's, `2`, `4` and `8` so many bytes, `t` a text, `w` an optional number of
-/// four bytes, `p` an optional pair of them, `n` an optional text, and `r` the rest.
-static FIELDS: [&[u8]; 24] = [
-    b"t", b"2", b"taq2p", b"8", b"t", b"84r", b"84", b"8", b"8b", b"8b", b"ts24", b"8", b"t", b"8",
-    b"8", b"8", b"8", b"f42", b"fn", b"2fn", b"wwfn", b"48", b"", b"82",
+/// four bytes, `p` an optional pair of them, `n` an optional text, and `r` the rest. A hang-up and a tick,
+/// 25 and 29, have no frame.
+static FIELDS: [Option<&[u8]>; 30] = [
+    Some(b"t"),
+    Some(b"2"),
+    Some(b"taq2p"),
+    Some(b"8"),
+    Some(b"t"),
+    Some(b"84r"),
+    Some(b"84"),
+    Some(b"8"),
+    Some(b"8b"),
+    Some(b"8b"),
+    Some(b"ts24"),
+    Some(b"8"),
+    Some(b"t"),
+    Some(b"8"),
+    Some(b"8"),
+    Some(b"8"),
+    Some(b"8"),
+    Some(b"f42"),
+    Some(b"fn"),
+    Some(b"2fn"),
+    Some(b"wwfn"),
+    Some(b"48"),
+    Some(b""),
+    Some(b"82"),
+    None,
+    Some(b"848r"),
+    Some(b"848"),
+    Some(b"88"),
+    None,
+    Some(b"88"),
 ];
+
+/// The fields of this opcode.
+fn fields_of(opcode: u8) -> Option<&'static [u8]> {
+    let place = (opcode as usize).checked_sub(1)?;
+    *FIELDS.get(place)?
+}
 
 /// What follows the first bytes, so many as there are to be.
 fn behind(bytes: &[u8], count: usize) -> Option<&[u8]> {
@@ -68,8 +103,8 @@ fn fault_of(body: &[u8]) -> Option<WireFault> {
     let [opcode, fields @ ..] = body else {
         return Some(WireFault::Empty);
     };
-    let kinds = match opcode {
-        2..=24 => FIELDS[*opcode as usize - 1],
+    let kinds = match fields_of(*opcode) {
+        Some(kinds) if *opcode != 1 => kinds,
         _ => return Some(WireFault::BadOpcode),
     };
     let mut rest = fields;
@@ -111,11 +146,7 @@ fn made_body(alloc: Global, dice: &mut Dice) -> Result<Vec<u8>, Fail> {
     let opcode = dice.byte() & 31;
     let mut body = Vec::new(alloc);
     body.push(opcode)?;
-    let kinds: &[u8] = match opcode {
-        1..=24 => FIELDS[opcode as usize - 1],
-        _ => b"8",
-    };
-    for kind in kinds {
+    for kind in fields_of(opcode).unwrap_or(b"8") {
         push_field(&mut body, dice, *kind)?;
     }
     // At times a byte is lost or comes more.

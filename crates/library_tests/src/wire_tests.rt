@@ -1,10 +1,12 @@
 //! Frames: streams of requests in whatever pieces they come, answers, and the memory that they take.
 
 use crate::made::{act, send};
-use ipc_terms::{Answer, Bytes, Call, Desc, Event, Family, Gid, Name, NoMemory, Sid, Target, Uid};
+use ipc_terms::{
+    Answer, Bytes, Call, Desc, Event, Family, Gid, Name, NoMemory, Rule, Sid, Target, Uid,
+};
 use ipc_wire::{
-    Frames, Request, WireFault, WriteFault, put_answer, put_request, read_answer, read_request,
-    write_answer, write_request,
+    Frames, ReadFault, Request, WireFault, WriteFault, put_answer, put_request, read_answer,
+    read_request, write_answer, write_request,
 };
 use std::alloc::Global;
 use std::fs;
@@ -19,7 +21,7 @@ struct Stream {
 }
 
 /// A hello by the key `ka1`, then whatever follows.
-static STREAMS: [Stream; 14] = [
+static STREAMS: [Stream; 19] = [
     // An open of `/a` for both, which creates it with the mode 0666.
     Stream {
         bytes: b"\0\0\0\x06\x01\0\x03ka1\0\0\0\x0a\x03\0\x02/a\x03\x01\x01\xb6\0",
@@ -107,6 +109,37 @@ static STREAMS: [Stream; 14] = [
         read: 10,
         fault: Some(WireFault::BadOpcode),
     },
+    // Timed calls and a give, and the numbers of a hang-up and of a tick, which have no frames.
+    Stream {
+        bytes: b"\0\0\0\x06\x01\0\x03ka1\0\0\0\x17\x1a\0\0\0\0\0\0\0\0\0\0\0\x05\0\0\0\0\0\0\0\x09hi\0\0\0\x15\x1b\0\0\0\0\0\0\0\0\0\0\x20\0\0\0\0\0\0\0\0\x09",
+        requests: 3,
+        read: 62,
+        fault: None,
+    },
+    Stream {
+        bytes: b"\0\0\0\x06\x01\0\x03ka1\0\0\0\x11\x1c\0\0\0\0\0\0\0\0\0\0\0\0\0\0\0\x05\0\0\0\x11\x1e\0\0\0\0\0\0\0\0\0\0\0\0\0\0\0\0",
+        requests: 3,
+        read: 52,
+        fault: None,
+    },
+    Stream {
+        bytes: b"\0\0\0\x06\x01\0\x03ka1\0\0\0\x01\x19",
+        requests: 1,
+        read: 10,
+        fault: Some(WireFault::BadOpcode),
+    },
+    Stream {
+        bytes: b"\0\0\0\x06\x01\0\x03ka1\0\0\0\x09\x1d\0\0\0\0\0\0\0\x05",
+        requests: 1,
+        read: 10,
+        fault: Some(WireFault::BadOpcode),
+    },
+    Stream {
+        bytes: b"\0\0\0\x06\x01\0\x03ka1\0\0\0\x10\x1c\0\0\0\0\0\0\0\0\0\0\0\0\0\0\0",
+        requests: 1,
+        read: 10,
+        fault: Some(WireFault::BadField),
+    },
     // A fault, and then a whole frame that is read no more.
     Stream {
         bytes: b"\0\0\0\x06\x01\0\x03ka1\0\0\0\0\0\0\0\x01\x17",
@@ -179,7 +212,7 @@ fn streams_are_read_alike_however_they_are_cut(rt: HostRuntime) -> Result<(), Fa
 }
 
 /// Texts of answers. Each is read as an answer that spells it, and takes all of it.
-static ANSWERS: [&[u8]; 14] = [
+static ANSWERS: [&[u8]; 17] = [
     b"\0\0\0\x09\x41\0\0\0\0\0\0\0\0",
     b"\0\0\0\x01\x42",
     b"\0\0\0\x09\x43\0\0\0\0\0\0\0\x07",
@@ -192,8 +225,11 @@ static ANSWERS: [&[u8]; 14] = [
     b"\0\0\0\x0b\x4a\0\0\x03\xe8\0\0\0\x32\x01\xb6",
     b"\0\0\0\x1a\x4b\0\x01\0\0\0\0\0\0\0\x03\xff\xff\xff\xff\xff\xff\xff\xff\x01\0\0\0\x02/x",
     b"\0\0\0\x03\x4c\0\x1f",
+    b"\0\0\0\x03\x4c\0\x20",
+    b"\0\0\0\x03\x4c\0\x21",
     b"\0\0\0\x01\x4d",
     b"\0\0\0\x09\x4e\0\0\0\0\0\0\0\x02",
+    b"\0\0\0\x09\x4f\0\0\0\0\0\0\0\x02",
 ];
 
 /// Whether some front of the text that lacks a byte is an answer.
@@ -253,6 +289,33 @@ fn answers_are_put_behind_what_stands_there(rt: HostRuntime) -> Result<(), Fail>
 fn a_start_is_read_with_its_length(rt: HostRuntime) -> Result<(), Fail> {
     let found = read_answer(rt.alloc(), b"\0\0\0\x09\x41\0\0\0\0\0\0\0\0\0")?;
     assert!(rt; matches!(&found, Some((Answer::Started(Sid(0)), 13))));
+    Ok(())
+}
+
+/// The rule of the refusal that these bytes are.
+fn refused(alloc: Global, bytes: &[u8]) -> Option<Rule> {
+    match read_answer(alloc, bytes) {
+        Ok(Some((Answer::Refused(rule), 7))) => Some(rule),
+        _ => None,
+    }
+}
+
+#[test]
+fn rules_32_and_33_are_read(rt: HostRuntime) {
+    assert!(rt; refused(rt.alloc(), b"\0\0\0\x03\x4c\0\x20") == Some(Rule::TimedOut));
+    assert!(rt; refused(rt.alloc(), b"\0\0\0\x03\x4c\0\x21") == Some(Rule::NoTaker));
+    assert!(rt;
+        matches!(
+            read_answer(rt.alloc(), b"\0\0\0\x03\x4c\0\x22"),
+            Err(ReadFault::Wire(WireFault::BadField))
+        )
+    );
+}
+
+#[test]
+fn a_description_that_was_passed_on_has_its_frame(rt: HostRuntime) -> Result<(), Fail> {
+    let frame = write_answer(rt.alloc(), &Answer::Taken(Desc(0)))?;
+    assert!(rt; frame.as_slice() == b"\0\0\0\x09\x4f\0\0\0\0\0\0\0\0".as_slice());
     Ok(())
 }
 
@@ -374,6 +437,57 @@ fn values_are_read_from_their_fields(rt: HostRuntime) -> Result<(), Fail> {
     let mut frames = Frames::new(rt.alloc());
     let requests = frames.feed(rt.alloc(), WRITTEN)?;
     assert!(rt; are_as_written(&requests));
+    Ok(())
+}
+
+/// A hello, timed calls and a give, with each of their values its own.
+const TIMED: &[u8] =
+    b"\0\0\0\x06\x01\0\x03ka1\0\0\0\x17\x1a\0\0\0\0\0\0\0\x01\0\0\0\x02\0\0\0\0\0\0\0\x03hi\0\0\0\x15\x1b\0\0\0\0\0\0\0\x04\0\0\0\x05\x01\x02\x03\x04\x05\x06\x07\x08\0\0\0\x11\x1c\0\0\0\0\0\0\0\x06\0\0\0\0\0\0\0\x07\0\0\0\x11\x1e\0\0\0\0\0\0\0\x08\0\0\0\0\0\0\0\x09";
+
+/// Whether this is a timed send of the bytes `hi`.
+fn is_timed_send(request: &Request) -> bool {
+    match request {
+        Request::Do(
+            Call::MqTimedSend {
+                desc: Desc(1),
+                priority: 2,
+                deadline: 3,
+                bytes,
+            },
+        ) => bytes.as_slice() == b"hi".as_slice(),
+        _ => false,
+    }
+}
+
+fn are_timed(requests: &[Request]) -> bool {
+    matches!(
+        requests,
+        [
+            Request::Hello(_),
+            sent,
+            Request::Do(Call::MqTimedReceive {
+                desc: Desc(4),
+                length: 5,
+                deadline: 0x0102_0304_0506_0708
+            }),
+            Request::Do(Call::SemTimedWait {
+                desc: Desc(6),
+                deadline: 7
+            }),
+            Request::Do(Call::MqGive {
+                desc: Desc(8),
+                taker: Sid(9)
+            }),
+        ] if is_timed_send(sent)
+    )
+}
+
+#[test]
+fn deadlines_and_takers_are_read_from_their_fields(rt: HostRuntime) -> Result<(), Fail> {
+    let mut frames = Frames::new(rt.alloc());
+    let requests = frames.feed(rt.alloc(), TIMED)?;
+    assert!(rt; are_timed(&requests));
+    assert!(rt; put_all(rt.alloc(), &requests)?.as_slice() == TIMED);
     Ok(())
 }
 

@@ -18,9 +18,12 @@ enum Meaning {
     Close(u64),
     Send(u64, u32, &'static [u8]),
     Receive(u64, u32),
+    TimedSend(u64, u32, u64, &'static [u8]),
+    TimedReceive(u64, u32, u64),
     Getattr(u64),
     Setattr(u64, bool),
     Notify(u64, bool),
+    Give(u64, u64),
     Unlink(&'static [u8]),
     SemOpen(&'static [u8], u8, u16, u32),
     SemClose(u64),
@@ -28,6 +31,7 @@ enum Meaning {
     SemPost(u64),
     SemWait(u64),
     SemTryWait(u64),
+    SemTimedWait(u64, u64),
     SemGetvalue(u64),
     List(Family, u32, u16),
     Directory(Family),
@@ -40,9 +44,9 @@ enum Meaning {
 }
 
 use Meaning::{
-    Audit, BadValue, Chmod, Chown, Close, Directory, Getattr, Interrupt, List, Notify, Open,
-    Receive, SemClose, SemGetvalue, SemOpen, SemPost, SemTryWait, SemUnlink, SemWait, Send,
-    SetLimit, Setattr, Stat, Umask, Unlink, Usage,
+    Audit, BadValue, Chmod, Chown, Close, Directory, Getattr, Give, Interrupt, List, Notify, Open,
+    Receive, SemClose, SemGetvalue, SemOpen, SemPost, SemTimedWait, SemTryWait, SemUnlink, SemWait,
+    Send, SetLimit, Setattr, Stat, TimedReceive, TimedSend, Umask, Unlink, Usage,
 };
 
 /// Whether the words mean this.
@@ -84,6 +88,9 @@ fn is_call(call: &Call, meaning: &Meaning) -> bool {
         (Call::MqNotify { desc, on }, Notify(number, wanted)) => {
             desc.0 == *number && on == wanted
         }
+        (Call::MqGive { desc, taker }, Give(number, wanted)) => {
+            desc.0 == *number && taker.0 == *wanted
+        }
         (Call::MqUnlink(name), Unlink(wanted)) => name.as_slice() == *wanted,
         (Call::StatName(target), Directory(family)) => is_meant(target, *family, None),
         (Call::StatName(target), Stat(family, name)) => is_meant(target, *family, Some(name)),
@@ -111,7 +118,38 @@ fn is_call(call: &Call, meaning: &Meaning) -> bool {
         }
         (Call::Interrupt, Interrupt) => true,
         (Call::Audit { start, count }, Audit(first, most)) => start == first && count == most,
-        _ => is_semaphore_call(call, meaning),
+        _ => is_timed_call(call, meaning) || is_semaphore_call(call, meaning),
+    }
+}
+
+fn is_timed_call(call: &Call, meaning: &Meaning) -> bool {
+    match (call, meaning) {
+        (
+            Call::MqTimedSend {
+                desc,
+                priority,
+                deadline,
+                bytes,
+            },
+            TimedSend(number, wanted, moment, message),
+        ) => {
+            desc.0 == *number
+                && priority == wanted
+                && deadline == moment
+                && bytes.as_slice() == *message
+        }
+        (
+            Call::MqTimedReceive {
+                desc,
+                length,
+                deadline,
+            },
+            TimedReceive(number, wanted, moment),
+        ) => desc.0 == *number && length == wanted && deadline == moment,
+        (Call::SemTimedWait { desc, deadline }, SemTimedWait(number, moment)) => {
+            desc.0 == *number && deadline == moment
+        }
+        _ => false,
     }
 }
 
@@ -191,7 +229,7 @@ const EXCLUSIVE: u8 = 2;
 
 const NONBLOCK: u8 = 4;
 
-static CALLS: [Row; 42] = [
+static CALLS: [Row; 46] = [
     ("umask 0", Umask(0)),
     ("umask 22", Umask(0o22)),
     ("umask 022", Umask(0o22)),
@@ -224,6 +262,10 @@ static CALLS: [Row; 42] = [
         "mq-setattr 18446744073709551615 nonblock",
         Setattr(u64::MAX, true),
     ),
+    ("mq-give 0 2", Give(0, 2)),
+    ("mq-give 18446744073709551615 0", Give(u64::MAX, 0)),
+    ("mq-give 00 02", BadValue("d")),
+    ("mq-give 0 02", BadValue("sid")),
     ("mq-notify 0 on", Notify(0, true)),
     (
         "mq-notify 18446744073709551615 off",
@@ -253,6 +295,31 @@ static CALLS: [Row; 42] = [
     // The names of options are names of values too.
     ("mq-send 0 0 mode", Send(0, 0, b"mode")),
     ("mq-unlink mq-unlink", Unlink(b"mq-unlink")),
+];
+
+static TIMED: [Row; 12] = [
+    ("mq-timedsend 0 1 2 hi", TimedSend(0, 1, 2, b"hi")),
+    (
+        "mq-timedsend 18446744073709551615 4294967295 18446744073709551614 hex:",
+        TimedSend(u64::MAX, u32::MAX, u64::MAX - 1, b""),
+    ),
+    ("mq-timedsend 1 2 3 4", TimedSend(1, 2, 3, b"4")),
+    ("mq-timedreceive 0 1 2", TimedReceive(0, 1, 2)),
+    (
+        "mq-timedreceive 18446744073709551615 4294967295 18446744073709551614",
+        TimedReceive(u64::MAX, u32::MAX, u64::MAX - 1),
+    ),
+    ("sem-timedwait 0 1", SemTimedWait(0, 1)),
+    (
+        "sem-timedwait 18446744073709551614 18446744073709551615",
+        SemTimedWait(u64::MAX - 1, u64::MAX),
+    ),
+    // A tick is no session's call.
+    ("tick 5", Usage),
+    ("tick", Usage),
+    ("mq-timed-send 0 1 2 hi", Usage),
+    ("mq-timedsend 0 1 2 -", Usage),
+    ("sem-timedwait 0 -1", Usage),
 ];
 
 static SEMAPHORES: [Row; 14] = [
@@ -363,13 +430,14 @@ static OPENS: [Row; 11] = [
 #[test]
 fn commands_mean_their_calls(rt: HostRuntime) -> Result<(), Fail> {
     all_mean(rt.alloc(), &CALLS)?;
+    all_mean(rt.alloc(), &TIMED)?;
     all_mean(rt.alloc(), &SEMAPHORES)?;
     all_mean(rt.alloc(), &CHANGES)?;
     all_mean(rt.alloc(), &OPENS)
 }
 
 /// Of several values that don't read, the first in the command's order is named.
-static FIRST_UNREAD: [Row; 22] = [
+static FIRST_UNREAD: [Row; 31] = [
     (
         "mq-open hex:2 x --msgsize x --maxmsg x --mode x",
         BadValue("name"),
@@ -393,6 +461,15 @@ static FIRST_UNREAD: [Row; 22] = [
     ("mq-send 0 0 hex:2", BadValue("bytes")),
     ("mq-receive x x", BadValue("d")),
     ("mq-receive 0 x", BadValue("len")),
+    ("mq-timedsend x x x hex:2", BadValue("d")),
+    ("mq-timedsend 0 x x hex:2", BadValue("prio")),
+    ("mq-timedsend 0 0 x hex:2", BadValue("deadline")),
+    ("mq-timedsend 0 0 0 hex:2", BadValue("bytes")),
+    ("mq-timedreceive x x x", BadValue("d")),
+    ("mq-timedreceive 0 x x", BadValue("len")),
+    ("mq-timedreceive 0 0 x", BadValue("deadline")),
+    ("sem-timedwait x x", BadValue("d")),
+    ("sem-timedwait 0 x", BadValue("deadline")),
     ("mq-setattr x x", BadValue("d")),
     ("mq-notify x x", BadValue("d")),
     ("audit x x", BadValue("start")),
@@ -454,6 +531,15 @@ mq-send 0 0 hi you
 mq-send 0 0 hi --nonblock
 mq-receive 0
 mq-receive 0 1 2
+mq-timedsend 0 0 0
+mq-timedsend 0 0 0 hi you
+mq-timedsend 0 0 0 hi --nonblock
+mq-timedreceive 0 0
+mq-timedreceive 0 0 0 0
+sem-timedwait 0
+sem-timedwait 0 0 0
+mq-give 0
+mq-give 0 0 0
 mq-getattr
 mq-getattr 0 1
 mq-setattr 0
@@ -547,12 +633,23 @@ const FAMILIES: &[&str] = &["", "MQ", "mqs", "m", "queue", "hex:6d71", "mq "];
 
 const PAIRS: &[&str] = &["hex:2", "hex:2D", "hex:2g", "hex:2d ", "hex:hex:", "hex:-1"];
 
-static UNREAD: [Unread; 27] = [
+static UNREAD: [Unread; 38] = [
     ("umask _", MODES, "octal"),
     ("mq-open /a r --mode _", MODES, "mode"),
     ("mq-close _", DESCRIPTIONS, "d"),
     ("mq-send _ 0 hi", DESCRIPTIONS, "d"),
     ("mq-receive _ 0", DESCRIPTIONS, "d"),
+    ("mq-timedsend _ 0 0 hi", DESCRIPTIONS, "d"),
+    ("mq-timedsend 0 _ 0 hi", COUNTS, "prio"),
+    ("mq-timedsend 0 0 _ hi", DESCRIPTIONS, "deadline"),
+    ("mq-timedsend 0 0 0 _", PAIRS, "bytes"),
+    ("mq-timedreceive _ 0 0", DESCRIPTIONS, "d"),
+    ("mq-timedreceive 0 _ 0", COUNTS, "len"),
+    ("mq-timedreceive 0 0 _", DESCRIPTIONS, "deadline"),
+    ("sem-timedwait _ 0", DESCRIPTIONS, "d"),
+    ("sem-timedwait 0 _", DESCRIPTIONS, "deadline"),
+    ("mq-give _ 0", DESCRIPTIONS, "d"),
+    ("mq-give 0 _", DESCRIPTIONS, "sid"),
     ("mq-getattr _", DESCRIPTIONS, "d"),
     ("mq-setattr _ block", DESCRIPTIONS, "d"),
     ("mq-open /a _", &["x", "R", "wr", "", "rww"], "access"),
@@ -627,9 +724,12 @@ const USAGE: &str = "  umask <octal>
   mq-close <d>
   mq-send <d> <prio> <bytes>
   mq-receive <d> <len>
+  mq-timedsend <d> <prio> <deadline> <bytes>
+  mq-timedreceive <d> <len> <deadline>
   mq-getattr <d>
   mq-setattr <d> <how>
   mq-notify <d> <how>
+  mq-give <d> <sid>
   mq-unlink <name>
   sem-open <name> [--create] [--excl] [--mode <value>] [--value <value>]
   sem-close <d>
@@ -637,6 +737,7 @@ const USAGE: &str = "  umask <octal>
   sem-post <d>
   sem-wait <d>
   sem-trywait <d>
+  sem-timedwait <d> <deadline>
   sem-getvalue <d>
   ls <family> <start> <count>
   stat <family> [name]

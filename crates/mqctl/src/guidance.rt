@@ -18,7 +18,7 @@ Usage:
   mqctl                       prints the frame of each line of standard input, in hexadecimal
   mqctl --help                prints this
 
-An answer is a line. Those of a command end with the first that is no notice.
+An answer is a line. Those of a command end with the first that is neither a notice nor `taken`.
 
 Each worker of the server serves one connection at a time. There are 4 by default, so a fifth client waits.
 

@@ -29,7 +29,8 @@ A user is NAME:KEY:UID:GID:GROUPS:LIMIT, where GROUPS and LIMIT may be empty.
 A step is a label and what its session does:
   LABEL hello KEY    starts a session of the user with this key
   LABEL hangup       ends the session that the label started last
-  LABEL COMMAND      calls, as that session";
+  LABEL COMMAND      calls, as that session
+  LABEL tick MOMENT  tells the time in milliseconds, whatever the label";
 
 const SERVER: &str = "\
 A server reads its users, a line for each, from the file USERS. Clients speak to it by mqctl.

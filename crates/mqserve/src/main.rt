@@ -4,6 +4,7 @@
 
 mod guidance;
 mod serving;
+mod ticking;
 
 use guidance::{help_text, hint};
 use ipc_core::Limits;

@@ -1,7 +1,8 @@
 //! Serving connections over TCP.
 
-ghost use Rattle.std.specs.Prelude.{◌≡◌, ◌^◌};
+ghost use Rattle.std.specs.Prelude.{◌≡◌, ◌^◌, None};
 
+use crate::ticking::{ServerClock, start_ticker};
 use ipc_access::Users;
 use ipc_book::{Book, Shared};
 use ipc_core::Config;
@@ -10,13 +11,14 @@ use ipc_script::ScriptFault;
 use ipc_server::{OpenGate, WorkersFault, run_workers};
 use std::alloc::Global;
 use std::fmt::Display;
-use std::fs;
 use std::marker::Brand;
 use std::net::{Net, TcpListener, TcpStream};
 use std::rt::Files;
 use std::sync::Wait;
 use std::sync::ledger::{Blank, Ledger};
 use std::thread::Threads;
+use std::time::Clock;
+use std::{fs, thread};
 
 /// Serves as many connections as are asked for, or until none can be accepted any more.
 pub fn serve<
@@ -26,6 +28,7 @@ pub fn serve<
         + Net<Listener = TcpListener, Stream = TcpStream>
         + Threads
         + Wait
+        + Clock
         + Sync,
 >(rt: &R, serving: &Serving) -> Result<(), ProgramFault> {
     let users = users_of(rt, serving.users.as_str())?;
@@ -44,6 +47,7 @@ fn serve_book<
         + Net<Listener = TcpListener, Stream = TcpStream>
         + Threads
         + Wait
+        + Clock
         + Sync,
 >(rt: &R, serving: &Serving, config: Config, blank: Blank) -> Result<(), ProgramFault>
     requires name { blank.name ≡ L.name }
@@ -76,26 +80,57 @@ fn users_of<R: AllocGlobal + Files>(rt: &R, path: &str) -> Result<Users, Program
 }
 
 /// Serves the connections, and says how many were served.
-fn work<L: Ledger + Send + Sync, R: AllocGlobal + Print + Threads + Wait + Sync>(
+fn work<L: Ledger + Send + Sync, R: AllocGlobal + Print + Threads + Wait + Clock + Sync>(
     rt: &R,
     serving: &Serving,
     listener: &TcpListener,
     shared: &Shared<L>,
 ) -> Result<(), ProgramFault> {
-    let served = run_workers(
-        rt,
-        rt.alloc(),
-        listener,
-        shared,
-        serving.workers,
-        serving.stop_after,
-        &OpenGate,
-    );
-    match served {
-        Ok(_) => say(rt, "served", serving.stop_after.unwrap_or(u64::MAX)),
-        Err((WorkersFault::AcceptFailed, _)) => Err(ProgramFault::Net),
-        Err((WorkersFault::NoMemory, _)) => Err(ScriptFault::Memory.into()),
+    match serve_and_tick(rt, serving, listener, shared) {
+        Ok(()) => say(rt, "served", serving.stop_after.unwrap_or(u64::MAX)),
+        Err(WorkersFault::AcceptFailed) => Err(ProgramFault::Net),
+        Err(WorkersFault::NoMemory) => Err(ScriptFault::Memory.into()),
     }
+}
+
+/// Serves the connections by workers. A ticker runs on a thread of its own until they have ended.
+fn serve_and_tick<L: Ledger + Send + Sync, R: AllocGlobal + Threads + Wait + Clock + Sync>(
+    rt: &R,
+    serving: &Serving,
+    listener: &TcpListener,
+    shared: &Shared<L>,
+) -> Result<(), WorkersFault> {
+    let alloc = rt.alloc();
+    let Ok(seat) = shared.seat(rt, alloc) else {
+        return Err(WorkersFault::NoMemory);
+    };
+    let clock = ServerClock::new(rt, alloc);
+    thread::scope(
+        thread::scope_env(),
+        rt,
+        |scope| -> Result<(), WorkersFault>
+            requires { seat.sid ≡ None }
+        {
+            let Some(ticker) = start_ticker(scope, &clock, shared, seat) else {
+                return Err(WorkersFault::NoMemory);
+            };
+            let served = run_workers(
+                rt,
+                alloc,
+                listener,
+                shared,
+                serving.workers,
+                serving.stop_after,
+                &OpenGate,
+            );
+            clock.stop();
+            let _seat = ticker.join(rt);
+            match served {
+                Ok(_) => Ok(()),
+                Err((fault, _)) => Err(fault),
+            }
+        },
+    )
 }
 
 /// Writes a line of two words.

@@ -9,3 +9,4 @@ mod pairs;
 mod seat_tests;
 mod signs;
 mod streams;
+mod ticker_tests;

@@ -11,7 +11,7 @@ use row::judge;
 use std::io;
 
 /// The scripts, in the order in which they are run.
-const ROWS: [&str; 89] = [
+const ROWS: [&str; 104] = [
     "first_run",
     "present_before_mode",
     "name_forms",
@@ -76,14 +76,29 @@ const ROWS: [&str; 89] = [
     "limits_lowered",
     "greatest_queues_of_user_0",
     "notice_once_to_who_asked",
+    "descriptions_pass_on",
+    "full_taker_is_given_nothing",
+    "given_along_three_sessions",
+    "unlinked_queue_given",
+    "registration_ends_by_a_give",
+    "give_rules_in_order",
     "no_notice_of_what_a_receive_lets_in",
     "registration_ends",
+    "timed_calls",
+    "timed_calls_end_by_place",
+    "timed_calls_served_before_a_tick",
+    "timed_calls_given_up",
+    "timed_out_and_called_again",
+    "timed_rules_in_order",
+    "given_while_a_timed_call_waits",
     "audit_shows_what_came_before",
     "audit_pages",
+    "ticks_in_the_audit",
     "thousand_lines_a_page",
     "parked_under_an_older_label",
     "labels_and_sessions",
     "lines_and_words",
+    "tick_words",
     "line_not_utf8",
     "users_found_by_key",
     "users_none",

@@ -3,16 +3,18 @@ use Rattle.std.proofs.Common.{◌≡◌, ℕ, suc, ◌+◌, Bool, true, false, n
 use Rattle.std.specs.Prelude.{filter}
 use Rattle.std.specs.Option.{option_or}
 use Rattle.std.proofs.lemmas.Bool.{eqb-true}
+use Rattle.ipc_terms.specs.Timed.{plain}
 use Rattle.ipc_terms.specs.declared.rule.Rule.{Rule}
 use Rattle.ipc_terms.specs.declared.record.Event.{Event}
-use Rattle.ipc_terms.specs.declared.record.Event.TheVariants.{Hello, Do, Hangup}
+use Rattle.ipc_terms.specs.declared.record.Event.TheVariants.{Hello, Do, Hangup, Tick}
 use Rattle.ipc_terms.specs.declared.call.Call.TheVariants.{MqSend, MqReceive, SemPost, SemWait, SemTryWait, Interrupt}
 use Rattle.ipc_policy.specs.declared.config.Config.{Config}
 use Rattle.ipc_policy.specs.History.{History, unless}
 use Rattle.ipc_policy.specs.Descriptions.{holds}
 use Rattle.ipc_policy.specs.Life.{gives_object}
-use Rattle.ipc_policy.specs.Queues.{Send, Waiter, Act, Sends, Receives, Withdraws, NoAct, Queue, is_filled, has_none, tail, senders_after, receivers_after, act, queue, maxmsg, senders, receivers}
-use Rattle.ipc_policy.specs.Semaphores.{SemaphoreAct, Posts, Waits, Tries, WithdrawsWait, NoSemaphoreAct, Semaphore, semaphore_act, semaphore_after, waiters_after, with_first, gives_value, semaphore, waiters}
+use Rattle.ipc_policy.specs.Queues.{Send, Waiter, Act, Sends, Receives, Withdraws, NoAct, withdrawal, plain_act, Queue, is_filled, has_none, tail, senders_after, receivers_after, maxmsg}
+use Rattle.ipc_policy.specs.Semaphores.{SemaphoreAct, Posts, Waits, Tries, WithdrawsWait, NoSemaphoreAct, wait_withdrawal, plain_semaphore_act, Semaphore, semaphore_after, waiters_after, with_first, gives_value}
+use Rattle.ipc_policy.specs.Bodies.{due, act, queue, senders, receivers, semaphore_act, semaphore, waiters}
 use Rattle.ipc_policy.specs.Readings.{of_place, Rising, parks_send, ends_send, parks_receive, ends_receive, parks_wait, ends_wait, ParkedByPlace, EachParkedByPlace}
 use Rattle.ipc_policy.proofs.Holdings.Holding.{kept_all}
 use Rattle.ipc_policy.proofs.Lists.PlaceLists.{rising_higher, rising_append, rising_behind, rising_filter, found_above, found_append, found_behind, found_filter}
@@ -27,13 +29,20 @@ pub cond_place : (n : ℕ) (b : Bool) (a : Act) → HasPlace n a → HasPlace n 
 cond_place n true a h = h
 cond_place n false a h = tt
 
-pub act_place : (o : ℕ) (e : Event) (h : History) → HasPlace (length h) (act o e h)
-act_place o (Do sid (MqSend desc priority bytes)) h = cond_place (length h) (gives_object o (holds h sid.0 desc.0)) _ refl
-act_place o (Do sid (MqReceive desc length')) h = cond_place (length h) (gives_object o (holds h sid.0 desc.0)) _ refl
-act_place o (Do sid Interrupt) h = tt
-act_place o (Do sid call) h = tt
-act_place o (Hello found) h = tt
-act_place o (Hangup sid) h = tt
+plain_place : (due : ℕ → Option ℕ) (o : ℕ) (e : Event) (h : History) → HasPlace (length h) (plain_act (length h) (holds h) due o e)
+plain_place due o (Do sid (MqSend desc priority bytes)) h = cond_place (length h) (gives_object o (holds h sid.0 desc.0)) _ refl
+plain_place due o (Do sid (MqReceive desc length')) h = cond_place (length h) (gives_object o (holds h sid.0 desc.0)) _ refl
+plain_place due o (Do sid Interrupt) h = tt
+plain_place due o (Do sid call) h = tt
+plain_place due o (Hello found) h = tt
+plain_place due o (Hangup sid) h = tt
+plain_place due o (Tick moment) h = at (due moment) where
+  at : (s : Option ℕ) → HasPlace (length h) (withdrawal s)
+  at None = tt
+  at (Some s) = tt
+
+pub act_place : (c : Config) (o : ℕ) (e : Event) (h : History) → HasPlace (length h) (act c o e h)
+act_place c o e h = plain_place (due c h) o (plain e) h
 
 -- what a wait brings has this place
 abbrev pub WaitHasPlace : ℕ → SemaphoreAct → Type 0
@@ -44,14 +53,21 @@ cond_wait_place : (n : ℕ) (b : Bool) (a : SemaphoreAct) → WaitHasPlace n a �
 cond_wait_place n true a h = h
 cond_wait_place n false a h = tt
 
-pub wait_place : (o : ℕ) (e : Event) (h : History) → WaitHasPlace (length h) (semaphore_act o e h)
-wait_place o (Do sid (SemPost desc)) h = cond_wait_place (length h) (gives_object o (holds h sid.0 desc.0)) Posts tt
-wait_place o (Do sid (SemWait desc)) h = cond_wait_place (length h) (gives_object o (holds h sid.0 desc.0)) _ refl
-wait_place o (Do sid (SemTryWait desc)) h = cond_wait_place (length h) (gives_object o (holds h sid.0 desc.0)) Tries tt
-wait_place o (Do sid Interrupt) h = tt
-wait_place o (Do sid call) h = tt
-wait_place o (Hello found) h = tt
-wait_place o (Hangup sid) h = tt
+plain_wait_place : (due : ℕ → Option ℕ) (o : ℕ) (e : Event) (h : History) → WaitHasPlace (length h) (plain_semaphore_act (length h) (holds h) due o e)
+plain_wait_place due o (Do sid (SemPost desc)) h = cond_wait_place (length h) (gives_object o (holds h sid.0 desc.0)) Posts tt
+plain_wait_place due o (Do sid (SemWait desc)) h = cond_wait_place (length h) (gives_object o (holds h sid.0 desc.0)) _ refl
+plain_wait_place due o (Do sid (SemTryWait desc)) h = cond_wait_place (length h) (gives_object o (holds h sid.0 desc.0)) Tries tt
+plain_wait_place due o (Do sid Interrupt) h = tt
+plain_wait_place due o (Do sid call) h = tt
+plain_wait_place due o (Hello found) h = tt
+plain_wait_place due o (Hangup sid) h = tt
+plain_wait_place due o (Tick moment) h = at (due moment) where
+  at : (s : Option ℕ) → WaitHasPlace (length h) (wait_withdrawal s)
+  at None = tt
+  at (Some s) = tt
+
+pub wait_place : (c : Config) (o : ℕ) (e : Event) (h : History) → WaitHasPlace (length h) (semaphore_act c o e h)
+wait_place c o e h = plain_wait_place (due c h) o (plain e) h
 
 -- a first value changes no list
 pub first_keeps : (v : Option ℕ) (q : Semaphore) → (with_first v q).waiters ≡ q.waiters
@@ -85,7 +101,7 @@ receives_step n i (Withdraws s) q p r = found_filter (λ (w : Waiter). w.place) 
 receives_step n i NoAct q p r = sym (kept_all (of_place (λ (w : Waiter). w.place) i q.receivers))
 
 waits_step : (n i : ℕ) (a : SemaphoreAct) (q : Semaphore) → WaitHasPlace n a → Rising (λ (w : Waiter). w.place) 0 q.waiters n → of_place (λ (w : Waiter). w.place) i (waiters_after a q) ≡ option_or (parks_wait i a q) (unless (λ w. ends_wait w a q) (of_place (λ (w : Waiter). w.place) i q.waiters))
-waits_step n i (Waits w) q p r = added (λ (w : Waiter). w.place) n i q.waiters w (eqb q.value 0) p r ∙ ap (option_or (cond (eqb q.value 0 && eqb w.place i) (Some w) None)) (sym (kept_all (of_place (λ (w : Waiter). w.place) i q.waiters)))
+waits_step n i (Waits w) q p r = added (λ (w : Waiter). w.place) n i q.waiters w (eqb q.running 0) p r ∙ ap (option_or (cond (eqb q.running 0 && eqb w.place i) (Some w) None)) (sym (kept_all (of_place (λ (w : Waiter). w.place) i q.waiters)))
 waits_step n i Posts q p r = found_behind (λ (w : Waiter). w.place) 0 i q.waiters n r
 waits_step n i (WithdrawsWait s) q p r = found_filter (λ (w : Waiter). w.place) (λ w. eqb w.session s) 0 i q.waiters n r
 waits_step n i Tries q p r = sym (kept_all (of_place (λ (w : Waiter). w.place) i q.waiters))
@@ -109,7 +125,7 @@ receives_rise n (Withdraws s) q p r = rising_higher (λ (w : Waiter). w.place) 0
 receives_rise n NoAct q p r = rising_higher (λ (w : Waiter). w.place) 0 q.receivers n (n + 1) (omega arith) r
 
 waits_rise : (n : ℕ) (a : SemaphoreAct) (q : Semaphore) → WaitHasPlace n a → Rising (λ (w : Waiter). w.place) 0 q.waiters n → Rising (λ (w : Waiter). w.place) 0 (waiters_after a q) (n + 1)
-waits_rise n (Waits w) q p r = cond_rising (λ (w : Waiter). w.place) n q.waiters w (eqb q.value 0) p r
+waits_rise n (Waits w) q p r = cond_rising (λ (w : Waiter). w.place) n q.waiters w (eqb q.running 0) p r
 waits_rise n Posts q p r = rising_higher (λ (w : Waiter). w.place) 0 (tail q.waiters) n (n + 1) (omega arith) (rising_behind (λ (w : Waiter). w.place) 0 q.waiters n r)
 waits_rise n (WithdrawsWait s) q p r = rising_higher (λ (w : Waiter). w.place) 0 (filter (λ w. not (eqb w.session s)) q.waiters) n (n + 1) (omega arith) (rising_filter (λ (w : Waiter). w.place) (λ w. not (eqb w.session s)) 0 q.waiters n r)
 waits_rise n Tries q p r = rising_higher (λ (w : Waiter). w.place) 0 q.waiters n (n + 1) (omega arith) r
@@ -123,15 +139,15 @@ parked_more c h o known e (Some rule) = record {
   waits = known.waits;
   sends_rise = rising_higher (λ (m : Send). m.place) 0 (senders c h o) (length h) (suc (length h)) (omega arith) known.sends_rise;
   receives_rise = rising_higher (λ (w : Waiter). w.place) 0 (receivers c h o) (length h) (suc (length h)) (omega arith) known.receives_rise;
-  waits_rise = rising_higher (λ (w : Waiter). w.place) 0 (waiters h o) (length h) (suc (length h)) (omega arith) known.waits_rise;
+  waits_rise = rising_higher (λ (w : Waiter). w.place) 0 (waiters c h o) (length h) (suc (length h)) (omega arith) known.waits_rise;
 }
 parked_more c h o known e None = record {
-  sends = λ i. sends_step (maxmsg c h o) (length h) i (act o e h) (queue c h o) (act_place o e h) known.sends_rise ∙ ap (λ x. option_or (parks_send (maxmsg c h o) i (act o e h) (queue c h o)) (unless (λ m. ends_send m (act o e h) (queue c h o)) x)) (known.sends i);
-  receives = λ i. receives_step (length h) i (act o e h) (queue c h o) (act_place o e h) known.receives_rise ∙ ap (λ x. option_or (parks_receive i (act o e h) (queue c h o)) (unless (λ w. ends_receive w (act o e h) (queue c h o)) x)) (known.receives i);
-  waits = λ i. ap (of_place (λ (w : Waiter). w.place) i) (first_keeps (gives_value o e h) (semaphore_after (semaphore_act o e h) (semaphore h o))) ∙ waits_step (length h) i (semaphore_act o e h) (semaphore h o) (wait_place o e h) known.waits_rise ∙ ap (λ x. option_or (parks_wait i (semaphore_act o e h) (semaphore h o)) (unless (λ w. ends_wait w (semaphore_act o e h) (semaphore h o)) x)) (known.waits i);
-  sends_rise = rw (← add-one) (sends_rise (maxmsg c h o) (length h) (act o e h) (queue c h o) (act_place o e h) known.sends_rise);
-  receives_rise = rw (← add-one) (receives_rise (length h) (act o e h) (queue c h o) (act_place o e h) known.receives_rise);
-  waits_rise = subst (λ (ws : List Waiter). Rising (λ (w : Waiter). w.place) 0 ws (suc (length h))) (sym (first_keeps (gives_value o e h) (semaphore_after (semaphore_act o e h) (semaphore h o)))) (rw (← add-one) (waits_rise (length h) (semaphore_act o e h) (semaphore h o) (wait_place o e h) known.waits_rise));
+  sends = λ i. sends_step (maxmsg c h o) (length h) i (act c o e h) (queue c h o) (act_place c o e h) known.sends_rise ∙ ap (λ x. option_or (parks_send (maxmsg c h o) i (act c o e h) (queue c h o)) (unless (λ m. ends_send m (act c o e h) (queue c h o)) x)) (known.sends i);
+  receives = λ i. receives_step (length h) i (act c o e h) (queue c h o) (act_place c o e h) known.receives_rise ∙ ap (λ x. option_or (parks_receive i (act c o e h) (queue c h o)) (unless (λ w. ends_receive w (act c o e h) (queue c h o)) x)) (known.receives i);
+  waits = λ i. ap (of_place (λ (w : Waiter). w.place) i) (first_keeps (gives_value o e h) (semaphore_after (semaphore_act c o e h) (semaphore c h o))) ∙ waits_step (length h) i (semaphore_act c o e h) (semaphore c h o) (wait_place c o e h) known.waits_rise ∙ ap (λ x. option_or (parks_wait i (semaphore_act c o e h) (semaphore c h o)) (unless (λ w. ends_wait w (semaphore_act c o e h) (semaphore c h o)) x)) (known.waits i);
+  sends_rise = rw (← add-one) (sends_rise (maxmsg c h o) (length h) (act c o e h) (queue c h o) (act_place c o e h) known.sends_rise);
+  receives_rise = rw (← add-one) (receives_rise (length h) (act c o e h) (queue c h o) (act_place c o e h) known.receives_rise);
+  waits_rise = subst (λ (ws : List Waiter). Rising (λ (w : Waiter). w.place) 0 ws (suc (length h))) (sym (first_keeps (gives_value o e h) (semaphore_after (semaphore_act c o e h) (semaphore c h o)))) (rw (← add-one) (waits_rise (length h) (semaphore_act c o e h) (semaphore c h o) (wait_place c o e h) known.waits_rise));
 }
 
 pub parked_by_place : EachParkedByPlace

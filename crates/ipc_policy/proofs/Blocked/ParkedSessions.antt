@@ -8,9 +8,9 @@ use Rattle.ipc_terms.specs.declared.rule.Rule.{Rule}
 use Rattle.ipc_terms.specs.declared.ids.Sid.{Sid}
 use Rattle.ipc_terms.specs.declared.ids.Desc.{Desc}
 use Rattle.ipc_terms.specs.declared.call.Call.{Call}
-use Rattle.ipc_terms.specs.declared.call.Call.TheVariants.{MqOpen, MqClose, MqSend, MqReceive, SemOpen, SemClose, SemWait}
+use Rattle.ipc_terms.specs.declared.call.Call.TheVariants.{MqOpen, MqClose, MqSend, MqReceive, MqGive, SemOpen, SemClose, SemWait, MqTimedSend, MqTimedReceive, SemTimedWait}
 use Rattle.ipc_terms.specs.declared.record.Event.{Event}
-use Rattle.ipc_terms.specs.declared.record.Event.TheVariants.{Hello, Do, Hangup}
+use Rattle.ipc_terms.specs.declared.record.Event.TheVariants.{Hello, Do, Hangup, Tick}
 use Rattle.ipc_policy.specs.declared.config.Config.{Config}
 use Rattle.ipc_policy.specs.declared.config.Held.{Held}
 use Rattle.ipc_terms.specs.declared.object.Object.{Object}
@@ -21,8 +21,9 @@ use Rattle.ipc_policy.specs.Objects.{object, made_by}
 use Rattle.ipc_policy.specs.Sessions.{cred}
 use Rattle.ipc_policy.specs.Descriptions.{opens, if_of, held, holds, ends_held}
 use Rattle.ipc_policy.specs.Life.{named, alive, gives_object}
-use Rattle.ipc_policy.specs.Queues.{Send, Waiter, Withdraws, Queue, queue_after, queue, senders, receivers, is_full, is_empty}
-use Rattle.ipc_policy.specs.Semaphores.{WithdrawsWait, semaphore, semaphore_after, waiters, is_zero}
+use Rattle.ipc_policy.specs.Queues.{Send, Waiter, Withdraws, Queue, queue_after}
+use Rattle.ipc_policy.specs.Semaphores.{WithdrawsWait, semaphore_after}
+use Rattle.ipc_policy.specs.Bodies.{queue, senders, receivers, is_full, is_empty, semaphore, waiters, is_zero}
 use Rattle.ipc_policy.specs.Parking.{ParkedKind, Sending, Receiving, Waiting, Parked, parks, parked_on, serves, is_longest, ends_call, ends_parked, parked}
 use Rattle.ipc_terms.specs.Lists.{Each}
 use Rattle.ipc_policy.specs.Readings.{Rising}
@@ -86,9 +87,13 @@ pub parks_by_call : (c : Config) (h : History) (e : Event) (s : ℕ) (p : Parked
 parks_by_call c h (Do sid (MqSend desc priority bytes)) s p k = parks_there c h sid (MqSend desc priority bytes) desc (is_full c h) Sending s p (λ x legal q. queue_is_object c h x.object (held_queue c h sid (MqSend desc priority bytes) desc x legal refl q)) k
 parks_by_call c h (Do sid (MqReceive desc length')) s p k = parks_there c h sid (MqReceive desc length') desc (is_empty c h) Receiving s p (λ x legal q. queue_is_object c h x.object (held_queue c h sid (MqReceive desc length') desc x legal refl q)) k
 parks_by_call c h (Do sid (SemWait desc)) s p k = parks_there c h sid (SemWait desc) desc (is_zero c h) Waiting s p (λ x legal q. semaphore_is_object c h x.object (held_semaphore c h sid (SemWait desc) desc x legal refl q)) k
+parks_by_call c h (Do sid (MqTimedSend desc priority until bytes)) s p k = parks_there c h sid (MqTimedSend desc priority until bytes) desc (is_full c h) Sending s p (λ x legal q. queue_is_object c h x.object (held_queue c h sid (MqTimedSend desc priority until bytes) desc x legal refl q)) k
+parks_by_call c h (Do sid (MqTimedReceive desc size until)) s p k = parks_there c h sid (MqTimedReceive desc size until) desc (is_empty c h) Receiving s p (λ x legal q. queue_is_object c h x.object (held_queue c h sid (MqTimedReceive desc size until) desc x legal refl q)) k
+parks_by_call c h (Do sid (SemTimedWait desc until)) s p k = parks_there c h sid (SemTimedWait desc until) desc (is_zero c h) Waiting s p (λ x legal q. semaphore_is_object c h x.object (held_semaphore c h sid (SemTimedWait desc until) desc x legal refl q)) k
 parks_by_call c h (Do sid call) s p k = absurd cc
 parks_by_call c h (Hello found) s p k = absurd cc
 parks_by_call c h (Hangup sid) s p k = absurd cc
+parks_by_call c h (Tick moment) s p k = absurd cc
 
 -- whose call parks is live
 parks_live : (c : Config) (h : History) (e : Event) (s : ℕ) (p : Parked) → None ≡ verdict c h e → parks c s e h ≡ Some p → live_after s e (hellos h) (live h s) ≡ true
@@ -109,6 +114,7 @@ stays_live : (c : Config) (h : History) (e : Event) (s : ℕ) (p : Parked) → e
 stays_live c h (Hello found) s p keeps now = or_true (eqb (hellos h) s) (live h s) now
 stays_live c h (Do sid call) s p keeps now = now
 stays_live c h (Hangup sid) s p keeps now = let other = another_hangup s p sid (queue c h p.object) keeps in rw (other, now) refl
+stays_live c h (Tick moment) s p keeps now = now
 
 pub if_of_is : (s d : ℕ) (h : History) (x : Held) → holds h s d ≡ Some x → if_of s x ≡ Some x
 unfolding holds
@@ -133,27 +139,34 @@ held_on h d x (Do sid (SemOpen asked)) now keeps =
     let below : d < opens h = held_below h d (ap is_some now) in
     let other : eqb (opens h) d ≡ false = ne_eqb _ _ (λ (q : opens h ≡ d). absurd (omega arith)) in
     rw (other, now) refl
+held_on h d x (Do sid (MqGive desc taker)) now keeps = rw (now, keeps) refl
 held_on h d x (Do sid call) now keeps = ap (unless (λ y. ends_held d y (Do sid call))) now ∙ kept_one (λ y. ends_held d y (Do sid call)) x keeps
 held_on h d x (Hello found) now keeps = ap (unless (λ y. ends_held d y (Hello found))) now ∙ kept_one (λ y. ends_held d y (Hello found)) x keeps
 held_on h d x (Hangup sid) now keeps = ap (unless (λ y. ends_held d y (Hangup sid))) now ∙ kept_one (λ y. ends_held d y (Hangup sid)) x keeps
+held_on h d x (Tick moment) now keeps = ap (unless (λ y. ends_held d y (Tick moment))) now ∙ kept_one (λ y. ends_held d y (Tick moment)) x keeps
 
 pub holds_on : (h : History) (s d : ℕ) (x : Held) (e : Event) → holds h s d ≡ Some x → ends_held d x e ≡ false → holds (record { event = e; rule = None } ∷ h) s d ≡ Some x
 unfolding holds
 holds_on h s d x e now keeps = ap (option_and_then (if_of s)) (held_grows h e d ∙ held_on h d x e (holds_is_held h s d x now) keeps) ∙ if_of_is s d h x now
 
--- a parked session closes nothing
-pub not_closed : (c : Config) (h : History) (e : Event) (s d : ℕ) (x : Held) (p : Parked) → None ≡ verdict c h e → parked c h s ≡ Some p → ends_parked c s p e h ≡ false → x.session.0 ≡ s → ends_held d x e ≡ false
-not_closed c h (Do sid (MqClose desc)) s d x p legal k keeps mine =
+-- a parked session lets nothing go
+pub none_let_go : (c : Config) (h : History) (e : Event) (s d : ℕ) (x : Held) (p : Parked) → None ≡ verdict c h e → parked c h s ≡ Some p → ends_parked c s p e h ≡ false → x.session.0 ≡ s → ends_held d x e ≡ false
+none_let_go c h (Do sid (MqClose desc)) s d x p legal k keeps mine =
     let other : eqb sid.0 s ≡ false = another_call c h sid (MqClose desc) s legal refl (ap is_some k) in
     let other' : eqb sid.0 x.session.0 ≡ false = subst (λ (n : ℕ). eqb sid.0 n ≡ false) (sym mine) other in
     rw other' refl
-not_closed c h (Do sid (SemClose desc)) s d x p legal k keeps mine =
+none_let_go c h (Do sid (MqGive desc taker)) s d x p legal k keeps mine =
+    let other : eqb sid.0 s ≡ false = another_call c h sid (MqGive desc taker) s legal refl (ap is_some k) in
+    let other' : eqb sid.0 x.session.0 ≡ false = subst (λ (n : ℕ). eqb sid.0 n ≡ false) (sym mine) other in
+    rw other' refl
+none_let_go c h (Do sid (SemClose desc)) s d x p legal k keeps mine =
     let other : eqb sid.0 s ≡ false = another_call c h sid (SemClose desc) s legal refl (ap is_some k) in
     let other' : eqb sid.0 x.session.0 ≡ false = subst (λ (n : ℕ). eqb sid.0 n ≡ false) (sym mine) other in
     rw other' refl
-not_closed c h (Do sid call) s d x p legal k keeps mine = refl
-not_closed c h (Hello found) s d x p legal k keeps mine = refl
-not_closed c h (Hangup sid) s d x p legal k keeps mine = subst (λ (n : ℕ). eqb sid.0 n ≡ false) (sym mine) (another_hangup s p sid (queue c h p.object) keeps)
+none_let_go c h (Do sid call) s d x p legal k keeps mine = refl
+none_let_go c h (Hello found) s d x p legal k keeps mine = refl
+none_let_go c h (Hangup sid) s d x p legal k keeps mine = subst (λ (n : ℕ). eqb sid.0 n ≡ false) (sym mine) (another_hangup s p sid (queue c h p.object) keeps)
+none_let_go c h (Tick moment) s d x p legal k keeps mine = refl
 
 -- an object that is made stays
 made_on : (c : Config) (h : History) (o : ℕ) (e : Event) (was : Option Object) → is_some was ≡ true → is_some (made_after o e (is_bound h) (creations h) (λ asked. option_map (made_by c asked) (cred c h asked.session.0)) was) ≡ true
@@ -176,22 +189,24 @@ made_on c h o (Do sid (SemOpen asked)) was there = at (is_new (semaphore_opening
 made_on c h o (Do sid call) was there = there
 made_on c h o (Hello found) was there = there
 made_on c h o (Hangup sid) was there = there
+made_on c h o (Tick moment) was there = there
 
 made_stays : (c : Config) (h : History) (o : ℕ) (e : Event) → is_some (object c h o) ≡ true → is_some (object c (record { event = e; rule = None } ∷ h) o) ≡ true
 made_stays c h o e there = subst (λ (x : Option Object). is_some x ≡ true) (sym now) (made_on c h o e (object c h o) there) where
   now : object c (record { event = e; rule = None } ∷ h) o ≡ made_after o e (is_bound h) (creations h) (λ asked. option_map (made_by c asked) (cred c h asked.session.0)) (object c h o)
   now = (grows c h e).object_of o
 
-not_a_close : (sid : Sid) (call : Call) (d : ℕ) (x : Held) (c : Config) (h : History) (s : ℕ) (p : Parked) → parks c s (Do sid call) h ≡ Some p → ends_held d x (Do sid call) ≡ false
-not_a_close sid (MqClose desc) d x c h s p k = absurd cc
-not_a_close sid (SemClose desc) d x c h s p k = absurd cc
-not_a_close sid call d x c h s p k = refl
+nothing_let_go : (sid : Sid) (call : Call) (d : ℕ) (x : Held) (c : Config) (h : History) (s : ℕ) (p : Parked) → parks c s (Do sid call) h ≡ Some p → ends_held d x (Do sid call) ≡ false
+nothing_let_go sid (MqClose desc) d x c h s p k = absurd cc
+nothing_let_go sid (MqGive desc taker) d x c h s p k = absurd cc
+nothing_let_go sid (SemClose desc) d x c h s p k = absurd cc
+nothing_let_go sid call d x c h s p k = refl
 
 begins_parked : (c : Config) (h : History) (e : Event) (s : ℕ) (p : Parked) → None ≡ verdict c h e → parks c s e h ≡ Some p → IsParked c (record { event = e; rule = None } ∷ h) s p
 begins_parked c h e s p legal k =
     let by = parks_by_call c h e s p k in
     let parks_now : parks c s (Do by.sid by.call) h ≡ Some p = subst (λ (d : Event). parks c s d h ≡ Some p) by.event k in
-    let keeps : ends_held by.desc by.x e ≡ false = subst (λ (d : Event). ends_held by.desc by.x d ≡ false) (sym by.event) (not_a_close by.sid by.call by.desc by.x c h s p parks_now) in
+    let keeps : ends_held by.desc by.x e ≡ false = subst (λ (d : Event). ends_held by.desc by.x d ≡ false) (sym by.event) (nothing_let_go by.sid by.call by.desc by.x c h s p parks_now) in
     record {
       lives = live_grows h e s ∙ parks_live c h e s p legal k;
       holding = record { desc = by.desc; x = by.x; held = holds_on h s by.desc by.x e by.held keeps; object = by.gives };
@@ -204,7 +219,7 @@ goes_on c h e s p legal k keeps known =
     let mine : hold.x.session.0 ≡ s = session_is s hold.x (if_of_is s hold.desc h hold.x hold.held) in
     record {
       lives = live_grows h e s ∙ stays_live c h e s p keeps known.lives;
-      holding = record { desc = hold.desc; x = hold.x; held = holds_on h s hold.desc hold.x e hold.held (not_closed c h e s hold.desc hold.x p legal k keeps mine); object = hold.object };
+      holding = record { desc = hold.desc; x = hold.x; held = holds_on h s hold.desc hold.x e hold.held (none_let_go c h e s hold.desc hold.x p legal k keeps mine); object = hold.object };
       made = made_stays c h p.object e known.made;
     }
 
@@ -250,8 +265,8 @@ dead_has_no_receivers c h legal o dead = at (receivers c h o) ((calls_listed c h
   at [] all = refl
   at (w ∷ ws) all = absurd (let lives = parked_alive c h legal w.session (record { object = o; place = w.place; kind = Receiving }) all.0 in let wrong : true ≡ false = sym lives ∙ dead in cc)
 
-pub dead_has_no_waiters : (c : Config) (h : History) → Legal c h → (o : ℕ) → alive h o ≡ false → waiters h o ≡ []
-dead_has_no_waiters c h legal o dead = at (waiters h o) ((calls_listed c h legal).each_wait o) where
+pub dead_has_no_waiters : (c : Config) (h : History) → Legal c h → (o : ℕ) → alive h o ≡ false → waiters c h o ≡ []
+dead_has_no_waiters c h legal o dead = at (waiters c h o) ((calls_listed c h legal).each_wait o) where
   at : (ws : List Waiter) → Each (λ w. parked c h w.session ≡ Some (record { object = o; place = w.place; kind = Waiting })) ws → ws ≡ []
   at [] all = refl
   at (w ∷ ws) all = absurd (let lives = parked_alive c h legal w.session (record { object = o; place = w.place; kind = Waiting }) all.0 in let wrong : true ≡ false = sym lives ∙ dead in cc)
@@ -284,8 +299,8 @@ senders_differ c h legal o = all_differ (λ (m : Send). m.place) (λ m. m.sessio
 pub receivers_differ : (c : Config) (h : History) → Legal c h → (o : ℕ) → Different (λ w. w.session) (receivers c h o)
 receivers_differ c h legal o = all_differ (λ (w : Waiter). w.place) (λ w. w.session) (parked c h) (λ w. record { object = o; place = w.place; kind = Receiving }) (λ w. refl) 0 (receivers c h o) (length h) (parked_by_place c h o).receives_rise ((calls_listed c h legal).each_receive o)
 
-pub waiters_differ : (c : Config) (h : History) → Legal c h → (o : ℕ) → Different (λ w. w.session) (waiters h o)
-waiters_differ c h legal o = all_differ (λ (w : Waiter). w.place) (λ w. w.session) (parked c h) (λ w. record { object = o; place = w.place; kind = Waiting }) (λ w. refl) 0 (waiters h o) (length h) (parked_by_place c h o).waits_rise ((calls_listed c h legal).each_wait o)
+pub waiters_differ : (c : Config) (h : History) → Legal c h → (o : ℕ) → Different (λ w. w.session) (waiters c h o)
+waiters_differ c h legal o = all_differ (λ (w : Waiter). w.place) (λ w. w.session) (parked c h) (λ w. record { object = o; place = w.place; kind = Waiting }) (λ w. refl) 0 (waiters c h o) (length h) (parked_by_place c h o).waits_rise ((calls_listed c h legal).each_wait o)
 
 -- and only in the lists of the object on which it is parked
 filter_others : {A : Type 0} (session : A → ℕ) (s : ℕ) (xs : List A) → Each (λ x. eqb (session x) s ≡ false) xs → filter (λ x. not (eqb (session x) s)) xs ≡ xs
@@ -309,9 +324,9 @@ withdrawn_elsewhere c h legal n s o away =
     ap (λ ms. record { contents = (queue c h o).contents; senders = ms; receivers = filter (λ (w : Waiter). not (eqb w.session s)) (receivers c h o) }) sending
     ∙ ap (λ ws. record { contents = (queue c h o).contents; senders = senders c h o; receivers = ws }) receiving
 
-pub cancelled_elsewhere : (c : Config) (h : History) → Legal c h → (s o : ℕ) → is_some_and (λ x. eqb x.object o) (parked c h s) ≡ false → semaphore_after (WithdrawsWait s) (semaphore h o) ≡ semaphore h o
+pub cancelled_elsewhere : (c : Config) (h : History) → Legal c h → (s o : ℕ) → is_some_and (λ x. eqb x.object o) (parked c h s) ≡ false → semaphore_after (WithdrawsWait s) (semaphore c h o) ≡ semaphore c h o
 cancelled_elsewhere c h legal s o away =
     let known = calls_listed c h legal in
-    let waiting : filter (λ w. not (eqb w.session s)) (waiters h o) ≡ waiters h o =
-    filter_others (λ (w : Waiter). w.session) s (waiters h o) (each_map (λ (w : Waiter). parked c h w.session ≡ Some (record { object = o; place = w.place; kind = Waiting })) (λ w. eqb w.session s ≡ false) (waiters h o) (λ w k. not_on (parked c h) s w.session o (record { object = o; place = w.place; kind = Waiting }) k refl away) (known.each_wait o)) in
-    ap (λ ws. record { value = (semaphore h o).value; waiters = ws }) waiting
+    let waiting : filter (λ w. not (eqb w.session s)) (waiters c h o) ≡ waiters c h o =
+    filter_others (λ (w : Waiter). w.session) s (waiters c h o) (each_map (λ (w : Waiter). parked c h w.session ≡ Some (record { object = o; place = w.place; kind = Waiting })) (λ w. eqb w.session s ≡ false) (waiters c h o) (λ w k. not_on (parked c h) s w.session o (record { object = o; place = w.place; kind = Waiting }) k refl away) (known.each_wait o)) in
+    ap (λ ws. record { running = (semaphore c h o).running; waiters = ws }) waiting

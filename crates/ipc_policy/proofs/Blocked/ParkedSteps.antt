@@ -6,20 +6,20 @@ use Rattle.std.proofs.lemmas.Bool.{eqb-true, eqb-false, eq-eqb, ne_eqb}
 use Rattle.ipc_terms.specs.Lists.{first, Each}
 use Rattle.ipc_terms.specs.declared.ids.Sid.{Sid}
 use Rattle.ipc_terms.specs.declared.ids.Desc.{Desc}
-use Rattle.ipc_terms.specs.declared.call.Call.TheVariants.{MqSend, MqReceive, SemPost, SemWait, SemTryWait, Interrupt}
+use Rattle.ipc_terms.specs.declared.call.Call.TheVariants.{MqSend, MqReceive, SemPost, SemWait, SemTryWait, Interrupt, MqTimedSend, MqTimedReceive, SemTimedWait}
 use Rattle.ipc_terms.specs.declared.record.Event.{Event}
-use Rattle.ipc_terms.specs.declared.record.Event.TheVariants.{Hello, Do, Hangup}
+use Rattle.ipc_terms.specs.declared.record.Event.TheVariants.{Hello, Do, Hangup, Tick}
 use Rattle.ipc_policy.specs.declared.config.Config.{Config}
 use Rattle.ipc_policy.specs.declared.config.Held.{Held}
 use Rattle.ipc_policy.specs.History.{History, unless, is_some_and}
 use Rattle.ipc_policy.specs.Descriptions.{holds}
 use Rattle.ipc_policy.specs.Life.{gives_object}
-use Rattle.ipc_policy.specs.Queues.{Send, Waiter, Act, Sends, Receives, Withdraws, NoAct, Queue, queue_after, maxmsg, queue, senders, receivers, is_full, is_empty}
-use Rattle.ipc_policy.specs.Semaphores.{semaphore}
+use Rattle.ipc_policy.specs.Queues.{Send, Waiter, Act, Sends, Receives, Withdraws, NoAct, Queue, queue_after, maxmsg}
+use Rattle.ipc_policy.specs.Bodies.{queue, senders, receivers, is_full, is_empty, semaphore}
 use Rattle.ipc_policy.specs.Parking.{ParkedKind, Sending, Receiving, Waiting, Parked, stands_at, serves, is_longest, ends_call, parked, parked_on}
 use Rattle.ipc_policy.specs.Readings.{Rising}
 use Rattle.ipc_policy.specs.Verdict.{Legal}
-use Rattle.ipc_policy.specs.Laws.{IsListed, place_listed}
+use Rattle.ipc_policy.specs.Laws.{place_listed}
 use Rattle.ipc_policy.proofs.Blocked.ParkedPlaces.{parked_by_place}
 use Rattle.ipc_policy.proofs.Blocked.CallsListed.{calls_listed}
 
@@ -52,7 +52,7 @@ withdrawal_ends s t p q = at p.kind (eqb s t) where
   at Waiting false = refl
 
 -- the longest parked of a list is found by its session exactly where it is found by its place
-pub longest_is : {A : Type 0} (place session : A → ℕ) (f : ℕ → Option Parked) (call : A → Parked) → ((y : A) → (call y).place ≡ place y) → (s : ℕ) (p : Parked) → f s ≡ Some p → (xs : List A) (hi : ℕ) → Rising place 0 xs hi → Each (λ y. f (session y) ≡ Some (call y)) xs → option_map place (find (λ y. eqb (session y) s) xs) ≡ Some p.place → stands_at place p.place (first xs) ≡ is_some_and (λ y. eqb (session y) s) (first xs)
+longest_is : {A : Type 0} (place session : A → ℕ) (f : ℕ → Option Parked) (call : A → Parked) → ((y : A) → (call y).place ≡ place y) → (s : ℕ) (p : Parked) → f s ≡ Some p → (xs : List A) (hi : ℕ) → Rising place 0 xs hi → Each (λ y. f (session y) ≡ Some (call y)) xs → option_map place (find (λ y. eqb (session y) s) xs) ≡ Some p.place → stands_at place p.place (first xs) ≡ is_some_and (λ y. eqb (session y) s) (first xs)
 longest_is place session f call placed s p here [] hi r all listed = refl
 longest_is {A = A} place session f call placed s p here (x ∷ xs) hi r all listed = at (eqb (session x) s) refl listed where
   below : (lo : ℕ) (ys : List A) → place x < lo → Rising place lo ys hi → option_map place (find (λ y. eqb (session y) s) ys) ≡ Some p.place → place x < p.place
@@ -67,54 +67,71 @@ longest_is {A = A} place session f call placed s p here (x ∷ xs) hi r all list
   at false e k = ne_eqb _ _ (λ (q : place x ≡ p.place). let less = below (place x + 1) xs (omega arith) r.1 k in absurd (omega arith)) ∙ sym e
 
 -- the longest parked receive on an object is not of a session that is parked elsewhere or otherwise
-pub not_first : {A : Type 0} (session : A → ℕ) (f : ℕ → Option Parked) (call : A → Parked) (s : ℕ) (p : Parked) → f s ≡ Some p → (xs : List A) → Each (λ y. f (session y) ≡ Some (call y)) xs → ((y : A) → call y ≡ p → ⊥) → is_some_and (λ y. eqb (session y) s) (first xs) ≡ false
+not_first : {A : Type 0} (session : A → ℕ) (f : ℕ → Option Parked) (call : A → Parked) (s : ℕ) (p : Parked) → f s ≡ Some p → (xs : List A) → Each (λ y. f (session y) ≡ Some (call y)) xs → ((y : A) → call y ≡ p → ⊥) → is_some_and (λ y. eqb (session y) s) (first xs) ≡ false
 not_first session f call s p here [] all other = refl
 not_first session f call s p here (x ∷ xs) all other = ne_eqb _ _ (λ (e : session x ≡ s).
     let both : Some (call x) ≡ Some p = sym all.0 ∙ ap f e ∙ here in
     let same : call x ≡ p = cc in
     other x same)
 
+-- what serves one kind of call on object o ends the longest parked of the kind, and no other: whether it ends the call of
+-- session s is asked by whether o is that call's object, and by the call's kind
+pub longest_ends : {A : Type 0} (place session : A → ℕ) (kind : ParkedKind) (list : ℕ → List A) (f : ℕ → Option Parked) (hi o s : ℕ) (p : Parked) (ends : Bool → ParkedKind → Bool) → f s ≡ Some p
+    → ((i : ℕ) → Rising place 0 (list i) hi)
+    → ((i : ℕ) → Each (λ y. f (session y) ≡ Some (record { object = i; place = place y; kind = kind })) (list i))
+    → (p.kind ≡ kind → option_map place (find (λ y. eqb (session y) s) (list p.object)) ≡ Some p.place)
+    → ((k : ParkedKind) → ends false k ≡ false)
+    → ends true kind ≡ stands_at place p.place (first (list p.object))
+    → ((k : ParkedKind) (P : ParkedKind → Type 0) → P kind → ((j : ParkedKind) → (kind ≡ j → ⊥) → ends true j ≡ false → P j) → P k)
+    → ends (eqb o p.object) p.kind ≡ is_some_and (λ y. eqb (session y) s) (first (list o))
+longest_ends {A = A} place session kind list f hi o s p ends k rise listed found rests serves' by_kind = at (eqb o p.object) refl where
+  away : ((y : A) → record { object = o; place = place y; kind = kind } ≡ p → ⊥) → is_some_and (λ y. eqb (session y) s) (first (list o)) ≡ false
+  away other = not_first session f (λ y. record { object = o; place = place y; kind = kind }) s p k (list o) (listed o) other
+
+  here : o ≡ p.object → p.kind ≡ kind → ends true kind ≡ is_some_and (λ y. eqb (session y) s) (first (list o))
+  here on e =
+      serves'
+      ∙ subst (λ (n : ℕ). stands_at place p.place (first (list p.object)) ≡ is_some_and (λ y. eqb (session y) s) (first (list n))) (sym on)
+      (longest_is place session f (λ y. record { object = p.object; place = place y; kind = kind }) (λ y. refl) s p k (list p.object) hi (rise p.object) (listed p.object) (found e))
+
+  elsewhere : (j : ParkedKind) → (kind ≡ j → ⊥) → ends true j ≡ false → p.kind ≡ j → ends true j ≡ is_some_and (λ y. eqb (session y) s) (first (list o))
+  elsewhere j other none e = none ∙ sym (away (λ y q. other (ap (λ (z : Parked). z.kind) q ∙ e)))
+
+  at : (b : Bool) → eqb o p.object ≡ b → ends b p.kind ≡ is_some_and (λ y. eqb (session y) s) (first (list o))
+  at true e = by_kind p.kind (λ (j : ParkedKind). p.kind ≡ j → ends true j ≡ is_some_and (λ y. eqb (session y) s) (first (list o))) (here (eqb-true _ _ e)) elsewhere refl
+  at false e = rests p.kind ∙ sym (away (λ y q. eqb-false _ _ e (ap (λ (z : Parked). z.object) q)))
+
+-- the session of a parked call is found in the list of its kind
+pub listed_as : (c : Config) (h : History) (s : ℕ) (p : Parked) (kind : ParkedKind) → Legal c h → parked c h s ≡ Some p → p.kind ≡ kind → place_listed kind s (queue c h p.object) (semaphore c h p.object) ≡ Some p.place
+listed_as c h s p kind legal k e = subst (λ (z : ParkedKind). place_listed z s (queue c h p.object) (semaphore c h p.object) ≡ Some p.place) e ((calls_listed c h legal).each_parked s p k)
+
 -- a send ends the call of the session whose receive is the longest parked, and no other
 send_ends : (c : Config) (h : History) (o s : ℕ) (m : Send) (p : Parked) → Legal c h → parked c h s ≡ Some p → ends_call s p (cond (eqb o p.object) (Sends m) NoAct) (queue c h p.object) ≡ is_some_and (λ w. eqb w.session s) (first (receivers c h o))
-send_ends c h o s m p legal k = at (eqb o p.object) refl where
-  known : IsListed c h
-  known = calls_listed c h legal
+send_ends c h o s m p legal k =
+    longest_ends (λ (w : Waiter). w.place) (λ w. w.session) Receiving (receivers c h) (parked c h) (length h) o s p ends k
+    (λ i. (parked_by_place c h i).receives_rise) (calls_listed c h legal).each_receive (listed_as c h s p Receiving legal k)
+    (λ kind. rests_end s (record { object = p.object; place = p.place; kind = kind }) (queue c h p.object)) refl by_kind where
+      ends : Bool → ParkedKind → Bool
+      ends b kind = ends_call s (record { object = p.object; place = p.place; kind = kind }) (cond b (Sends m) NoAct) (queue c h p.object)
 
-  away : ((w : Waiter) → record { object = o; place = w.place; kind = Receiving } ≡ p → ⊥) → is_some_and (λ w. eqb w.session s) (first (receivers c h o)) ≡ false
-  away other = not_first (λ (w : Waiter). w.session) (parked c h) (λ w. record { object = o; place = w.place; kind = Receiving }) s p k (receivers c h o) (known.each_receive o) other
-
-  same_object : (kind : ParkedKind) → p.kind ≡ kind → o ≡ p.object → ends_call s (record { object = p.object; place = p.place; kind = kind }) (Sends m) (queue c h p.object) ≡ is_some_and (λ w. eqb w.session s) (first (receivers c h o))
-  same_object Sending e on = sym (away (λ w q. let wrong : Receiving ≡ Sending = ap (λ (y : Parked). y.kind) q ∙ e in cc))
-  same_object Waiting e on = sym (away (λ w q. let wrong : Receiving ≡ Waiting = ap (λ (y : Parked). y.kind) q ∙ e in cc))
-  same_object Receiving e on =
-      subst (λ (n : ℕ). stands_at (λ (w : Waiter). w.place) p.place (first (receivers c h p.object)) ≡ is_some_and (λ (w : Waiter). eqb w.session s) (first (receivers c h n))) (sym on)
-      (longest_is (λ (w : Waiter). w.place) (λ w. w.session) (parked c h) (λ w. record { object = p.object; place = w.place; kind = Receiving }) (λ w. refl) s p k (receivers c h p.object) (length h) (parked_by_place c h p.object).receives_rise (known.each_receive p.object)
-      (subst (λ (z : ParkedKind). place_listed z s (queue c h p.object) (semaphore h p.object) ≡ Some p.place) e (known.each_parked s p k)))
-
-  at : (b : Bool) → eqb o p.object ≡ b → ends_call s p (cond b (Sends m) NoAct) (queue c h p.object) ≡ is_some_and (λ w. eqb w.session s) (first (receivers c h o))
-  at true e = same_object p.kind refl (eqb-true _ _ e)
-  at false e = rests_end s p (queue c h p.object) ∙ sym (away (λ w q. eqb-false _ _ e (ap (λ (y : Parked). y.object) q)))
+      by_kind : (kind : ParkedKind) (P : ParkedKind → Type 0) → P Receiving → ((j : ParkedKind) → (Receiving ≡ j → ⊥) → ends true j ≡ false → P j) → P kind
+      by_kind Sending P here other = other Sending (λ e. cc) refl
+      by_kind Receiving P here other = here
+      by_kind Waiting P here other = other Waiting (λ e. cc) refl
 
 -- a receive ends the call of the session whose send is the longest parked, and no other
 receive_ends : (c : Config) (h : History) (o s : ℕ) (w : Waiter) (p : Parked) → Legal c h → parked c h s ≡ Some p → ends_call s p (cond (eqb o p.object) (Receives w) NoAct) (queue c h p.object) ≡ is_some_and (λ m. eqb m.session s) (first (senders c h o))
-receive_ends c h o s w p legal k = at (eqb o p.object) refl where
-  known : IsListed c h
-  known = calls_listed c h legal
+receive_ends c h o s w p legal k =
+    longest_ends (λ (m : Send). m.place) (λ m. m.session) Sending (senders c h) (parked c h) (length h) o s p ends k
+    (λ i. (parked_by_place c h i).sends_rise) (calls_listed c h legal).each_send (listed_as c h s p Sending legal k)
+    (λ kind. rests_end s (record { object = p.object; place = p.place; kind = kind }) (queue c h p.object)) refl by_kind where
+      ends : Bool → ParkedKind → Bool
+      ends b kind = ends_call s (record { object = p.object; place = p.place; kind = kind }) (cond b (Receives w) NoAct) (queue c h p.object)
 
-  away : ((m : Send) → record { object = o; place = m.place; kind = Sending } ≡ p → ⊥) → is_some_and (λ m. eqb m.session s) (first (senders c h o)) ≡ false
-  away other = not_first (λ (m : Send). m.session) (parked c h) (λ m. record { object = o; place = m.place; kind = Sending }) s p k (senders c h o) (known.each_send o) other
-
-  same_object : (kind : ParkedKind) → p.kind ≡ kind → o ≡ p.object → ends_call s (record { object = p.object; place = p.place; kind = kind }) (Receives w) (queue c h p.object) ≡ is_some_and (λ m. eqb m.session s) (first (senders c h o))
-  same_object Receiving e on = sym (away (λ m q. let wrong : Sending ≡ Receiving = ap (λ (y : Parked). y.kind) q ∙ e in cc))
-  same_object Waiting e on = sym (away (λ m q. let wrong : Sending ≡ Waiting = ap (λ (y : Parked). y.kind) q ∙ e in cc))
-  same_object Sending e on =
-      subst (λ (n : ℕ). stands_at (λ (m : Send). m.place) p.place (first (senders c h p.object)) ≡ is_some_and (λ (m : Send). eqb m.session s) (first (senders c h n))) (sym on)
-      (longest_is (λ (m : Send). m.place) (λ m. m.session) (parked c h) (λ m. record { object = p.object; place = m.place; kind = Sending }) (λ m. refl) s p k (senders c h p.object) (length h) (parked_by_place c h p.object).sends_rise (known.each_send p.object)
-      (subst (λ (z : ParkedKind). place_listed z s (queue c h p.object) (semaphore h p.object) ≡ Some p.place) e (known.each_parked s p k)))
-
-  at : (b : Bool) → eqb o p.object ≡ b → ends_call s p (cond b (Receives w) NoAct) (queue c h p.object) ≡ is_some_and (λ m. eqb m.session s) (first (senders c h o))
-  at true e = same_object p.kind refl (eqb-true _ _ e)
-  at false e = rests_end s p (queue c h p.object) ∙ sym (away (λ m q. eqb-false _ _ e (ap (λ (y : Parked). y.object) q)))
+      by_kind : (kind : ParkedKind) (P : ParkedKind → Type 0) → P Sending → ((j : ParkedKind) → (Sending ≡ j → ⊥) → ends true j ≡ false → P j) → P kind
+      by_kind Sending P here other = here
+      by_kind Receiving P here other = other Receiving (λ e. cc) refl
+      by_kind Waiting P here other = other Waiting (λ e. cc) refl
 
 pub or_here : (b f : Bool) (p : Parked) (w : Option Parked) → option_or (cond b (cond f (Some p) None) None) w ≡ cond (b && f) (Some p) w
 or_here true true p w = refl
@@ -158,7 +175,11 @@ moves (Do sid (SemPost desc)) = true
 moves (Do sid (SemWait desc)) = true
 moves (Do sid (SemTryWait desc)) = true
 moves (Do sid Interrupt) = true
+moves (Do sid (MqTimedSend desc priority until bytes)) = true
+moves (Do sid (MqTimedReceive desc size until)) = true
+moves (Do sid (SemTimedWait desc until)) = true
 moves (Hangup sid) = true
+moves (Tick moment) = true
 moves _ = false
 
 -- the others change none
@@ -170,7 +191,11 @@ parked_by_others c h (Do sid (SemPost desc)) s still = absurd cc
 parked_by_others c h (Do sid (SemWait desc)) s still = absurd cc
 parked_by_others c h (Do sid (SemTryWait desc)) s still = absurd cc
 parked_by_others c h (Do sid Interrupt) s still = absurd cc
+parked_by_others c h (Do sid (MqTimedSend desc priority until bytes)) s still = absurd cc
+parked_by_others c h (Do sid (MqTimedReceive desc size until)) s still = absurd cc
+parked_by_others c h (Do sid (SemTimedWait desc until)) s still = absurd cc
 parked_by_others c h (Hangup sid) s still = absurd cc
+parked_by_others c h (Tick moment) s still = absurd cc
 parked_by_others c h (Do sid call) s still = kept_same (λ p. ends_call s p NoAct (queue c h p.object)) (parked c h s) (λ p is. rests_end s p (queue c h p.object))
 parked_by_others c h (Hello found) s still = kept_same (λ p. ends_call s p NoAct (queue c h p.object)) (parked c h s) (λ p is. rests_end s p (queue c h p.object))
 
@@ -182,7 +207,11 @@ queue_by_others c h (Do sid (SemPost desc)) o still = absurd cc
 queue_by_others c h (Do sid (SemWait desc)) o still = absurd cc
 queue_by_others c h (Do sid (SemTryWait desc)) o still = absurd cc
 queue_by_others c h (Do sid Interrupt) o still = absurd cc
+queue_by_others c h (Do sid (MqTimedSend desc priority until bytes)) o still = absurd cc
+queue_by_others c h (Do sid (MqTimedReceive desc size until)) o still = absurd cc
+queue_by_others c h (Do sid (SemTimedWait desc until)) o still = absurd cc
 queue_by_others c h (Hangup sid) o still = absurd cc
+queue_by_others c h (Tick moment) o still = absurd cc
 queue_by_others c h (Do sid call) o still = refl
 queue_by_others c h (Hello found) o still = refl
 

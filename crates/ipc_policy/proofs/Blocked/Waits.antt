@@ -1,17 +1,21 @@
--- Which events wait for a semaphore, and what ends a parked wait.
-use Rattle.std.proofs.Common.{◌≡◌, ℕ, Bool, true, false, ◌||◌, eqb, length, cond, Option, Some, None, refl}
+-- Which events post to a semaphore, wait for it and try it, and what ends a parked wait.
+use Rattle.std.proofs.Common.{◌≡◌, ℕ, Bool, true, false, ◌||◌, eqb, length, cond, Option, Some, None, refl, subst}
 use Rattle.std.proofs.lemmas.Bool.{eqb-true}
+use Rattle.ipc_terms.specs.Timed.{plain}
 use Rattle.ipc_terms.specs.declared.ids.Sid.{Sid}
 use Rattle.ipc_terms.specs.declared.ids.Desc.{Desc}
+use Rattle.ipc_terms.specs.declared.call.Call.{Call}
 use Rattle.ipc_terms.specs.declared.call.Call.TheVariants.{MqSend, MqReceive, SemPost, SemWait, SemTryWait, Interrupt}
 use Rattle.ipc_terms.specs.declared.record.Event.{Event}
-use Rattle.ipc_terms.specs.declared.record.Event.TheVariants.{Hello, Do, Hangup}
+use Rattle.ipc_terms.specs.declared.record.Event.TheVariants.{Hello, Do, Hangup, Tick}
+use Rattle.ipc_policy.specs.declared.config.Config.{Config}
 use Rattle.ipc_policy.specs.declared.config.Held.{Held}
 use Rattle.ipc_policy.specs.History.{History}
 use Rattle.ipc_policy.specs.Descriptions.{holds}
 use Rattle.ipc_policy.specs.Life.{gives_object}
-use Rattle.ipc_policy.specs.Queues.{Waiter, Act, Sends, Receives, NoAct, Queue, act}
-use Rattle.ipc_policy.specs.Semaphores.{SemaphoreAct, Posts, Waits, Tries, WithdrawsWait, NoSemaphoreAct, Semaphore, semaphore_act}
+use Rattle.ipc_policy.specs.Queues.{Waiter, Act, Sends, Receives, NoAct, withdrawal, plain_act, Queue}
+use Rattle.ipc_policy.specs.Semaphores.{SemaphoreAct, Posts, Waits, Tries, WithdrawsWait, NoSemaphoreAct, wait_withdrawal, plain_semaphore_act, Semaphore}
+use Rattle.ipc_policy.specs.Bodies.{due, act, semaphore_act}
 use Rattle.ipc_policy.specs.Parking.{Sending, Receiving, Waiting, withdraws, ends_call, is_posted}
 use Rattle.ipc_policy.specs.Readings.{ends_wait}
 
@@ -27,6 +31,15 @@ pub or_neither : (a b : Bool) → a ≡ false → b ≡ false → (a || b) ≡ f
 or_neither true b e f = absurd cc
 or_neither false b e f = f
 
+-- a call of this form by a description that gives semaphore o
+pub record CallOf (call : Desc → Call) (o : ℕ) (e : Event) (h : History) : Type 0 where
+  pub sid : Sid
+  pub desc : Desc
+  pub x : Held
+  pub event : e ≡ Do sid (call desc)
+  pub held : holds h sid.0 desc.0 ≡ Some x
+  pub object : x.object ≡ o
+
 -- an event that waits for semaphore o
 pub record WaitOf (o : ℕ) (e : Event) (h : History) (w : Waiter) : Type 0 where
   pub sid : Sid
@@ -37,77 +50,35 @@ pub record WaitOf (o : ℕ) (e : Event) (h : History) (w : Waiter) : Type 0 wher
   pub object : x.object ≡ o
   pub wait : w ≡ record { place = length h; session = sid.0; desc = desc.0 }
 
-not_waits : (b : Bool) (a : SemaphoreAct) (w : Waiter) → (a ≡ Waits w → ⊥) → cond b a NoSemaphoreAct ≡ Waits w → ⊥
-not_waits true a w h e = h e
-not_waits false a w h e = cc
+-- what an event is that does this to semaphore o
+abbrev pub Made : ℕ → Event → History → SemaphoreAct → Type 0
+Made o e h Posts = CallOf SemPost o e h
+Made o e h (Waits w) = WaitOf o e h w
+Made o e h Tries = CallOf SemTryWait o e h
+Made o e h _ = Unit {0}
 
-pub act_waits : (o : ℕ) (e : Event) (h : History) (w : Waiter) → semaphore_act o e h ≡ Waits w → WaitOf o e h w
-act_waits o (Do sid (SemWait desc)) h w k = at (holds h sid.0 desc.0) refl k where
-  at : (y : Option Held) → holds h sid.0 desc.0 ≡ y → cond (gives_object o y) (Waits (record { place = length h; session = sid.0; desc = desc.0 })) NoSemaphoreAct ≡ Waits w → WaitOf o (Do sid (SemWait desc)) h w
-  at None q j = absurd cc
-  at (Some x) q j = same (eqb x.object o) refl j where
-    same : (b : Bool) → eqb x.object o ≡ b → cond b (Waits (record { place = length h; session = sid.0; desc = desc.0 })) NoSemaphoreAct ≡ Waits w → WaitOf o (Do sid (SemWait desc)) h w
-    same true p i = record { sid = sid; desc = desc; x = x; event = refl; held = q; object = eqb-true _ _ p; wait = cc }
-    same false p i = absurd cc
-act_waits o (Do sid (SemPost desc)) h w k = absurd (not_waits (gives_object o (holds h sid.0 desc.0)) Posts w (λ j. cc) k)
-act_waits o (Do sid (SemTryWait desc)) h w k = absurd (not_waits (gives_object o (holds h sid.0 desc.0)) Tries w (λ j. cc) k)
-act_waits o (Do sid call) h w k = absurd cc
-act_waits o (Hello found) h w k = absurd cc
-act_waits o (Hangup sid) h w k = absurd cc
+-- it is what a call by a description that gives the object makes of it, or nothing
+given : (o : ℕ) (P : SemaphoreAct → Type 0) (a : SemaphoreAct) (w : Option Held) → P NoSemaphoreAct → ((x : Held) → w ≡ Some x → x.object ≡ o → P a) → P (cond (gives_object o w) a NoSemaphoreAct)
+given o P a None none made = none
+given o P a (Some x) none made = at (eqb x.object o) refl where
+  at : (b : Bool) → eqb x.object o ≡ b → P (cond b a NoSemaphoreAct)
+  at true e = made x refl (eqb-true _ _ e)
+  at false e = none
 
--- an event that posts to semaphore o
-pub record PostOf (o : ℕ) (e : Event) (h : History) : Type 0 where
-  pub sid : Sid
-  pub desc : Desc
-  pub x : Held
-  pub event : e ≡ Do sid (SemPost desc)
-  pub held : holds h sid.0 desc.0 ≡ Some x
-  pub object : x.object ≡ o
+plain_made : (due : ℕ → Option ℕ) (o : ℕ) (e : Event) (h : History) → Made o e h (plain_semaphore_act (length h) (holds h) due o e)
+plain_made due o (Do sid (SemPost desc)) h = given o (Made o (Do sid (SemPost desc)) h) Posts (holds h sid.0 desc.0) tt (λ x q e. record { sid = sid; desc = desc; x = x; event = refl; held = q; object = e })
+plain_made due o (Do sid (SemWait desc)) h = given o (Made o (Do sid (SemWait desc)) h) (Waits (record { place = length h; session = sid.0; desc = desc.0 })) (holds h sid.0 desc.0) tt (λ x q e. record { sid = sid; desc = desc; x = x; event = refl; held = q; object = e; wait = refl })
+plain_made due o (Do sid (SemTryWait desc)) h = given o (Made o (Do sid (SemTryWait desc)) h) Tries (holds h sid.0 desc.0) tt (λ x q e. record { sid = sid; desc = desc; x = x; event = refl; held = q; object = e })
+plain_made due o (Do sid call) h = tt
+plain_made due o (Hello found) h = tt
+plain_made due o (Hangup sid) h = tt
+plain_made due o (Tick moment) h = at (due moment) where
+  at : (s : Option ℕ) → Made o (Tick moment) h (wait_withdrawal s)
+  at None = tt
+  at (Some s) = tt
 
-not_posts : (b : Bool) (a : SemaphoreAct) → (a ≡ Posts → ⊥) → cond b a NoSemaphoreAct ≡ Posts → ⊥
-not_posts true a h e = h e
-not_posts false a h e = cc
-
-pub act_posts : (o : ℕ) (e : Event) (h : History) → semaphore_act o e h ≡ Posts → PostOf o e h
-act_posts o (Do sid (SemPost desc)) h k = at (holds h sid.0 desc.0) refl k where
-  at : (y : Option Held) → holds h sid.0 desc.0 ≡ y → cond (gives_object o y) Posts NoSemaphoreAct ≡ Posts → PostOf o (Do sid (SemPost desc)) h
-  at None q j = absurd cc
-  at (Some x) q j = same (eqb x.object o) refl j where
-    same : (b : Bool) → eqb x.object o ≡ b → cond b Posts NoSemaphoreAct ≡ Posts → PostOf o (Do sid (SemPost desc)) h
-    same true p i = record { sid = sid; desc = desc; x = x; event = refl; held = q; object = eqb-true _ _ p }
-    same false p i = absurd cc
-act_posts o (Do sid (SemWait desc)) h k = absurd (not_posts (gives_object o (holds h sid.0 desc.0)) _ (λ j. cc) k)
-act_posts o (Do sid (SemTryWait desc)) h k = absurd (not_posts (gives_object o (holds h sid.0 desc.0)) Tries (λ j. cc) k)
-act_posts o (Do sid call) h k = absurd cc
-act_posts o (Hello found) h k = absurd cc
-act_posts o (Hangup sid) h k = absurd cc
-
--- an event that tries semaphore o
-pub record TryOf (o : ℕ) (e : Event) (h : History) : Type 0 where
-  pub sid : Sid
-  pub desc : Desc
-  pub x : Held
-  pub event : e ≡ Do sid (SemTryWait desc)
-  pub held : holds h sid.0 desc.0 ≡ Some x
-  pub object : x.object ≡ o
-
-not_tries : (b : Bool) (a : SemaphoreAct) → (a ≡ Tries → ⊥) → cond b a NoSemaphoreAct ≡ Tries → ⊥
-not_tries true a h e = h e
-not_tries false a h e = cc
-
-pub act_tries : (o : ℕ) (e : Event) (h : History) → semaphore_act o e h ≡ Tries → TryOf o e h
-act_tries o (Do sid (SemTryWait desc)) h k = at (holds h sid.0 desc.0) refl k where
-  at : (y : Option Held) → holds h sid.0 desc.0 ≡ y → cond (gives_object o y) Tries NoSemaphoreAct ≡ Tries → TryOf o (Do sid (SemTryWait desc)) h
-  at None q j = absurd cc
-  at (Some x) q j = same (eqb x.object o) refl j where
-    same : (b : Bool) → eqb x.object o ≡ b → cond b Tries NoSemaphoreAct ≡ Tries → TryOf o (Do sid (SemTryWait desc)) h
-    same true p i = record { sid = sid; desc = desc; x = x; event = refl; held = q; object = eqb-true _ _ p }
-    same false p i = absurd cc
-act_tries o (Do sid (SemPost desc)) h k = absurd (not_tries (gives_object o (holds h sid.0 desc.0)) Posts (λ j. cc) k)
-act_tries o (Do sid (SemWait desc)) h k = absurd (not_tries (gives_object o (holds h sid.0 desc.0)) _ (λ j. cc) k)
-act_tries o (Do sid call) h k = absurd cc
-act_tries o (Hello found) h k = absurd cc
-act_tries o (Hangup sid) h k = absurd cc
+pub act_made : (c : Config) (o : ℕ) (e : Event) (h : History) (a : SemaphoreAct) → semaphore_act c o e h ≡ a → Made o (plain e) h a
+act_made c o e h a k = subst (Made o (plain e) h) k (plain_made (due c h) o (plain e) h)
 
 -- an act that cancels the parked wait of session s
 abbrev pub cancels : ℕ → SemaphoreAct → Bool
@@ -115,31 +86,38 @@ cancels s (WithdrawsWait t) = eqb s t
 cancels s _ = false
 
 -- what withdraws from queues withdraws from semaphores
-pub withdraws_alike : (o : ℕ) (e : Event) (h : History) (s : ℕ) → withdraws s (act o e h) ≡ cancels s (semaphore_act o e h)
-withdraws_alike o (Hello found) h s = refl
-withdraws_alike o (Do sid (MqSend desc priority bytes)) h s = at (gives_object o (holds h sid.0 desc.0)) where
+plain_withdraws : (due : ℕ → Option ℕ) (o : ℕ) (e : Event) (h : History) (s : ℕ) → withdraws s (plain_act (length h) (holds h) due o e) ≡ cancels s (plain_semaphore_act (length h) (holds h) due o e)
+plain_withdraws due o (Hello found) h s = refl
+plain_withdraws due o (Do sid (MqSend desc priority bytes)) h s = at (gives_object o (holds h sid.0 desc.0)) where
   at : (b : Bool) → withdraws s (cond b (Sends (record { place = length h; session = sid.0; desc = desc.0; priority = priority; bytes = bytes })) NoAct) ≡ false
   at true = refl
   at false = refl
-withdraws_alike o (Do sid (MqReceive desc length')) h s = at (gives_object o (holds h sid.0 desc.0)) where
+plain_withdraws due o (Do sid (MqReceive desc length')) h s = at (gives_object o (holds h sid.0 desc.0)) where
   at : (b : Bool) → withdraws s (cond b (Receives (record { place = length h; session = sid.0; desc = desc.0 })) NoAct) ≡ false
   at true = refl
   at false = refl
-withdraws_alike o (Do sid (SemPost desc)) h s = at (gives_object o (holds h sid.0 desc.0)) where
+plain_withdraws due o (Do sid (SemPost desc)) h s = at (gives_object o (holds h sid.0 desc.0)) where
   at : (b : Bool) → false ≡ cancels s (cond b Posts NoSemaphoreAct)
   at true = refl
   at false = refl
-withdraws_alike o (Do sid (SemWait desc)) h s = at (gives_object o (holds h sid.0 desc.0)) where
+plain_withdraws due o (Do sid (SemWait desc)) h s = at (gives_object o (holds h sid.0 desc.0)) where
   at : (b : Bool) → false ≡ cancels s (cond b (Waits (record { place = length h; session = sid.0; desc = desc.0 })) NoSemaphoreAct)
   at true = refl
   at false = refl
-withdraws_alike o (Do sid (SemTryWait desc)) h s = at (gives_object o (holds h sid.0 desc.0)) where
+plain_withdraws due o (Do sid (SemTryWait desc)) h s = at (gives_object o (holds h sid.0 desc.0)) where
   at : (b : Bool) → false ≡ cancels s (cond b Tries NoSemaphoreAct)
   at true = refl
   at false = refl
-withdraws_alike o (Do sid Interrupt) h s = refl
-withdraws_alike o (Do sid call) h s = refl
-withdraws_alike o (Hangup sid) h s = refl
+plain_withdraws due o (Do sid Interrupt) h s = refl
+plain_withdraws due o (Do sid call) h s = refl
+plain_withdraws due o (Hangup sid) h s = refl
+plain_withdraws due o (Tick moment) h s = at (due moment) where
+  at : (w : Option ℕ) → withdraws s (withdrawal w) ≡ cancels s (wait_withdrawal w)
+  at None = refl
+  at (Some t) = refl
+
+pub withdraws_alike : (c : Config) (o : ℕ) (e : Event) (h : History) (s : ℕ) → withdraws s (act c o e h) ≡ cancels s (semaphore_act c o e h)
+withdraws_alike c o e h s = plain_withdraws (due c h) o (plain e) h s
 
 -- a post ends no parked send and no parked receive
 pub posts_no_send : (b : SemaphoreAct) (i : ℕ) (u : Semaphore) → is_posted b Sending i u ≡ false

@@ -7,13 +7,11 @@ use Rattle.ipc_terms.specs.declared.rule.Rule.{Rule}
 use Rattle.ipc_terms.specs.declared.ids.Uid.{Uid}
 use Rattle.ipc_terms.specs.declared.ids.Gid.{Gid}
 use Rattle.ipc_terms.specs.declared.ids.Mode.{Mode}
-use Rattle.ipc_terms.specs.declared.ids.Sid.{Sid}
 use Rattle.ipc_terms.specs.declared.ids.Family.{Family}
 use Rattle.ipc_terms.specs.declared.ids.Target.TheVariants.{Dir, Name}
-use Rattle.ipc_terms.specs.declared.call.Call.{Call}
 use Rattle.ipc_terms.specs.declared.call.Call.TheVariants.{MqOpen, SemOpen, Chown}
 use Rattle.ipc_terms.specs.declared.record.Event.{Event}
-use Rattle.ipc_terms.specs.declared.record.Event.TheVariants.{Hello, Do, Hangup}
+use Rattle.ipc_terms.specs.declared.record.Event.TheVariants.{Hello, Do, Hangup, Tick}
 use Rattle.ipc_terms.specs.declared.facts.Facts.{Facts}
 use Rattle.ipc_access.specs.declared.class.Cred.{Cred}
 use Rattle.ipc_access.specs.Users.{cred_of}
@@ -23,6 +21,7 @@ use Rattle.ipc_policy.specs.Sessions.{user, live, cred, mask}
 use Rattle.ipc_policy.specs.Names.{Opening, queue_opening, semaphore_opening, creating, creation, creations, bound}
 use Rattle.ipc_policy.specs.Objects.{creation_of, makes, made_by, first_facts, sets_first, sets_owner, sets_group, sets_mode, owner_given, group_given, mode_given, means_object, object_bits, together, object, owner, group, mode, facts}
 use Rattle.ipc_policy.specs.Verdict.{verdict, Legal}
+use Rattle.ipc_policy.specs.Laws.{EachCallerIsKnown}
 use Rattle.ipc_policy.proofs.Directories.Creating.{bound_below}
 use Rattle.ipc_policy.proofs.Histories.Known.{known_user, live_user, object_below}
 use Rattle.ipc_policy.proofs.Histories.Unforbidden.{caller_live}
@@ -36,8 +35,8 @@ cred_known : (c : Config) (h : History) → Legal c h → (s : ℕ) → live h s
 unfolding cred
 cred_known c h legal s k = cred_at c h s (user h s) refl (live_user c h legal s k) (known_user c h legal s)
 
-pub caller_known : (c : Config) (h : History) → Legal c h → (sid : Sid) (call : Call) → None ≡ verdict c h (Do sid call) → is_some (cred c h sid.0) ≡ true
-caller_known c h legal sid call accepted = cred_known c h legal sid.0 (caller_live c h sid call (sym accepted))
+pub caller_known : EachCallerIsKnown
+caller_known c h sid call legal accepted = cred_known c h legal sid.0 (caller_live c h sid call accepted)
 
 -- so an accepted creation fixes what it fixes
 mapped_some : {A B : Type 0} (f : A → B) (w : Option A) → is_some w ≡ true → is_some (option_map f w) ≡ true
@@ -60,10 +59,11 @@ SaidAtCreation c o says = (e : Event) (h : History) → Legal c h → None ≡ v
 
 said_at : {A : Type 0} (c : Config) (o : ℕ) (f : Opening → History → Cred → A) → SaidAtCreation c o (λ e h. option_and_then (λ asked. option_map (f asked h) (cred c h asked.session.0)) (creation_of o e h))
 said_at c o f (Hello found) h legal accepted is = absurd (not_made None (eqb (creations h) o) refl is)
-said_at c o f (Do sid (MqOpen asked)) h legal accepted is = made_open (λ a. f a h) (λ a. cred c h a.session.0) (queue_opening sid asked) (eqb (creations h) o) (creating h (queue_opening sid asked)) (caller_known c h legal sid (MqOpen asked) accepted) is
-said_at c o f (Do sid (SemOpen asked)) h legal accepted is = made_open (λ a. f a h) (λ a. cred c h a.session.0) (semaphore_opening sid asked) (eqb (creations h) o) (creating h (semaphore_opening sid asked)) (caller_known c h legal sid (SemOpen asked) accepted) is
+said_at c o f (Do sid (MqOpen asked)) h legal accepted is = made_open (λ a. f a h) (λ a. cred c h a.session.0) (queue_opening sid asked) (eqb (creations h) o) (creating h (queue_opening sid asked)) (caller_known c h sid (MqOpen asked) legal (sym accepted)) is
+said_at c o f (Do sid (SemOpen asked)) h legal accepted is = made_open (λ a. f a h) (λ a. cred c h a.session.0) (semaphore_opening sid asked) (eqb (creations h) o) (creating h (semaphore_opening sid asked)) (caller_known c h sid (SemOpen asked) legal (sym accepted)) is
 said_at c o f (Do sid call) h legal accepted is = absurd (not_made None (eqb (creations h) o) refl is)
 said_at c o f (Hangup sid) h legal accepted is = absurd (not_made None (eqb (creations h) o) refl is)
+said_at c o f (Tick moment) h legal accepted is = absurd (not_made None (eqb (creations h) o) refl is)
 
 -- it is known of every object that was created
 said_more : {A : Type 0} (n o : ℕ) (d : Bool) → eqb n o ≡ d → (w : Option Opening) (v was : Option A) → (is_some (cond d w None) ≡ true → is_some v ≡ true) → (o < n → is_some was ≡ true) → o < cond (is_some w) (n + 1) n → is_some (option_or v was) ≡ true
@@ -132,6 +132,7 @@ given_below h o (Do sid (Chown owner group (Dir family))) is = absurd cc
 given_below h o (Do sid (Chown owner group (Name family name))) is = bound_below h family name o (meant_is_bound h o family name (owner_meant owner _ is))
 given_below h o (Do sid call) is = absurd cc
 given_below h o (Hangup sid) is = absurd cc
+given_below h o (Tick moment) is = absurd cc
 
 owner_at : (n o : ℕ) (given was : Option Uid) (f : Facts → Uid) (make : Opening → Option Facts) (w : Option Opening) (d : Bool) → eqb n o ≡ d → (is_some given ≡ true → o < n) → (is_some was ≡ true → o < n) → is_some (option_or (option_or given (option_map f (option_and_then make (cond d w None)))) was) ≡ true → o < cond (is_some w) (n + 1) n
 owner_at n o (Some x) was f make None d q meant known is = meant refl

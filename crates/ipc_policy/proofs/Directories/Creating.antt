@@ -4,22 +4,26 @@ use Rattle.std.specs.Prelude.{option_and_then}
 use Rattle.std.specs.Option.{option_or, option_map}
 use Rattle.std.proofs.lemmas.Bool.{ne_eqb}
 use Rattle.ipc_terms.specs.Flags.{has_create}
+use Rattle.ipc_terms.specs.Timed.{plain}
 use Rattle.ipc_terms.specs.declared.rule.Rule.{Rule}
+use Rattle.ipc_terms.specs.declared.ids.Sid.{Sid}
+use Rattle.ipc_terms.specs.declared.ids.Desc.{Desc}
 use Rattle.ipc_terms.specs.declared.ids.Family.{Family}
 use Rattle.ipc_terms.specs.declared.ids.Family.TheVariants.{Mq, Sem}
-use Rattle.ipc_terms.specs.declared.call.Call.TheVariants.{MqOpen, MqSend, MqReceive, MqUnlink, SemOpen, SemUnlink, SemPost, SemWait, SemTryWait}
+use Rattle.ipc_terms.specs.declared.call.Call.TheVariants.{MqOpen, MqSend, MqReceive, MqGive, MqUnlink, SemOpen, SemUnlink, SemPost, SemWait, SemTryWait}
 use Rattle.ipc_terms.specs.declared.record.Event.{Event}
-use Rattle.ipc_terms.specs.declared.record.Event.TheVariants.{Hello, Do, Hangup}
+use Rattle.ipc_terms.specs.declared.record.Event.TheVariants.{Hello, Do, Hangup, Tick}
 use Rattle.ipc_policy.specs.declared.config.Config.{Config}
 use Rattle.ipc_policy.specs.declared.config.Held.{Held}
 use Rattle.ipc_policy.specs.History.{History}
 use Rattle.ipc_policy.specs.Names.{Opening, queue_opening, semaphore_opening, unlinks, asks_name, is_bound, creations, bound}
 use Rattle.ipc_policy.specs.Descriptions.{opened, held_as, opens, if_of, held, holds, ends_held}
 use Rattle.ipc_policy.specs.Life.{gives_object}
-use Rattle.ipc_policy.specs.Queues.{act_by, queue, empty_queue, queue_after, maxmsg}
-use Rattle.ipc_policy.specs.Semaphores.{semaphore_act_by, semaphore_after, with_first, no_semaphore, semaphore}
+use Rattle.ipc_policy.specs.Queues.{withdrawal, plain_act, act_by, empty_queue, queue_after, maxmsg}
+use Rattle.ipc_policy.specs.Semaphores.{wait_withdrawal, plain_semaphore_act, semaphore_act_by, semaphore_after, with_first, no_semaphore}
+use Rattle.ipc_policy.specs.Bodies.{due, queue, semaphore}
 use Rattle.ipc_policy.specs.Grow.{is_new, first_value, creations_after, bound_after, held_after}
-use Rattle.ipc_policy.proofs.Holdings.Holding.{kept_is, held_grows}
+use Rattle.ipc_policy.proofs.Holdings.Holding.{kept_is, held_grows, held_given, moved}
 use Rattle.ipc_policy.proofs.Histories.Growing.{creations_grow, bound_grows}
 use Rattle.ipc_policy.proofs.Queues.Queueing.{queue_grows, refused_queue, semaphore_grows, refused_semaphore}
 use Rattle.ipc_policy.proofs.Histories.Known.{bound_iff}
@@ -35,6 +39,7 @@ created_at h (Do sid (MqOpen asked)) o le = count_at (creations h) o (is_new (qu
 created_at h (Do sid (SemOpen asked)) o le = count_at (creations h) o (is_new (semaphore_opening sid asked) (is_bound h)) le
 created_at h (Do sid call) o le = le
 created_at h (Hangup sid) o le = le
+created_at h (Tick moment) o le = le
 
 pub created_before : (h : History) (e : Event) (r : Option Rule) (o : ℕ) → creations (record { event = e; rule = r } ∷ h) ≤ o → creations h ≤ o
 unfolding creations
@@ -61,6 +66,7 @@ bound_at h f name o known (Do sid (SemOpen asked)) e = bound_open (creations h) 
 bound_at h f name o known (Do sid (SemUnlink given)) e = bound_left (creations h) o (unlinks f name (Do sid (SemUnlink given))) (bound h f name) known e
 bound_at h f name o known (Do sid call) e = known e
 bound_at h f name o known (Hangup sid) e = known e
+bound_at h f name o known (Tick moment) e = known e
 
 bound_more : (h : History) (f : Family) (name : List ℕ) (o : ℕ) → (bound h f name ≡ Some o → o < creations h) → (e : Event) (r : Option Rule) → bound (record { event = e; rule = r } ∷ h) f name ≡ Some o → o < creations (record { event = e; rule = r } ∷ h)
 unfolding bound creations
@@ -95,6 +101,18 @@ count_le : (n : ℕ) (b : Bool) → n ≤ cond b (n + 1) n
 count_le n true = omega arith
 count_le n false = omega arith
 
+-- a give leaves the object
+moved_object : (sid taker : Sid) (desc : Desc) (d n : ℕ) (w : Option Held) (x : Held) → ((y : Held) → w ≡ Some y → y.object < n) → option_map (moved sid desc taker d) w ≡ Some x → x.object < n
+moved_object sid taker desc d n None x known e = absurd cc
+moved_object sid taker desc d n (Some y) x known e =
+    let same : moved sid desc taker d y ≡ x = cc in
+    let object : y.object ≡ x.object = sym (unmoved (eqb sid.0 y.session.0 && eqb desc.0 d)) ∙ ap (λ (z : Held). z.object) same in
+    let less = known y refl in
+    omega arith where
+      unmoved : (b : Bool) → (cond b (record y { session = taker }) y).object ≡ y.object
+      unmoved true = refl
+      unmoved false = refl
+
 held_at : (h : History) (d : ℕ) (x : Held) → ((y : Held) → held h d ≡ Some y → y.object < creations h) → (e : Event) → held_after d e (opens h) (bound h) (creations h) (held h d) ≡ Some x → x.object < creations_after e (is_bound h) (creations h)
 held_at h d x known (Hello found) e = known x (kept_is (λ y. ends_held d y (Hello found)) (held h d) x e)
 held_at h d x known (Do sid (MqOpen asked)) e =
@@ -107,8 +125,10 @@ held_at h d x known (Do sid (SemOpen asked)) e =
     held_open (creations h) (cond new (creations h + 1) (creations h)) (eqb (opens h) d) (opened h (semaphore_opening sid asked)) (held h d) (semaphore_opening sid asked) x known (count_le (creations h) new)
     (λ i is. opened_below (creations h) i (has_create asked.flags) (is_bound h Sem asked.name) (bound h Sem asked.name) (bound_iff h Sem asked.name) (λ k at. bound_below h Sem asked.name k at) is)
     e
+held_at h d x known (Do sid (MqGive desc taker)) e = moved_object sid taker desc d (creations h) (held h d) x known (sym (held_given h sid taker desc d) ∙ held_grows h (Do sid (MqGive desc taker)) d ∙ e)
 held_at h d x known (Do sid call) e = known x (kept_is (λ y. ends_held d y (Do sid call)) (held h d) x e)
 held_at h d x known (Hangup sid) e = known x (kept_is (λ y. ends_held d y (Hangup sid)) (held h d) x e)
+held_at h d x known (Tick moment) e = known x (kept_is (λ y. ends_held d y (Tick moment)) (held h d) x e)
 
 held_more : (h : History) (d : ℕ) (x : Held) → ((y : Held) → held h d ≡ Some y → y.object < creations h) → (e : Event) (r : Option Rule) → held (record { event = e; rule = r } ∷ h) d ≡ Some x → x.object < creations (record { event = e; rule = r } ∷ h)
 unfolding held creations
@@ -144,16 +164,23 @@ given_at o n (Some x) le known = ne_eqb x.object o (λ (q : x.object ≡ o). abs
 pub not_given : (h : History) (s d o : ℕ) → creations h ≤ o → gives_object o (holds h s d) ≡ false
 not_given h s d o le = given_at o (creations h) (holds h s d) le (λ x e. held_created h d x (holds_is_held h s d x e))
 
-pub empty_after : (h : History) (o n : ℕ) (e : Event) → creations h ≤ o → queue_after n (act_by (length h) (holds h) o e) empty_queue ≡ empty_queue
-empty_after h o n (Hello found) le = refl
-empty_after h o n (Do sid (MqSend desc priority bytes)) le = rw (not_given h sid.0 desc.0 o le) refl
-empty_after h o n (Do sid (MqReceive desc length')) le = rw (not_given h sid.0 desc.0 o le) refl
-empty_after h o n (Do sid call) le = refl
-empty_after h o n (Hangup sid) le = refl
+plain_empty : (due : ℕ → Option ℕ) (h : History) (o n : ℕ) (e : Event) → creations h ≤ o → queue_after n (plain_act (length h) (holds h) due o e) empty_queue ≡ empty_queue
+plain_empty due h o n (Hello found) le = refl
+plain_empty due h o n (Do sid (MqSend desc priority bytes)) le = rw (not_given h sid.0 desc.0 o le) refl
+plain_empty due h o n (Do sid (MqReceive desc length')) le = rw (not_given h sid.0 desc.0 o le) refl
+plain_empty due h o n (Do sid call) le = refl
+plain_empty due h o n (Hangup sid) le = refl
+plain_empty due h o n (Tick moment) le = at (due moment) where
+  at : (s : Option ℕ) → queue_after n (withdrawal s) empty_queue ≡ empty_queue
+  at None = refl
+  at (Some s) = refl
+
+pub empty_after : (c : Config) (h : History) (o n : ℕ) (e : Event) → creations h ≤ o → queue_after n (act_by (length h) (holds h) (due c h) o e) empty_queue ≡ empty_queue
+empty_after c h o n e le = plain_empty (due c h) h o n (plain e) le
 
 empty_more : (c : Config) (h : History) (o : ℕ) → queue c h o ≡ empty_queue → creations h ≤ o → (e : Event) (r : Option Rule) → queue c (record { event = e; rule = r } ∷ h) o ≡ empty_queue
 empty_more c h o none le e (Some rule) = refused_queue c h e rule o ∙ none
-empty_more c h o none le e None = queue_grows c h e o ∙ ap (queue_after (maxmsg c h o) (act_by (length h) (holds h) o e)) none ∙ empty_after h o (maxmsg c h o) e le
+empty_more c h o none le e None = queue_grows c h e o ∙ ap (queue_after (maxmsg c h o) (act_by (length h) (holds h) (due c h) o e)) none ∙ empty_after c h o (maxmsg c h o) e le
 
 -- no message stands in an object that was not created, and no call is parked on it
 pub not_created_empty : (c : Config) (h : History) (o : ℕ) → creations h ≤ o → queue c h o ≡ empty_queue
@@ -164,13 +191,20 @@ not_created_empty c (r ∷ h) o le =
     empty_more c h o (not_created_empty c h o before) before r.event r.rule
 
 -- and a semaphore that was not created has no value and no parked wait
-pub still_after : (h : History) (o : ℕ) (e : Event) → creations h ≤ o → semaphore_after (semaphore_act_by (length h) (holds h) o e) no_semaphore ≡ no_semaphore
-still_after h o (Hello found) le = refl
-still_after h o (Do sid (SemPost desc)) le = rw (not_given h sid.0 desc.0 o le) refl
-still_after h o (Do sid (SemWait desc)) le = rw (not_given h sid.0 desc.0 o le) refl
-still_after h o (Do sid (SemTryWait desc)) le = rw (not_given h sid.0 desc.0 o le) refl
-still_after h o (Do sid call) le = refl
-still_after h o (Hangup sid) le = refl
+plain_still : (due : ℕ → Option ℕ) (h : History) (o : ℕ) (e : Event) → creations h ≤ o → semaphore_after (plain_semaphore_act (length h) (holds h) due o e) no_semaphore ≡ no_semaphore
+plain_still due h o (Hello found) le = refl
+plain_still due h o (Do sid (SemPost desc)) le = rw (not_given h sid.0 desc.0 o le) refl
+plain_still due h o (Do sid (SemWait desc)) le = rw (not_given h sid.0 desc.0 o le) refl
+plain_still due h o (Do sid (SemTryWait desc)) le = rw (not_given h sid.0 desc.0 o le) refl
+plain_still due h o (Do sid call) le = refl
+plain_still due h o (Hangup sid) le = refl
+plain_still due h o (Tick moment) le = at (due moment) where
+  at : (s : Option ℕ) → semaphore_after (wait_withdrawal s) no_semaphore ≡ no_semaphore
+  at None = refl
+  at (Some s) = refl
+
+pub still_after : (c : Config) (h : History) (o : ℕ) (e : Event) → creations h ≤ o → semaphore_after (semaphore_act_by (length h) (holds h) (due c h) o e) no_semaphore ≡ no_semaphore
+still_after c h o e le = plain_still (due c h) h o (plain e) le
 
 -- an event gives its first value to an object that it creates
 none_given : (n o : ℕ) (b : Bool) (w : Option ℕ) → cond b (n + 1) n ≤ o → cond (b && eqb n o) (option_or w None) None ≡ None
@@ -183,20 +217,21 @@ no_value_yet h (Do sid (MqOpen asked)) o le = none_given (creations h) o (is_new
 no_value_yet h (Do sid (SemOpen asked)) o le = none_given (creations h) o (is_new (semaphore_opening sid asked) (is_bound h)) (Some asked.value) le
 no_value_yet h (Do sid call) o le = refl
 no_value_yet h (Hangup sid) o le = refl
+no_value_yet h (Tick moment) o le = refl
 
-still_more : (h : History) (o : ℕ) → (creations h ≤ o → semaphore h o ≡ no_semaphore) → (e : Event) (r : Option Rule) → creations (record { event = e; rule = r } ∷ h) ≤ o → semaphore (record { event = e; rule = r } ∷ h) o ≡ no_semaphore
+still_more : (c : Config) (h : History) (o : ℕ) → (creations h ≤ o → semaphore c h o ≡ no_semaphore) → (e : Event) (r : Option Rule) → creations (record { event = e; rule = r } ∷ h) ≤ o → semaphore c (record { event = e; rule = r } ∷ h) o ≡ no_semaphore
 unfolding creations
-still_more h o known e (Some rule) le = refused_semaphore h e rule o ∙ known le
-still_more h o known e None le =
+still_more c h o known e (Some rule) le = refused_semaphore c h e rule o ∙ known le
+still_more c h o known e None le =
     let before : creations h ≤ o = created_before h e None o le in
-    semaphore_grows h e o
-    ∙ ap (λ v. with_first v (semaphore_after (semaphore_act_by (length h) (holds h) o e) (semaphore h o))) (no_value_yet h e o (rw (← creation_count) le))
-    ∙ ap (semaphore_after (semaphore_act_by (length h) (holds h) o e)) (known before)
-    ∙ still_after h o e before where
+    semaphore_grows c h e o
+    ∙ ap (λ v. with_first v (semaphore_after (semaphore_act_by (length h) (holds h) (due c h) o e) (semaphore c h o))) (no_value_yet h e o (rw (← creation_count) le))
+    ∙ ap (semaphore_after (semaphore_act_by (length h) (holds h) (due c h) o e)) (known before)
+    ∙ still_after c h o e before where
       creation_count : creations (record { event = e; rule = None } ∷ h) ≡ creations_after e (is_bound h) (creations h)
       creation_count = creations_grow h e
 
-pub not_created_still : (h : History) (o : ℕ) → creations h ≤ o → semaphore h o ≡ no_semaphore
+pub not_created_still : (c : Config) (h : History) (o : ℕ) → creations h ≤ o → semaphore c h o ≡ no_semaphore
 unfolding semaphore
-not_created_still [] o le = refl
-not_created_still (r ∷ h) o le = still_more h o (not_created_still h o) r.event r.rule le
+not_created_still c [] o le = refl
+not_created_still c (r ∷ h) o le = still_more c h o (not_created_still c h o) r.event r.rule le

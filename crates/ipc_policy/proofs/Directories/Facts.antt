@@ -12,7 +12,7 @@ use Rattle.ipc_terms.specs.declared.facts.Facts.{Facts}
 use Rattle.ipc_terms.specs.declared.call.Call.{Call}
 use Rattle.ipc_terms.specs.declared.call.Call.TheVariants.{MqOpen, SemOpen}
 use Rattle.ipc_terms.specs.declared.record.Event.{Event}
-use Rattle.ipc_terms.specs.declared.record.Event.TheVariants.{Hello, Do, Hangup}
+use Rattle.ipc_terms.specs.declared.record.Event.TheVariants.{Hello, Do, Hangup, Tick}
 use Rattle.ipc_access.specs.declared.class.Cred.{Cred}
 use Rattle.ipc_policy.specs.declared.config.Config.{Config}
 use Rattle.ipc_policy.specs.History.{History, after_accepted, newest}
@@ -104,6 +104,7 @@ opens_give_nothing (Do sid (MqOpen given)) asked is = record { owner = λ meant.
 opens_give_nothing (Do sid (SemOpen given)) asked is = record { owner = λ meant. refl; group = λ meant. refl; mode = λ meant. refl }
 opens_give_nothing (Do sid call) asked is = absurd cc
 opens_give_nothing (Hangup sid) asked is = absurd cc
+opens_give_nothing (Tick moment) asked is = absurd cc
 
 -- an event that opens nothing leaves what it does not mean
 pub facts_left : (c : Config) (h : History) (sid : Sid) (call : Call) → opening (Do sid call) ≡ None → (o : ℕ) → owner_given (means_object (bound h) o) (Do sid call) ≡ None → group_given (means_object (bound h) o) (Do sid call) ≡ None → mode_given (means_object (bound h) o) (Do sid call) ≡ None → facts c (after_accepted h (Do sid call)) o ≡ facts c h o
@@ -120,6 +121,7 @@ facts_made c h (Do sid (MqOpen asked)) nothing o = facts_grow c h (Do sid (MqOpe
 facts_made c h (Do sid (SemOpen asked)) nothing o = facts_grow c h (Do sid (SemOpen asked)) o ∙ all_made (is_new (semaphore_opening sid asked) (is_bound h) && eqb (creations h) o) (semaphore_opening sid asked) (mask h sid.0) (cred c h sid.0) (owner c h o) (group c h o) (mode c h o)
 facts_made c h (Do sid call) nothing o = facts_left c h sid call refl o (nothing.owner (means_object (bound h) o)) (nothing.group (means_object (bound h) o)) (nothing.mode (means_object (bound h) o))
 facts_made c h (Hangup sid) nothing o = facts_grow c h (Hangup sid) o
+facts_made c h (Tick moment) nothing o = facts_grow c h (Tick moment) o
 
 -- and leaves the directories
 pub directory_left : (h : History) (e : Event) → GivesNothing e → (f : Family) → directory (after_accepted h e) f ≡ directory h f
@@ -157,3 +159,4 @@ facts_given c h (Do sid (MqOpen given)) none o at is = absurd cc
 facts_given c h (Do sid (SemOpen given)) none o at is = absurd cc
 facts_given c h (Do sid call) none o at is = facts_grow c h (Do sid call) o ∙ changed_together (owner_given (means_object (bound h) o) (Do sid call)) (group_given (means_object (bound h) o) (Do sid call)) (option_map object_bits (mode_given (means_object (bound h) o) (Do sid call))) (owner c h o) (group c h o) (mode c h o) at is
 facts_given c h (Hangup sid) none o at is = facts_grow c h (Hangup sid) o ∙ is
+facts_given c h (Tick moment) none o at is = facts_grow c h (Tick moment) o ∙ is

@@ -9,9 +9,9 @@ use Rattle.ipc_terms.specs.declared.binding.Binding.{Binding}
 use Rattle.ipc_terms.specs.declared.ids.Family.{Family}
 use Rattle.ipc_terms.specs.declared.ids.Family.TheVariants.{Mq, Sem}
 use Rattle.ipc_terms.specs.declared.rule.Rule.{Rule}
-use Rattle.ipc_terms.specs.declared.call.Call.TheVariants.{Umask, MqOpen, MqClose, MqSend, MqReceive, MqGetattr, MqSetattr, MqNotify, MqUnlink, SemOpen, SemClose, SemUnlink, SemPost, SemWait, SemTryWait, SemGetvalue, ListNames, StatName, Chmod, Chown, SetLimit, Interrupt, Audit}
+use Rattle.ipc_terms.specs.declared.call.Call.TheVariants.{Umask, MqOpen, MqClose, MqSend, MqReceive, MqGetattr, MqSetattr, MqNotify, MqGive, MqUnlink, SemOpen, SemClose, SemUnlink, SemPost, SemWait, SemTryWait, SemGetvalue, ListNames, StatName, Chmod, Chown, SetLimit, Interrupt, Audit, MqTimedSend, MqTimedReceive, SemTimedWait}
 use Rattle.ipc_terms.specs.declared.record.Event.{Event}
-use Rattle.ipc_terms.specs.declared.record.Event.TheVariants.{Hello, Do, Hangup}
+use Rattle.ipc_terms.specs.declared.record.Event.TheVariants.{Hello, Do, Hangup, Tick}
 use Rattle.ipc_policy.specs.History.{History}
 use Rattle.ipc_policy.specs.Names.{queue_opening, semaphore_opening, is_bound, creations, bound}
 use Rattle.ipc_policy.specs.Life.{named, bindings}
@@ -90,6 +90,7 @@ listed_more h f name known (Do sid (MqReceive desc room)) = known
 listed_more h f name known (Do sid (MqGetattr desc)) = known
 listed_more h f name known (Do sid (MqSetattr desc nonblock)) = known
 listed_more h f name known (Do sid (MqNotify desc on)) = known
+listed_more h f name known (Do sid (MqGive desc taker)) = known
 listed_more h f name known (Do sid (MqUnlink given)) = found_unlinked h Mq f name given known
 listed_more h f name known (Do sid (SemUnlink given)) = found_unlinked h Sem f name given known
 listed_more h f name known (Do sid (SemClose desc)) = known
@@ -104,7 +105,11 @@ listed_more h f name known (Do sid (Chown owner group target)) = known
 listed_more h f name known (Do sid (SetLimit uid bytes)) = known
 listed_more h f name known (Do sid Interrupt) = known
 listed_more h f name known (Do sid (Audit start count)) = known
+listed_more h f name known (Do sid (MqTimedSend desc priority until bytes)) = known
+listed_more h f name known (Do sid (MqTimedReceive desc room until)) = known
+listed_more h f name known (Do sid (SemTimedWait desc until)) = known
 listed_more h f name known (Hangup sid) = known
+listed_more h f name known (Tick moment) = known
 
 listed_at : (h : History) (f : Family) (name : List ℕ) → found (bindings h f) name ≡ bound h f name → (e : Event) (r : Option Rule) → found (bindings (record { event = e; rule = r } ∷ h) f) name ≡ bound (record { event = e; rule = r } ∷ h) f name
 unfolding bindings named creations bound

@@ -1,23 +1,26 @@
 -- What an accepted event does to the names in order, and to which objects are alive.
 use Rattle.std.proofs.Common.{◌≡◌, ℕ, ◌+◌, ◌<◌, Bool, true, false, not, ◌&&◌, ◌||◌, eqb, cond, List, [], ◌∷◌, ◌++◌, map, filter, Option, Some, None, is_some, refl, sym, ap, ◌∙◌, arith}
-use Rattle.std.specs.Option.{option_or, option_to_list}
+use Rattle.std.specs.Option.{option_or, option_map, option_to_list}
 use Rattle.std.proofs.lemmas.Bool.{eqb-true, eq-eqb, ne_eqb}
 use Rattle.std.proofs.lemmas.List.{map_push}
 use Rattle.ipc_terms.specs.Names.{same_family, same_name}
 use Rattle.ipc_terms.specs.declared.binding.Binding.{Binding}
+use Rattle.ipc_terms.specs.declared.ids.Sid.{Sid}
+use Rattle.ipc_terms.specs.declared.ids.Desc.{Desc}
 use Rattle.ipc_terms.specs.declared.ids.Family.{Family}
 use Rattle.ipc_terms.specs.declared.ids.Family.TheVariants.{Mq, Sem}
 use Rattle.ipc_terms.specs.declared.rule.Rule.{Rule}
-use Rattle.ipc_terms.specs.declared.call.Call.TheVariants.{Umask, MqOpen, MqClose, MqSend, MqReceive, MqGetattr, MqSetattr, MqNotify, MqUnlink, SemOpen, SemClose, SemUnlink, SemPost, SemWait, SemTryWait, SemGetvalue, ListNames, StatName, Chmod, Chown, SetLimit, Interrupt, Audit}
+use Rattle.ipc_terms.specs.declared.call.Call.TheVariants.{Umask, MqOpen, MqClose, MqSend, MqReceive, MqGetattr, MqSetattr, MqNotify, MqGive, MqUnlink, SemOpen, SemClose, SemUnlink, SemPost, SemWait, SemTryWait, SemGetvalue, ListNames, StatName, Chmod, Chown, SetLimit, Interrupt, Audit, MqTimedSend, MqTimedReceive, SemTimedWait}
 use Rattle.ipc_terms.specs.declared.record.Event.{Event}
-use Rattle.ipc_terms.specs.declared.record.Event.TheVariants.{Hello, Do, Hangup}
+use Rattle.ipc_terms.specs.declared.record.Event.TheVariants.{Hello, Do, Hangup, Tick}
+use Rattle.ipc_policy.specs.declared.config.Held.{Held}
 use Rattle.ipc_policy.specs.History.{History, unless, unended, gathered_below, any_below}
 use Rattle.ipc_policy.specs.Names.{queue_opening, semaphore_opening, Opening, unlinks, is_bound, creating, creations, bound}
 use Rattle.ipc_policy.specs.Objects.{creation_of}
 use Rattle.ipc_policy.specs.Descriptions.{opens, held}
 use Rattle.ipc_policy.specs.Life.{named, binding_of, bindings, names, gives_object, alive}
 use Rattle.ipc_policy.specs.Grow.{is_new, creations_after, named_after, bindings_after, names_after, alive_after, held_after, opens_after}
-use Rattle.ipc_policy.proofs.Holdings.Holding.{kept_all, kept_some, held_grows}
+use Rattle.ipc_policy.proofs.Holdings.Holding.{kept_all, kept_some, held_grows, held_given, moved}
 use Rattle.ipc_policy.proofs.Lists.Gathering.{gathered_same, gathered_more, passing, gathered_filter, any_below_same}
 use Rattle.ipc_policy.proofs.Histories.Growing.{creations_grow, opens_grow}
 
@@ -42,6 +45,7 @@ named_grows h (Do sid (MqOpen asked)) o = opened_or (eqb (creations h) o) (is_ne
 named_grows h (Do sid (SemOpen asked)) o = opened_or (eqb (creations h) o) (is_new (semaphore_opening sid asked) (is_bound h)) (semaphore_opening sid asked) (named_so_far h o)
 named_grows h (Do sid call) o = none_or (eqb (creations h) o) (unless (λ asked. unlinks asked.family asked.name (Do sid call)) (named_so_far h o))
 named_grows h (Hangup sid) o = none_or (eqb (creations h) o) (unless (λ x. false) (named_so_far h o))
+named_grows h (Tick moment) o = none_or (eqb (creations h) o) (unless (λ x. false) (named_so_far h o))
 
 -- only what was created has a name
 named_at : (n o : ℕ) (b : Bool) → eqb n o ≡ b → (w v : Option Opening) (p : Opening → Bool) → (is_some v ≡ true → o < n) → is_some (option_or (cond b w None) (unless p v)) ≡ true → o < cond (is_some w) (n + 1) n
@@ -145,6 +149,7 @@ bindings_grow h (Do sid (MqReceive desc room)) f = bindings_quiet h (Do sid (MqR
 bindings_grow h (Do sid (MqGetattr desc)) f = bindings_quiet h (Do sid (MqGetattr desc)) f refl (λ o. kept_all (named h o))
 bindings_grow h (Do sid (MqSetattr desc nonblock)) f = bindings_quiet h (Do sid (MqSetattr desc nonblock)) f refl (λ o. kept_all (named h o))
 bindings_grow h (Do sid (MqNotify desc on)) f = bindings_quiet h (Do sid (MqNotify desc on)) f refl (λ o. kept_all (named h o))
+bindings_grow h (Do sid (MqGive desc taker)) f = bindings_quiet h (Do sid (MqGive desc taker)) f refl (λ o. kept_all (named h o))
 bindings_grow h (Do sid (MqUnlink name)) f = bindings_unlinked h (Do sid (MqUnlink name)) Mq name refl (λ o. refl) f
 bindings_grow h (Do sid (SemUnlink name)) f = bindings_unlinked h (Do sid (SemUnlink name)) Sem name refl (λ o. refl) f
 bindings_grow h (Do sid (SemClose desc)) f = bindings_quiet h (Do sid (SemClose desc)) f refl (λ o. kept_all (named h o))
@@ -159,7 +164,11 @@ bindings_grow h (Do sid (Chown owner group target)) f = bindings_quiet h (Do sid
 bindings_grow h (Do sid (SetLimit uid bytes)) f = bindings_quiet h (Do sid (SetLimit uid bytes)) f refl (λ o. kept_all (named h o))
 bindings_grow h (Do sid Interrupt) f = bindings_quiet h (Do sid Interrupt) f refl (λ o. kept_all (named h o))
 bindings_grow h (Do sid (Audit start count)) f = bindings_quiet h (Do sid (Audit start count)) f refl (λ o. kept_all (named h o))
+bindings_grow h (Do sid (MqTimedSend desc priority until bytes)) f = bindings_quiet h (Do sid (MqTimedSend desc priority until bytes)) f refl (λ o. kept_all (named h o))
+bindings_grow h (Do sid (MqTimedReceive desc room until)) f = bindings_quiet h (Do sid (MqTimedReceive desc room until)) f refl (λ o. kept_all (named h o))
+bindings_grow h (Do sid (SemTimedWait desc until)) f = bindings_quiet h (Do sid (SemTimedWait desc until)) f refl (λ o. kept_all (named h o))
 bindings_grow h (Hangup sid) f = bindings_quiet h (Hangup sid) f refl (λ o. kept_all (named h o))
+bindings_grow h (Tick moment) f = bindings_quiet h (Tick moment) f refl (λ o. kept_all (named h o))
 
 -- the names alone
 names_filtered : (u f : Family) (name : List ℕ) (xs : List Binding) → map (λ (b : Binding). b.name) (filter (λ x. not (taken u f name x)) xs) ≡ filter (λ n. not (same_family u f && same_name n name)) (map (λ (b : Binding). b.name) xs)
@@ -185,6 +194,7 @@ names_grow h (Do sid (MqReceive desc room)) f = ap (map (λ (b : Binding). b.nam
 names_grow h (Do sid (MqGetattr desc)) f = ap (map (λ (b : Binding). b.name)) (bindings_grow h (Do sid (MqGetattr desc)) f)
 names_grow h (Do sid (MqSetattr desc nonblock)) f = ap (map (λ (b : Binding). b.name)) (bindings_grow h (Do sid (MqSetattr desc nonblock)) f)
 names_grow h (Do sid (MqNotify desc on)) f = ap (map (λ (b : Binding). b.name)) (bindings_grow h (Do sid (MqNotify desc on)) f)
+names_grow h (Do sid (MqGive desc taker)) f = ap (map (λ (b : Binding). b.name)) (bindings_grow h (Do sid (MqGive desc taker)) f)
 names_grow h (Do sid (MqUnlink name)) f = ap (map (λ (b : Binding). b.name)) (bindings_grow h (Do sid (MqUnlink name)) f) ∙ names_filtered Mq f name (bindings h f)
 names_grow h (Do sid (SemUnlink name)) f = ap (map (λ (b : Binding). b.name)) (bindings_grow h (Do sid (SemUnlink name)) f) ∙ names_filtered Sem f name (bindings h f)
 names_grow h (Do sid (SemClose desc)) f = ap (map (λ (b : Binding). b.name)) (bindings_grow h (Do sid (SemClose desc)) f)
@@ -199,7 +209,11 @@ names_grow h (Do sid (Chown owner group target)) f = ap (map (λ (b : Binding). 
 names_grow h (Do sid (SetLimit uid bytes)) f = ap (map (λ (b : Binding). b.name)) (bindings_grow h (Do sid (SetLimit uid bytes)) f)
 names_grow h (Do sid Interrupt) f = ap (map (λ (b : Binding). b.name)) (bindings_grow h (Do sid Interrupt) f)
 names_grow h (Do sid (Audit start count)) f = ap (map (λ (b : Binding). b.name)) (bindings_grow h (Do sid (Audit start count)) f)
+names_grow h (Do sid (MqTimedSend desc priority until bytes)) f = ap (map (λ (b : Binding). b.name)) (bindings_grow h (Do sid (MqTimedSend desc priority until bytes)) f)
+names_grow h (Do sid (MqTimedReceive desc room until)) f = ap (map (λ (b : Binding). b.name)) (bindings_grow h (Do sid (MqTimedReceive desc room until)) f)
+names_grow h (Do sid (SemTimedWait desc until)) f = ap (map (λ (b : Binding). b.name)) (bindings_grow h (Do sid (SemTimedWait desc until)) f)
 names_grow h (Hangup sid) f = ap (map (λ (b : Binding). b.name)) (bindings_grow h (Hangup sid) f)
+names_grow h (Tick moment) f = ap (map (λ (b : Binding). b.name)) (bindings_grow h (Tick moment) f)
 
 -- which objects are alive
 pub alive_grows : (h : History) (e : Event) (o : ℕ) → alive (record { event = e; rule = None } ∷ h) o ≡ alive_after o (named_after o e (is_bound h) (creations h) (named h o)) (λ d. held_after d e (opens h) (bound h) (creations h) (held h d)) (opens_after e (opens h))
@@ -209,3 +223,17 @@ alive_grows h e o =
     ∙ ap (λ b. is_some (named_after o e (is_bound h) (creations h) (named h o)) || b)
     (ap (any_below (λ d. gives_object o (held (record { event = e; rule = None } ∷ h) d))) (opens_grow h e)
     ∙ any_below_same _ _ (opens_after e (opens h)) (λ d lt. ap (gives_object o) (held_grows h e d)))
+
+-- a give leaves every object as alive as it was: what is given gives the same object
+given_gives : (sid taker : Sid) (desc : Desc) (d o : ℕ) (w : Option Held) → gives_object o (option_map (moved sid desc taker d) w) ≡ gives_object o w
+given_gives sid taker desc d o None = refl
+given_gives sid taker desc d o (Some x) = at (eqb sid.0 x.session.0 && eqb desc.0 d) where
+  at : (b : Bool) → eqb (cond b (record x { session = taker }) x).object o ≡ eqb x.object o
+  at true = refl
+  at false = refl
+
+pub alive_given : (h : History) (sid taker : Sid) (desc : Desc) (o : ℕ) → alive (record { event = Do sid (MqGive desc taker); rule = None } ∷ h) o ≡ alive h o
+unfolding alive opens
+alive_given h sid taker desc o =
+    ap (λ w. is_some w || any_below (λ d. gives_object o (held (record { event = Do sid (MqGive desc taker); rule = None } ∷ h) d)) (opens h)) (named_grows h (Do sid (MqGive desc taker)) o ∙ kept_all (named h o))
+    ∙ ap (λ b. is_some (named h o) || b) (any_below_same _ _ (opens h) (λ d lt. ap (gives_object o) (held_given h sid taker desc d) ∙ given_gives sid taker desc d o (held h d)))

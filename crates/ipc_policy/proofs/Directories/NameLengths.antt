@@ -15,7 +15,7 @@ use Rattle.ipc_terms.specs.declared.ids.Family.{Family}
 use Rattle.ipc_terms.specs.declared.ids.Family.TheVariants.{Mq, Sem}
 use Rattle.ipc_terms.specs.declared.call.Call.TheVariants.{MqOpen, SemOpen}
 use Rattle.ipc_terms.specs.declared.record.Event.{Event}
-use Rattle.ipc_terms.specs.declared.record.Event.TheVariants.{Hello, Do, Hangup}
+use Rattle.ipc_terms.specs.declared.record.Event.TheVariants.{Hello, Do, Hangup, Tick}
 use Rattle.ipc_policy.specs.declared.config.Config.{Config}
 use Rattle.ipc_policy.specs.History.{History}
 use Rattle.ipc_policy.specs.Names.{Opening, Naming, opening, unlinking, queue_opening, semaphore_opening, is_bound, creations}
@@ -48,6 +48,7 @@ opened_short c h (Do sid (SemOpen q)) asked legal k =
 opened_short c h (Do sid call) asked legal k = absurd cc
 opened_short c h (Hello found) asked legal k = absurd cc
 opened_short c h (Hangup sid) asked legal k = absurd cc
+opened_short c h (Tick moment) asked legal k = absurd cc
 
 names_left : (f : Family) (w : Option Naming) (was : List (List ℕ)) → Each (IsShort f) was → (o : Option Opening) → ((asked : Opening) → o ≡ Some asked → IsShort asked.family asked.name) → (is_bound' : Family → List ℕ → Bool) (e : Event) → opening e ≡ o → unlinking e ≡ w → Each (IsShort f) (names_after f e is_bound' was)
 names_left f w was known None short is_bound' e k j = rw k (rw j (at w)) where

@@ -6,7 +6,7 @@ use Rattle.ipc_terms.specs.declared.object.TheConstants.{SEM_VALUE_MAX}
 use Rattle.ipc_terms.specs.declared.rule.Rule.TheVariants.{AttrRange, ValueRange, ByteLimit}
 use Rattle.ipc_terms.specs.declared.call.Call.TheVariants.{MqOpen, SemOpen}
 use Rattle.ipc_terms.specs.declared.record.Event.{Event}
-use Rattle.ipc_terms.specs.declared.record.Event.TheVariants.{Hello, Do, Hangup}
+use Rattle.ipc_terms.specs.declared.record.Event.TheVariants.{Hello, Do, Hangup, Tick}
 use Rattle.ipc_policy.specs.declared.config.Config.{Config}
 use Rattle.ipc_policy.specs.History.{History}
 use Rattle.ipc_policy.specs.Sessions.{cred}
@@ -26,6 +26,7 @@ open_there c h (Do sid (SemOpen given)) asked k accepted =
 open_there c h (Do sid call) asked k accepted = absurd cc
 open_there c h (Hello found) asked k accepted = absurd cc
 open_there c h (Hangup sid) asked k accepted = absurd cc
+open_there c h (Tick moment) asked k accepted = absurd cc
 
 -- where it creates, its attributes and its first value are in range
 pub open_in_range : (c : Config) (h : History) (e : Event) (asked : Opening) → opening e ≡ Some asked → verdict c h e ≡ None → ((has_create asked.flags && not (is_bound h asked.family asked.name)) && out_of_range c (cred c h asked.session.0) (attributes_asked asked.kind)) ≡ false
@@ -43,6 +44,7 @@ open_value_in_range c h (Do sid (SemOpen given)) asked k accepted = ap (is_some_
 open_value_in_range c h (Do sid call) asked k accepted = absurd cc
 open_value_in_range c h (Hello found) asked k accepted = absurd cc
 open_value_in_range c h (Hangup sid) asked k accepted = absurd cc
+open_value_in_range c h (Tick moment) asked k accepted = absurd cc
 
 -- and is not above its creator's limit
 pub open_within_limit : (c : Config) (h : History) (e : Event) (asked : Opening) → opening e ≡ Some asked → verdict c h e ≡ None → ((has_create asked.flags && not (is_bound h asked.family asked.name)) && is_some_and (λ given. is_some_and (above_limit c h given) (cred c h asked.session.0)) (queue_made c asked)) ≡ false

@@ -11,21 +11,22 @@ use Rattle.ipc_terms.specs.declared.facts.Facts.{Facts}
 use Rattle.ipc_terms.specs.declared.call.Attributes.{Attributes}
 use Rattle.ipc_terms.specs.declared.call.Answer.{Answer}
 use Rattle.ipc_terms.specs.declared.call.Answer.TheVariants.{Done, Sent, Attrs, Value}
-use Rattle.ipc_terms.specs.declared.call.Call.TheVariants.{Umask, MqOpen, MqClose, MqSend, MqReceive, MqGetattr, MqSetattr, MqNotify, MqUnlink, SemOpen, SemClose, SemUnlink, SemPost, SemWait, SemTryWait, SemGetvalue, ListNames, StatName, Chmod, Chown, SetLimit, Interrupt, Audit}
+use Rattle.ipc_terms.specs.declared.call.Call.TheVariants.{Umask, MqOpen, MqClose, MqSend, MqReceive, MqGetattr, MqSetattr, MqNotify, MqGive, MqUnlink, SemOpen, SemClose, SemUnlink, SemPost, SemWait, SemTryWait, SemGetvalue, ListNames, StatName, Chmod, Chown, SetLimit, Interrupt, Audit, MqTimedSend, MqTimedReceive, SemTimedWait}
 use Rattle.ipc_terms.specs.declared.record.Event.{Event}
-use Rattle.ipc_terms.specs.declared.record.Event.TheVariants.{Hello, Do, Hangup}
+use Rattle.ipc_terms.specs.declared.record.Event.TheVariants.{Hello, Do, Hangup, Tick}
 use Rattle.ipc_policy.specs.declared.config.Config.{Config}
 use Rattle.ipc_policy.specs.declared.config.Held.{Held}
 use Rattle.ipc_policy.specs.declared.config.Registration.{Registration}
 use Rattle.ipc_policy.specs.History.{History}
 use Rattle.ipc_policy.specs.Descriptions.{holds, is_nonblock}
 use Rattle.ipc_policy.specs.Life.{gives_object}
-use Rattle.ipc_policy.specs.Queues.{Send, Waiter, Act, Sends, Receives, NoAct, Queue, is_filled, next, act, queue, maxmsg, attributes, contents, receivers, is_full}
-use Rattle.ipc_policy.specs.Semaphores.{value, waiters, is_zero}
+use Rattle.ipc_policy.specs.Queues.{Send, Waiter, Act, Sends, Receives, NoAct, Queue, is_filled, next, maxmsg, attributes}
+use Rattle.ipc_policy.specs.Bodies.{due, act, queue, contents, receivers, is_full, value, waiters, is_zero}
 use Rattle.ipc_policy.specs.Registrations.{is_idle, registered}
-use Rattle.ipc_policy.specs.Verdict.{verdict, facts_meant, stat_answers, answers_of, receiver_answers, noticed, received, sender_answers, waiter_answers, send_answers, receive_answers, accepted_answers, answers_at, answers}
+use Rattle.ipc_policy.specs.Verdict.{verdict, facts_meant, stat_answers, answers_of, receiver_answers, noticed, received, sender_answers, waiter_answers, send_answers, receive_answers, tick_answers, accepted_answers, answers_at, answers}
 use Rattle.ipc_policy.specs.Deliveries.{delivers, object_asked, delivery}
 use Rattle.ipc_policy.specs.Confined.{brought, brings, EachAnswerIsDelivered}
+use Rattle.ipc_policy.proofs.Histories.PlainForms.{plain_accepted}
 use Rattle.ipc_policy.proofs.Queues.ActsOf.{held_queue}
 use Rattle.ipc_policy.proofs.Blocked.CallsListed.{is_full-at}
 
@@ -58,10 +59,14 @@ none_waited : (sid : Sid) (b : Bool) → brought (cond b [] ((sid, Done) ∷ [])
 none_waited sid true = refl
 none_waited sid false = refl
 
+none_ticked : (w : Option ℕ) → brought (tick_answers w) ≡ []
+none_ticked None = refl
+none_ticked (Some s) = refl
+
 -- what is told of a queue
 abbrev queue_told : Config → History → Sid → ℕ → ℕ → Option Attributes → List (Sid × Answer)
 queue_told c h sid d o None = []
-queue_told c h sid d o (Some x) = (sid, Attrs (is_nonblock h sid.0 d) x (length (contents c h o))) ∷ []
+queue_told c h sid d o (Some x) = (sid, Attrs (is_nonblock h d) x (length (contents c h o))) ∷ []
 
 abbrev held_told : Config → History → Sid → ℕ → Option Held → List (Sid × Answer)
 held_told c h sid d None = []
@@ -92,7 +97,7 @@ send_served n o m q sid notice none = at (is_filled n q.contents) (first q.recei
 act_at : (h : History) (sid : Sid) (desc : Desc) (x : Held) (a : Act) → holds h sid.0 desc.0 ≡ Some x → cond (gives_object x.object (holds h sid.0 desc.0)) a NoAct ≡ a
 act_at h sid desc x a k = let here : eqb x.object x.object ≡ true = eq-eqb _ _ refl in rw (k, here) refl
 
-send_brings : (c : Config) (h : History) (sid : Sid) (desc : Desc) (priority : ℕ) (bytes : List ℕ) → None ≡ verdict c h (Do sid (MqSend desc priority bytes)) → (w : Option Held) → holds h sid.0 desc.0 ≡ w → brought (answers_of w (send_answers c h sid priority bytes)) ≡ option_to_list (option_map brings (option_and_then (λ o. delivers (maxmsg c h o) o (act o (Do sid (MqSend desc priority bytes)) h) (queue c h o)) (option_map (λ x. x.object) w)))
+send_brings : (c : Config) (h : History) (sid : Sid) (desc : Desc) (priority : ℕ) (bytes : List ℕ) → None ≡ verdict c h (Do sid (MqSend desc priority bytes)) → (w : Option Held) → holds h sid.0 desc.0 ≡ w → brought (answers_of w (send_answers c h sid priority bytes)) ≡ option_to_list (option_map brings (option_and_then (λ o. delivers (maxmsg c h o) o (act c o (Do sid (MqSend desc priority bytes)) h) (queue c h o)) (option_map (λ x. x.object) w)))
 send_brings c h sid desc priority bytes accepted None k = refl
 send_brings c h sid desc priority bytes accepted (Some x) k =
     let queue_there : is_some (attributes c h x.object) ≡ true = held_queue c h sid (MqSend desc priority bytes) desc x accepted refl k in
@@ -106,7 +111,7 @@ receive_taken : (n o : ℕ) (v : Waiter) (q : Queue) (sid : Sid) → v.session �
 receive_taken n o v q sid who None = refl
 receive_taken n o v q sid who (Some m) = ap (λ s. record { session = s; priority = m.priority; bytes = m.bytes } ∷ brought (sender_answers (first q.senders))) (sym who) ∙ ap (λ rest. record { session = v.session; priority = m.priority; bytes = m.bytes } ∷ rest) (none_let_in (first q.senders))
 
-receive_brings : (c : Config) (h : History) (sid : Sid) (desc : Desc) (length' : ℕ) (w : Option Held) → holds h sid.0 desc.0 ≡ w → brought (answers_of w (receive_answers c h sid)) ≡ option_to_list (option_map brings (option_and_then (λ o. delivers (maxmsg c h o) o (act o (Do sid (MqReceive desc length')) h) (queue c h o)) (option_map (λ x. x.object) w)))
+receive_brings : (c : Config) (h : History) (sid : Sid) (desc : Desc) (length' : ℕ) (w : Option Held) → holds h sid.0 desc.0 ≡ w → brought (answers_of w (receive_answers c h sid)) ≡ option_to_list (option_map brings (option_and_then (λ o. delivers (maxmsg c h o) o (act c o (Do sid (MqReceive desc length')) h) (queue c h o)) (option_map (λ x. x.object) w)))
 receive_brings c h sid desc length' None k = refl
 receive_brings c h sid desc length' (Some x) k =
     receive_taken (maxmsg c h x.object) x.object (record { place = length h; session = sid.0; desc = desc.0 }) (queue c h x.object) sid refl (next (contents c h x.object))
@@ -120,17 +125,21 @@ accepted_brings c h (Do sid (MqOpen asked)) accepted = refl
 accepted_brings c h (Do sid (MqClose desc)) accepted = sym (delivers_none (object_asked h (Do sid (MqClose desc))))
 accepted_brings c h (Do sid (MqSend desc priority bytes)) accepted = send_brings c h sid desc priority bytes accepted (holds h sid.0 desc.0) refl
 accepted_brings c h (Do sid (MqReceive desc length')) accepted = receive_brings c h sid desc length' (holds h sid.0 desc.0) refl
+accepted_brings c h (Do sid (MqTimedSend desc priority until bytes)) accepted = send_brings c h sid desc priority bytes (plain_accepted c h (Do sid (MqTimedSend desc priority until bytes)) accepted) (holds h sid.0 desc.0) refl
+accepted_brings c h (Do sid (MqTimedReceive desc size until)) accepted = receive_brings c h sid desc size (holds h sid.0 desc.0) refl
+accepted_brings c h (Do sid (SemTimedWait desc until)) accepted = none_of_held (holds h sid.0 desc.0) (λ o. cond (is_zero c h o) [] ((sid, Done) ∷ [])) (λ o. none_waited sid (is_zero c h o)) ∙ sym (delivers_none (object_asked h (Do sid (SemWait desc))))
 accepted_brings c h (Do sid (MqGetattr desc)) accepted = none_of_attributes c h sid desc.0 (holds h sid.0 desc.0) ∙ sym (delivers_none (object_asked h (Do sid (MqGetattr desc))))
 accepted_brings c h (Do sid (MqSetattr desc nonblock)) accepted = none_of_attributes c h sid desc.0 (holds h sid.0 desc.0) ∙ sym (delivers_none (object_asked h (Do sid (MqSetattr desc nonblock))))
 accepted_brings c h (Do sid (MqNotify desc on)) accepted = sym (delivers_none (object_asked h (Do sid (MqNotify desc on))))
+accepted_brings c h (Do sid (MqGive desc taker)) accepted = sym (delivers_none (object_asked h (Do sid (MqGive desc taker))))
 accepted_brings c h (Do sid (MqUnlink name)) accepted = refl
 accepted_brings c h (Do sid (SemOpen asked)) accepted = refl
 accepted_brings c h (Do sid (SemClose desc)) accepted = sym (delivers_none (object_asked h (Do sid (SemClose desc))))
 accepted_brings c h (Do sid (SemUnlink name)) accepted = refl
-accepted_brings c h (Do sid (SemPost desc)) accepted = none_of_held (holds h sid.0 desc.0) (λ o. (sid, Done) ∷ waiter_answers (first (waiters h o))) (λ o. none_let_through (first (waiters h o))) ∙ sym (delivers_none (object_asked h (Do sid (SemPost desc))))
+accepted_brings c h (Do sid (SemPost desc)) accepted = none_of_held (holds h sid.0 desc.0) (λ o. (sid, Done) ∷ waiter_answers (first (waiters c h o))) (λ o. none_let_through (first (waiters c h o))) ∙ sym (delivers_none (object_asked h (Do sid (SemPost desc))))
 accepted_brings c h (Do sid (SemWait desc)) accepted = none_of_held (holds h sid.0 desc.0) (λ o. cond (is_zero c h o) [] ((sid, Done) ∷ [])) (λ o. none_waited sid (is_zero c h o)) ∙ sym (delivers_none (object_asked h (Do sid (SemWait desc))))
 accepted_brings c h (Do sid (SemTryWait desc)) accepted = sym (delivers_none (object_asked h (Do sid (SemTryWait desc))))
-accepted_brings c h (Do sid (SemGetvalue desc)) accepted = none_of_held (holds h sid.0 desc.0) (λ o. (sid, Value (value h o)) ∷ []) (λ o. refl) ∙ sym (delivers_none (object_asked h (Do sid (SemGetvalue desc))))
+accepted_brings c h (Do sid (SemGetvalue desc)) accepted = none_of_held (holds h sid.0 desc.0) (λ o. (sid, Value (value c h o)) ∷ []) (λ o. refl) ∙ sym (delivers_none (object_asked h (Do sid (SemGetvalue desc))))
 accepted_brings c h (Do sid (ListNames family start count)) accepted = refl
 accepted_brings c h (Do sid (StatName target)) accepted = none_told sid (facts_meant c h target)
 accepted_brings c h (Do sid (Chmod mode target)) accepted = refl
@@ -139,10 +148,11 @@ accepted_brings c h (Do sid (SetLimit uid bytes)) accepted = refl
 accepted_brings c h (Do sid (Audit start count)) accepted = refl
 accepted_brings c h (Do sid Interrupt) accepted = refl
 accepted_brings c h (Hangup sid) accepted = refl
+accepted_brings c h (Tick moment) accepted = none_ticked (due c h moment)
 
 pub answers_delivered : EachAnswerIsDelivered
 unfolding answers
 answers_delivered c h e = at (verdict c h e) refl where
-  at : (w : Option Rule) → verdict c h e ≡ w → brought (answers_at w c h e) ≡ option_to_list (option_map brings (cond (is_none w) (delivery c e h) None))
+  at : (w : Option Rule) → verdict c h e ≡ w → brought (answers_at w c h e) ≡ option_to_list (cond (is_none w) (option_map brings (delivery c e h)) None)
   at None k = accepted_brings c h e (sym k)
   at (Some rule) k = refl

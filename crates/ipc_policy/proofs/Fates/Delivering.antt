@@ -4,6 +4,7 @@ use Rattle.std.proofs.Common.{◌≡◌, ℕ, ◌+◌, ◌≤◌, Bool, true, fa
 use Rattle.std.specs.Prelude.{option_and_then}
 use Rattle.std.specs.Option.{option_map}
 use Rattle.std.proofs.lemmas.Bool.{eqb-true, eq-eqb}
+use Rattle.ipc_terms.specs.Timed.{plain}
 use Rattle.ipc_terms.specs.Lists.{first}
 use Rattle.ipc_terms.specs.declared.rule.Rule.{Rule}
 use Rattle.ipc_terms.specs.declared.record.Record.{Record}
@@ -14,7 +15,8 @@ use Rattle.ipc_policy.specs.declared.config.Config.{Config}
 use Rattle.ipc_policy.specs.declared.config.Held.{Held}
 use Rattle.ipc_policy.specs.History.{History, record_at, before_at}
 use Rattle.ipc_policy.specs.Descriptions.{holds}
-use Rattle.ipc_policy.specs.Queues.{Send, Waiter, Act, Sends, Receives, Withdraws, NoAct, Queue, is_filled, has_none, next, act, queue, maxmsg, contents, receivers}
+use Rattle.ipc_policy.specs.Queues.{Send, Waiter, Act, Sends, Receives, Withdraws, NoAct, Queue, is_filled, has_none, next, maxmsg}
+use Rattle.ipc_policy.specs.Bodies.{act, queue, contents, receivers}
 use Rattle.ipc_policy.specs.Parking.{stands_at}
 use Rattle.ipc_policy.specs.Verdict.{Legal}
 use Rattle.ipc_policy.specs.Deliveries.{Delivery, delivers, object_asked, delivery, receive_of, deliveries}
@@ -31,26 +33,26 @@ pub record Delivers (n o : ℕ) (a : Act) (q : Queue) (x : Delivery) : Type 0 wh
   pub takes : takes_at n x.message.place a q ≡ true
 
 -- what it delivers, act by act
-sends_delivers : (c : Config) (h : History) (e : Event) (o : ℕ) (m : Send) (x : Delivery) → Legal c (record { event = e; rule = None } ∷ h) → act o e h ≡ Sends m → (w : Option Waiter) → first (receivers c h o) ≡ w → option_map (λ v. record { object = o; message = m; receive = v }) w ≡ Some x → IsConfined c (record { event = e; rule = None } ∷ h) x
+sends_delivers : (c : Config) (h : History) (e : Event) (o : ℕ) (m : Send) (x : Delivery) → Legal c (record { event = e; rule = None } ∷ h) → act c o e h ≡ Sends m → (w : Option Waiter) → first (receivers c h o) ≡ w → option_map (λ v. record { object = o; message = m; receive = v }) w ≡ Some x → IsConfined c (record { event = e; rule = None } ∷ h) x
 sends_delivers c h e o m x legal k None j i = absurd cc
 sends_delivers c h e o m x legal k (Some w) j i =
     let same : record { object = o; message = m; receive = w } ≡ x = cc in
     let waiting = each_first (IsWaiting c h o) (receivers c h o) (traced c h o legal.1).waiting w j in
     subst (IsConfined c (record { event = e; rule = None } ∷ h)) same (record {
-      sent = sent_now c h e o m legal (act_sends o e h m k);
+      sent = sent_now c h e o m legal (act_sends c o e h m k);
       received = received_on c h (record { event = e; rule = None }) o w waiting.made waiting.now;
     })
 
-receives_delivers : (c : Config) (h : History) (e : Event) (o : ℕ) (w : Waiter) (x : Delivery) → Legal c (record { event = e; rule = None } ∷ h) → act o e h ≡ Receives w → (m : Option Send) → next (contents c h o) ≡ m → option_map (λ n. record { object = o; message = n; receive = w }) m ≡ Some x → IsConfined c (record { event = e; rule = None } ∷ h) x
+receives_delivers : (c : Config) (h : History) (e : Event) (o : ℕ) (w : Waiter) (x : Delivery) → Legal c (record { event = e; rule = None } ∷ h) → act c o e h ≡ Receives w → (m : Option Send) → next (contents c h o) ≡ m → option_map (λ n. record { object = o; message = n; receive = w }) m ≡ Some x → IsConfined c (record { event = e; rule = None } ∷ h) x
 receives_delivers c h e o w x legal k None j i = absurd cc
 receives_delivers c h e o w x legal k (Some m) j i =
     let same : record { object = o; message = m; receive = w } ≡ x = cc in
     subst (IsConfined c (record { event = e; rule = None } ∷ h)) same (record {
       sent = sent_on c h (record { event = e; rule = None }) o m (each_greatest (IsSendTo c h o) (λ n. n.priority) (contents c h o) m (traced c h o legal.1).inside j);
-      received = received_now c h e o w legal (act_receives o e h w k);
+      received = received_now c h e o w legal (act_receives c o e h w k);
     })
 
-act_delivers : (c : Config) (h : History) (e : Event) (o : ℕ) (x : Delivery) → Legal c (record { event = e; rule = None } ∷ h) → (a : Act) → act o e h ≡ a → delivers (maxmsg c h o) o a (queue c h o) ≡ Some x → IsConfined c (record { event = e; rule = None } ∷ h) x
+act_delivers : (c : Config) (h : History) (e : Event) (o : ℕ) (x : Delivery) → Legal c (record { event = e; rule = None } ∷ h) → (a : Act) → act c o e h ≡ a → delivers (maxmsg c h o) o a (queue c h o) ≡ Some x → IsConfined c (record { event = e; rule = None } ∷ h) x
 act_delivers c h e o x legal (Sends m) k j = at (is_filled (maxmsg c h o) (contents c h o)) j where
   at : (b : Bool) → cond b None (option_map (λ v. record { object = o; message = m; receive = v }) (first (receivers c h o))) ≡ Some x → IsConfined c (record { event = e; rule = None } ∷ h) x
   at true i = absurd cc
@@ -61,10 +63,10 @@ act_delivers c h e o x legal NoAct k j = absurd cc
 
 pub delivery_confined : EachDeliveryIsConfined
 unfolding delivery
-delivery_confined c h e x legal k = at (object_asked h e) k where
-  at : (w : Option ℕ) → option_and_then (λ o. delivers (maxmsg c h o) o (act o e h) (queue c h o)) w ≡ Some x → IsConfined c (record { event = e; rule = None } ∷ h) x
+delivery_confined c h e x legal k = at (object_asked h (plain e)) k where
+  at : (w : Option ℕ) → option_and_then (λ o. delivers (maxmsg c h o) o (act c o e h) (queue c h o)) w ≡ Some x → IsConfined c (record { event = e; rule = None } ∷ h) x
   at None j = absurd cc
-  at (Some o) j = act_delivers c h e o x legal (act o e h) refl j
+  at (Some o) j = act_delivers c h e o x legal (act c o e h) refl j
 
 -- a delivery takes the message from its object
 none_is : {A : Type 0} (xs : List A) (x : A) → first xs ≡ Some x → has_none xs ≡ false
@@ -118,35 +120,35 @@ delivers_of n o i (Withdraws s) q k = absurd cc
 delivers_of n o i NoAct q k = absurd cc
 
 -- the object of which an act takes is the one that the call's description gives
-asked_of : (o i : ℕ) (e : Event) (h : History) (n : ℕ) (q : Queue) (a : Act) → act o e h ≡ a → takes_at n i a q ≡ true → object_asked h e ≡ Some o
-asked_of o i e h n q (Sends m) k j =
-    let of = act_sends o e h m k in
+asked_of : (c : Config) (o i : ℕ) (e : Event) (h : History) (n : ℕ) (q : Queue) (a : Act) → act c o e h ≡ a → takes_at n i a q ≡ true → object_asked h (plain e) ≡ Some o
+asked_of c o i e h n q (Sends m) k j =
+    let of = act_sends c o e h m k in
     rw of.event (rw of.held (ap Some of.object))
-asked_of o i e h n q (Receives w) k j =
-    let of = act_receives o e h w k in
+asked_of c o i e h n q (Receives w) k j =
+    let of = act_receives c o e h w k in
     rw of.event (rw of.held (ap Some of.object))
-asked_of o i e h n q (Withdraws s) k j = absurd cc
-asked_of o i e h n q NoAct k j = absurd cc
+asked_of c o i e h n q (Withdraws s) k j = absurd cc
+asked_of c o i e h n q NoAct k j = absurd cc
 
-taken_delivers : (c : Config) (h : History) (e : Event) (o i : ℕ) → takes_at (maxmsg c h o) i (act o e h) (queue c h o) ≡ true → is_some (receive_of i (delivery c e h)) ≡ true
+taken_delivers : (c : Config) (h : History) (e : Event) (o i : ℕ) → takes_at (maxmsg c h o) i (act c o e h) (queue c h o) ≡ true → is_some (receive_of i (delivery c e h)) ≡ true
 unfolding delivery
 taken_delivers c h e o i k =
-    let asked = asked_of o i e h (maxmsg c h o) (queue c h o) (act o e h) refl k in
-    rw asked (delivers_of (maxmsg c h o) o i (act o e h) (queue c h o) k)
+    let asked = asked_of c o i e h (maxmsg c h o) (queue c h o) (act c o e h) refl k in
+    rw asked (delivers_of (maxmsg c h o) o i (act c o e h) (queue c h o) k)
 
 -- what delivers a message takes it from its object
-delivered_takes : (c : Config) (h : History) (e : Event) (x : Delivery) → delivery c e h ≡ Some x → takes_at (maxmsg c h x.object) x.message.place (act x.object e h) (queue c h x.object) ≡ true
+delivered_takes : (c : Config) (h : History) (e : Event) (x : Delivery) → delivery c e h ≡ Some x → takes_at (maxmsg c h x.object) x.message.place (act c x.object e h) (queue c h x.object) ≡ true
 unfolding delivery
-delivered_takes c h e x k = at (object_asked h e) k where
-  at : (w : Option ℕ) → option_and_then (λ o. delivers (maxmsg c h o) o (act o e h) (queue c h o)) w ≡ Some x → takes_at (maxmsg c h x.object) x.message.place (act x.object e h) (queue c h x.object) ≡ true
+delivered_takes c h e x k = at (object_asked h (plain e)) k where
+  at : (w : Option ℕ) → option_and_then (λ o. delivers (maxmsg c h o) o (act c o e h) (queue c h o)) w ≡ Some x → takes_at (maxmsg c h x.object) x.message.place (act c x.object e h) (queue c h x.object) ≡ true
   at None j = absurd cc
   at (Some o) j =
-      let d = takes_of (maxmsg c h o) o (act o e h) (queue c h o) x j in
-      subst (λ (p : ℕ). takes_at (maxmsg c h p) x.message.place (act p e h) (queue c h p) ≡ true) (sym d.object) d.takes
+      let d = takes_of (maxmsg c h o) o (act c o e h) (queue c h o) x j in
+      subst (λ (p : ℕ). takes_at (maxmsg c h p) x.message.place (act c p e h) (queue c h p) ≡ true) (sym d.object) d.takes
 
--- the record of a send
-abbrev of_send : Send → Record
-of_send m = record { event = Do (record { 0 = m.session }) (MqSend (record { 0 = m.desc }) m.priority m.bytes); rule = None }
+-- the event of a send, without its deadline
+abbrev of_send : Send → Event
+of_send m = Do (record { 0 = m.session }) (MqSend (record { 0 = m.desc }) m.priority m.bytes)
 
 -- whose it is, and by which description
 abbrev sender : Event → ℕ
@@ -159,7 +161,7 @@ sends_by _ = 0
 
 abbrev of_event : (Event → ℕ) → Option Record → ℕ
 of_event f None = 0
-of_event f (Some r) = f r.event
+of_event f (Some r) = f (plain r.event)
 
 abbrev object_in : Option Held → ℕ
 object_in None = 0
@@ -168,17 +170,17 @@ object_in (Some x) = x.object
 -- a send is to one object alone
 one_object : (c : Config) (h : History) (o : ℕ) (m m' : Send) (x : Held) → IsSend h m → holds (before_at m.place h) m.session m.desc ≡ Some x → IsSendTo c h o m' → m'.place ≡ m.place → o ≡ x.object
 one_object c h o m m' x sent held sent' place = sym sent'.object ∙ ap object_in writers where
-  there : record_at m.place h ≡ Some (of_send m')
-  there = subst (λ (n : ℕ). record_at n h ≡ Some (of_send m')) place sent'.recorded
+  there : record_at m.place h ≡ Some (record { event = sent'.made.event; rule = None })
+  there = subst (λ (n : ℕ). record_at n h ≡ Some (record { event = sent'.made.event; rule = None })) place sent'.made.recorded
 
-  both : Some (of_send m') ≡ Some (of_send m)
-  both = sym there ∙ sent
+  both : ◌≡◌ {A = Option Record} (Some (record { event = sent'.made.event; rule = None })) (Some (record { event = sent.event; rule = None }))
+  both = sym there ∙ sent.recorded
 
   session : m'.session ≡ m.session
-  session = ap (of_event sender) both
+  session = sym (ap sender sent'.made.form) ∙ ap (of_event sender) both ∙ ap sender sent.form
 
   desc : m'.desc ≡ m.desc
-  desc = ap (of_event sends_by) both
+  desc = sym (ap sends_by sent'.made.form) ∙ ap (of_event sends_by) both ∙ ap sends_by sent.form
 
   held_there : holds (before_at m.place h) m.session m.desc ≡ Some sent'.writer
   held_there = subst (λ (n : ℕ). holds (before_at n h) m.session m.desc ≡ Some sent'.writer) place (subst (λ (n : ℕ). holds (before_at m'.place h) n m.desc ≡ Some sent'.writer) session (subst (λ (n : ℕ). holds (before_at m'.place h) m'.session n ≡ Some sent'.writer) desc sent'.held))
@@ -195,16 +197,16 @@ same_truth true b f g = sym (f refl)
 same_truth false true f g = g refl
 same_truth false false f g = refl
 
-taken_alike : (c : Config) (h : History) (e : Event) (o i : ℕ) → Legal c (record { event = e; rule = None } ∷ h) → IsOnlyTo c (record { event = e; rule = None } ∷ h) o i → is_some (receive_of i (delivery c e h)) ≡ takes_at (maxmsg c h o) i (act o e h) (queue c h o)
+taken_alike : (c : Config) (h : History) (e : Event) (o i : ℕ) → Legal c (record { event = e; rule = None } ∷ h) → IsOnlyTo c (record { event = e; rule = None } ∷ h) o i → is_some (receive_of i (delivery c e h)) ≡ takes_at (maxmsg c h o) i (act c o e h) (queue c h o)
 taken_alike c h e o i legal only = same_truth _ _ (at (delivery c e h) refl) (taken_delivers c h e o i) where
-  at : (w : Option Delivery) → delivery c e h ≡ w → is_some (receive_of i w) ≡ true → takes_at (maxmsg c h o) i (act o e h) (queue c h o) ≡ true
+  at : (w : Option Delivery) → delivery c e h ≡ w → is_some (receive_of i w) ≡ true → takes_at (maxmsg c h o) i (act c o e h) (queue c h o) ≡ true
   at None k j = absurd cc
   at (Some x) k j = same (eqb x.message.place i) refl j where
-    same : (b : Bool) → eqb x.message.place i ≡ b → is_some (cond b (Some x.receive) None) ≡ true → takes_at (maxmsg c h o) i (act o e h) (queue c h o) ≡ true
+    same : (b : Bool) → eqb x.message.place i ≡ b → is_some (cond b (Some x.receive) None) ≡ true → takes_at (maxmsg c h o) i (act c o e h) (queue c h o) ≡ true
     same true p t =
         let place : x.message.place ≡ i = eqb-true _ _ p in
         let object : x.object ≡ o = only x.object x.message (delivery_confined c h e x legal k).sent place in
-        subst (λ (n : ℕ). takes_at (maxmsg c h o) n (act o e h) (queue c h o) ≡ true) place (subst (λ (n : ℕ). takes_at (maxmsg c h n) x.message.place (act n e h) (queue c h n) ≡ true) object (delivered_takes c h e x k))
+        subst (λ (n : ℕ). takes_at (maxmsg c h o) n (act c o e h) (queue c h o) ≡ true) place (subst (λ (n : ℕ). takes_at (maxmsg c h n) x.message.place (act c n e h) (queue c h n) ≡ true) object (delivered_takes c h e x k))
     same false p t = absurd cc
 
 only_before : (c : Config) (h : History) (r : Record) (o i : ℕ) → IsOnlyTo c (r ∷ h) o i → IsOnlyTo c h o i
@@ -213,7 +215,7 @@ only_before c h r o i only o' m sent place = only o' m (sent_on c h r o' m sent)
 taken_more : (c : Config) (h : History) (o i : ℕ) → deliveries c h i ≡ taken c h o i → (e : Event) (r : Option Rule) → Legal c (record { event = e; rule = r } ∷ h) → IsOnlyTo c (record { event = e; rule = r } ∷ h) o i → deliveries c (record { event = e; rule = r } ∷ h) i ≡ taken c (record { event = e; rule = r } ∷ h) o i
 unfolding taken
 taken_more c h o i known e (Some rule) legal only = known
-taken_more c h o i known e None legal only = ap (λ b. cond b (deliveries c h i + 1) (deliveries c h i)) (taken_alike c h e o i legal only) ∙ ap (λ n. cond (takes_at (maxmsg c h o) i (act o e h) (queue c h o)) (n + 1) n) known
+taken_more c h o i known e None legal only = ap (λ b. cond b (deliveries c h i + 1) (deliveries c h i)) (taken_alike c h e o i legal only) ∙ ap (λ n. cond (takes_at (maxmsg c h o) i (act c o e h) (queue c h o)) (n + 1) n) known
 
 pub deliveries_taken : (c : Config) (h : History) (o i : ℕ) → Legal c h → IsOnlyTo c h o i → deliveries c h i ≡ taken c h o i
 unfolding taken
@@ -225,10 +227,10 @@ pub only_to : (c : Config) (h : History) (m : Send) (x : Held) → IsSend h m �
 only_to c h m x sent held o' m' sent' place = one_object c h o' m m' x sent held sent' place
 
 sent_only_to : (c : Config) (h : History) (o : ℕ) (m : Send) → IsSendTo c h o m → IsOnlyTo c h o m.place
-sent_only_to c h o m sent = subst (λ (n : ℕ). IsOnlyTo c h n m.place) sent.object (only_to c h m sent.writer sent.recorded sent.held)
+sent_only_to c h o m sent = subst (λ (n : ℕ). IsOnlyTo c h n m.place) sent.object (only_to c h m sent.writer sent.made sent.held)
 
 taken_once : (c : Config) (h : History) (o i : ℕ) → taken c h o i ≤ 1
-taken_once c h o i = let sum = kept c h o i in let most = sent_le h o i in omega arith
+taken_once c h o i = let sum = kept c h o i in let most = sent_le c h o i in omega arith
 
 once_more : (c : Config) (h : History) (i : ℕ) → deliveries c h i ≤ 1 → (e : Event) (r : Option Rule) → Legal c (record { event = e; rule = r } ∷ h) → deliveries c (record { event = e; rule = r } ∷ h) i ≤ 1
 once_more c h i known e (Some rule) legal = known

@@ -4,6 +4,7 @@ use Rattle.std.specs.Prelude.{filter}
 use Rattle.std.specs.Option.{option_or}
 use Rattle.std.specs.List.{list_any}
 use Rattle.std.proofs.lemmas.Bool.{eqb-true, eq-eqb, lt-ltb}
+use Rattle.ipc_terms.specs.Timed.{plain}
 use Rattle.ipc_terms.specs.declared.rule.Rule.{Rule}
 use Rattle.ipc_terms.specs.declared.ids.Family.TheVariants.{Mq}
 use Rattle.ipc_terms.specs.declared.call.Call.TheVariants.{MqSend}
@@ -15,17 +16,19 @@ use Rattle.ipc_policy.specs.declared.config.Held.{Held}
 use Rattle.ipc_policy.specs.History.{History, newest, how_many, record_at, before_at}
 use Rattle.ipc_policy.specs.Descriptions.{holds}
 use Rattle.ipc_policy.specs.Life.{alive, gives_object}
-use Rattle.ipc_policy.specs.Queues.{Send, Waiter, Act, Sends, Receives, Withdraws, NoAct, Queue, act, queue, contents, senders}
+use Rattle.ipc_policy.specs.Queues.{Send, Waiter, Act, Sends, Receives, Withdraws, NoAct, plain_act, Queue}
+use Rattle.ipc_policy.specs.Bodies.{due, act, queue, contents, senders}
 use Rattle.ipc_policy.specs.Rules.{not_held}
 use Rattle.ipc_policy.specs.Verdict.{Legal, verdict}
 use Rattle.ipc_policy.specs.Deliveries.{Delivery, delivery, receive_of, receive_that_took, deliveries}
 use Rattle.ipc_policy.specs.Confined.{IsSend, IsSendTo, IsReceiveFrom}
-use Rattle.ipc_policy.specs.Fates.{has_send, withdraws_send, is_withdrawn, fates, how_many_hold, IsReceiveOf, HasOneFate, EachSendHasOneFate}
-use Rattle.ipc_policy.proofs.Histories.Moments.{place_below, record_stays, before_stays, legal_at}
+use Rattle.ipc_policy.specs.Fates.{has_send, withdraws_send, is_withdrawn, Fate, StaysParked, IsWithdrawn, StaysInQueue, IsTaken, IsLeft, became, IsReceiveOf, HasOneFate, EachSendHasOneFate}
+use Rattle.ipc_policy.proofs.Histories.Moments.{before_stays, legal_at}
 use Rattle.ipc_policy.proofs.Histories.Unforbidden.{call_free}
+use Rattle.ipc_policy.proofs.Histories.PlainForms.{plain_accepted}
 use Rattle.ipc_policy.proofs.Lists.Counting.{count_at, is_send_at, withdraws_at}
 use Rattle.ipc_policy.proofs.Queues.Keeping.{sent, taken, withdrawn, sent_le, kept}
-use Rattle.ipc_policy.proofs.Fates.Tracing.{sent_on}
+use Rattle.ipc_policy.proofs.Fates.Tracing.{made_below, made_on, sent_on}
 use Rattle.ipc_policy.proofs.Fates.Delivering.{delivery_confined, delivered_once, deliveries_taken, only_to}
 
 some : (n : ℕ) → nat_lt 0 (n + 1) ≡ true
@@ -60,7 +63,7 @@ how_many_alike f g (r ∷ h) same = ap (λ b. cond (is_none r.rule && b) (how_ma
 
 withdrawn_counted : (c : Config) (h : History) (o i : ℕ) → is_withdrawn c h o i ≡ nat_lt 0 (withdrawn c h o i)
 unfolding withdrawn
-withdrawn_counted c h o i = ap (nat_lt 0) (how_many_alike (λ e before. withdraws_send i (act o e before) (queue c before o)) (λ e before. withdraws_at i (act o e before) (queue c before o)) h (λ e before. withdraws_alike i (act o e before) (queue c before o)))
+withdrawn_counted c h o i = ap (nat_lt 0) (how_many_alike (λ e before. withdraws_send i (act c o e before) (queue c before o)) (λ e before. withdraws_at i (act c o e before) (queue c before o)) h (λ e before. withdraws_alike i (act c o e before) (queue c before o)))
 
 -- something was said if one event or more said something
 newest_counted : {A : Type 0} (says : Event → History → Option A) (h : History) → is_some (newest says h) ≡ nat_lt 0 (how_many (λ e before. is_some (says e before)) h)
@@ -71,29 +74,35 @@ newest_counted {A = A} says (r ∷ h) = at (is_none r.rule) (says r.event h) (ne
   at true (Some x) e = sym (some (how_many (λ e before. is_some (says e before)) h))
   at false w e = e
 
--- the record of a send
-abbrev of_send : Send → Record
-of_send m = record { event = Do (record { 0 = m.session }) (MqSend (record { 0 = m.desc }) m.priority m.bytes); rule = None }
+-- the event of a send, without its deadline
+abbrev of_send : Send → Event
+of_send m = Do (record { 0 = m.session }) (MqSend (record { 0 = m.desc }) m.priority m.bytes)
 
 -- a send that was accepted, by a description of the object, was sent to it
 more : (b : Bool) (n : ℕ) → 1 ≤ n → 1 ≤ cond b (n + 1) n
 more true n le = omega arith
 more false n le = le
 
-sent_there : (h : History) (o : ℕ) (m : Send) → record_at m.place h ≡ Some (of_send m) → gives_object o (holds (before_at m.place h) m.session m.desc) ≡ true → 1 ≤ sent h o m.place
-unfolding sent
-sent_there [] o m k given = absurd cc
-sent_there (r ∷ h) o m k given = at (eqb (length h) m.place) refl k given (sent_there h o m) where
-  counted : r ≡ of_send m → eqb (length h) m.place ≡ true → gives_object o (holds h m.session m.desc) ≡ true → 1 ≤ cond (is_none r.rule && is_send_at m.place (act o r.event h)) (how_many (λ e before. is_send_at m.place (act o e before)) h + 1) (how_many (λ e before. is_send_at m.place (act o e before)) h)
-  counted same here gives = subst (λ (q : Record). 1 ≤ cond (is_none q.rule && is_send_at m.place (act o q.event h)) (how_many (λ e before. is_send_at m.place (act o e before)) h + 1) (how_many (λ e before. is_send_at m.place (act o e before)) h)) (sym same) (rw (gives, here) (omega arith))
+sends_here : (c : Config) (h : History) (o : ℕ) (m : Send) (e : Event) → plain e ≡ of_send m → eqb (length h) m.place ≡ true → gives_object o (holds h m.session m.desc) ≡ true → is_send_at m.place (act c o e h) ≡ true
+sends_here c h o m e form here gives = ap (λ (d : Event). is_send_at m.place (plain_act (length h) (holds h) (due c h) o d)) form ∙ rw (gives, here) refl
 
-  at : (b : Bool) → eqb (length h) m.place ≡ b → cond b (Some r) (record_at m.place h) ≡ Some (of_send m) → gives_object o (holds (cond b h (before_at m.place h)) m.session m.desc) ≡ true → (record_at m.place h ≡ Some (of_send m) → gives_object o (holds (before_at m.place h) m.session m.desc) ≡ true → 1 ≤ how_many (λ e before. is_send_at m.place (act o e before)) h) → 1 ≤ cond (is_none r.rule && is_send_at m.place (act o r.event h)) (how_many (λ e before. is_send_at m.place (act o e before)) h + 1) (how_many (λ e before. is_send_at m.place (act o e before)) h)
-  at true here j gives rest = counted (let same : r ≡ of_send m = cc in same) here gives
-  at false here j gives rest = more (is_none r.rule && is_send_at m.place (act o r.event h)) _ (rest j gives)
+sent_there : (c : Config) (h : History) (o : ℕ) (m : Send) (e : Event) → record_at m.place h ≡ Some (record { event = e; rule = None }) → plain e ≡ of_send m → gives_object o (holds (before_at m.place h) m.session m.desc) ≡ true → 1 ≤ sent c h o m.place
+unfolding sent
+sent_there c [] o m e k form given = absurd cc
+sent_there c (r ∷ h) o m e k form given = at (eqb (length h) m.place) refl k given (λ j gives. sent_there c h o m e j form gives) where
+  counted : r ≡ record { event = e; rule = None } → eqb (length h) m.place ≡ true → gives_object o (holds h m.session m.desc) ≡ true → 1 ≤ cond (is_none r.rule && is_send_at m.place (act c o r.event h)) (how_many (λ e before. is_send_at m.place (act c o e before)) h + 1) (how_many (λ e before. is_send_at m.place (act c o e before)) h)
+  counted same here gives = subst (λ (q : Record). 1 ≤ cond (is_none q.rule && is_send_at m.place (act c o q.event h)) (how_many (λ e before. is_send_at m.place (act c o e before)) h + 1) (how_many (λ e before. is_send_at m.place (act c o e before)) h)) (sym same) (rw (sends_here c h o m e form here gives) (omega arith))
+
+  at : (b : Bool) → eqb (length h) m.place ≡ b → cond b (Some r) (record_at m.place h) ≡ Some (record { event = e; rule = None }) → gives_object o (holds (cond b h (before_at m.place h)) m.session m.desc) ≡ true → (record_at m.place h ≡ Some (record { event = e; rule = None }) → gives_object o (holds (before_at m.place h) m.session m.desc) ≡ true → 1 ≤ how_many (λ e before. is_send_at m.place (act c o e before)) h) → 1 ≤ cond (is_none r.rule && is_send_at m.place (act c o r.event h)) (how_many (λ e before. is_send_at m.place (act c o e before)) h + 1) (how_many (λ e before. is_send_at m.place (act c o e before)) h)
+  at true here j gives rest = counted (let same : r ≡ record { event = e; rule = None } = cc in same) here gives
+  at false here j gives rest = more (is_none r.rule && is_send_at m.place (act c o r.event h)) _ (rest j gives)
 
 -- its session holds the description then
-held_then : (c : Config) (h : History) (m : Send) → None ≡ verdict c h (of_send m).event → is_some (holds h m.session m.desc) ≡ true
-held_then c h m accepted = at (holds h m.session m.desc) refl where
+held_then : (c : Config) (h : History) (m : Send) (e : Event) → plain e ≡ of_send m → None ≡ verdict c h e → is_some (holds h m.session m.desc) ≡ true
+held_then c h m e form legal = at (holds h m.session m.desc) refl where
+  accepted : None ≡ verdict c h (of_send m)
+  accepted = rw form at (plain_accepted c h e legal)
+
   known : not_held c h m.session Mq m.desc ≡ false
   known = (call_free c h (record { 0 = m.session }) (MqSend (record { 0 = m.desc }) m.priority m.bytes) Mq (record { 0 = m.desc }) refl refl (sym accepted)).held
 
@@ -101,44 +110,85 @@ held_then c h m accepted = at (holds h m.session m.desc) refl where
   at None k = absurd (let wrong : true ≡ false = rw k at known in cc)
   at (Some x) k = refl
 
+-- exactly one of the fates holds
+record OneHolds (holds_of : Fate → Bool) : Type 0 where
+  fate : Fate
+  has_it : holds_of fate ≡ true
+  no_other : (other : Fate) → holds_of other ≡ true → other ≡ fate
+
+-- the fates by how many sends of the place are parked, were withdrawn, stand in the queue and were taken
+abbrev by_counts : ℕ → ℕ → ℕ → ℕ → Bool → Fate → Bool
+by_counts s w n d b StaysParked = nat_lt 0 s
+by_counts s w n d b IsWithdrawn = nat_lt 0 w
+by_counts s w n d b StaysInQueue = nat_lt 0 n && b
+by_counts s w n d b IsTaken = nat_lt 0 d
+by_counts s w n d b IsLeft = nat_lt 0 n && not b
+
+parked_alone : (b : Bool) (fate : Fate) → by_counts 1 0 0 0 b fate ≡ true → fate ≡ StaysParked
+parked_alone b StaysParked k = refl
+parked_alone b IsWithdrawn k = absurd cc
+parked_alone b StaysInQueue k = absurd cc
+parked_alone b IsTaken k = absurd cc
+parked_alone b IsLeft k = absurd cc
+
+withdrawn_alone : (b : Bool) (fate : Fate) → by_counts 0 1 0 0 b fate ≡ true → fate ≡ IsWithdrawn
+withdrawn_alone b StaysParked k = absurd cc
+withdrawn_alone b IsWithdrawn k = refl
+withdrawn_alone b StaysInQueue k = absurd cc
+withdrawn_alone b IsTaken k = absurd cc
+withdrawn_alone b IsLeft k = absurd cc
+
+inside_alone : (fate : Fate) → by_counts 0 0 1 0 true fate ≡ true → fate ≡ StaysInQueue
+inside_alone StaysParked k = absurd cc
+inside_alone IsWithdrawn k = absurd cc
+inside_alone StaysInQueue k = refl
+inside_alone IsTaken k = absurd cc
+inside_alone IsLeft k = absurd cc
+
+left_alone : (fate : Fate) → by_counts 0 0 1 0 false fate ≡ true → fate ≡ IsLeft
+left_alone StaysParked k = absurd cc
+left_alone IsWithdrawn k = absurd cc
+left_alone StaysInQueue k = absurd cc
+left_alone IsTaken k = absurd cc
+left_alone IsLeft k = refl
+
+taken_alone : (b : Bool) (fate : Fate) → by_counts 0 0 0 1 b fate ≡ true → fate ≡ IsTaken
+taken_alone b StaysParked k = absurd cc
+taken_alone b IsWithdrawn k = absurd cc
+taken_alone b StaysInQueue k = absurd cc
+taken_alone b IsTaken k = refl
+taken_alone b IsLeft k = absurd cc
+
 -- where numbers sum up to 1, exactly one of them is more than 0
-one_of : (s w n d : ℕ) (b : Bool) → s + w + n + d ≡ 1 → how_many_hold (nat_lt 0 s ∷ nat_lt 0 w ∷ (nat_lt 0 n && b) ∷ nat_lt 0 d ∷ (nat_lt 0 n && not b) ∷ []) ≡ 1
-one_of (suc s) w n d b e =
-    let w0 : w ≡ 0 = omega arith in
-    let n0 : n ≡ 0 = omega arith in
-    let d0 : d ≡ 0 = omega arith in
-    let one : nat_lt 0 (suc s) ≡ true = lt-ltb 0 (suc s) (omega arith) in
-    rw (w0, n0, d0, one) refl
-one_of zero (suc w) n d b e =
-    let n0 : n ≡ 0 = omega arith in
-    let d0 : d ≡ 0 = omega arith in
-    let one : nat_lt 0 (suc w) ≡ true = lt-ltb 0 (suc w) (omega arith) in
-    rw (n0, d0, one) refl
-one_of zero zero (suc n) d true e =
-    let d0 : d ≡ 0 = omega arith in
-    let one : nat_lt 0 (suc n) ≡ true = lt-ltb 0 (suc n) (omega arith) in
-    rw (d0, one) refl
-one_of zero zero (suc n) d false e =
-    let d0 : d ≡ 0 = omega arith in
-    let one : nat_lt 0 (suc n) ≡ true = lt-ltb 0 (suc n) (omega arith) in
-    rw (d0, one) refl
-one_of zero zero zero (suc d) b e = let one : nat_lt 0 (suc d) ≡ true = lt-ltb 0 (suc d) (omega arith) in rw one refl
-one_of zero zero zero zero b e = absurd (omega arith)
+one_of : (s w n d : ℕ) (b : Bool) → s + w + n + d ≡ 1 → OneHolds (by_counts s w n d b)
+one_of (suc zero) zero zero zero b e = record { fate = StaysParked; has_it = refl; no_other = parked_alone b }
+one_of zero (suc zero) zero zero b e = record { fate = IsWithdrawn; has_it = refl; no_other = withdrawn_alone b }
+one_of zero zero (suc zero) zero true e = record { fate = StaysInQueue; has_it = refl; no_other = inside_alone }
+one_of zero zero (suc zero) zero false e = record { fate = IsLeft; has_it = refl; no_other = left_alone }
+one_of zero zero zero (suc zero) b e = record { fate = IsTaken; has_it = refl; no_other = taken_alone b }
+one_of s w n d b e = absurd (omega arith)
 
-fates_counted : (c : Config) (h : History) (o i : ℕ) → fates c h o i ≡ nat_lt 0 (count_at i (senders c h o)) ∷ nat_lt 0 (withdrawn c h o i) ∷ (nat_lt 0 (count_at i (contents c h o)) && alive h o) ∷ nat_lt 0 (deliveries c h i) ∷ (nat_lt 0 (count_at i (contents c h o)) && not (alive h o)) ∷ []
-fates_counted c h o i =
-    rw (has_counted i (senders c h o), has_counted i (contents c h o), withdrawn_counted c h o i, newest_counted (λ e before. receive_of i (delivery c e before)) h) refl
+counted_fate : (c : Config) (h : History) (o i : ℕ) (fate : Fate) → became fate c h o i ≡ by_counts (count_at i (senders c h o)) (withdrawn c h o i) (count_at i (contents c h o)) (deliveries c h i) (alive h o) fate
+counted_fate c h o i StaysParked = has_counted i (senders c h o)
+counted_fate c h o i IsWithdrawn = withdrawn_counted c h o i
+counted_fate c h o i StaysInQueue = ap (λ b. b && alive h o) (has_counted i (contents c h o))
+counted_fate c h o i IsTaken = newest_counted (λ e before. receive_of i (delivery c e before)) h
+counted_fate c h o i IsLeft = ap (λ b. b && not (alive h o)) (has_counted i (contents c h o))
 
-one_became : (c : Config) (h : History) (m : Send) (x : Held) → Legal c h → IsSend h m → holds (before_at m.place h) m.session m.desc ≡ Some x → how_many_hold (fates c h x.object m.place) ≡ 1
+one_became : (c : Config) (h : History) (m : Send) (x : Held) → Legal c h → IsSend h m → holds (before_at m.place h) m.session m.desc ≡ Some x → OneHolds (λ fate. became fate c h x.object m.place)
 one_became c h m x legal made held =
     let given : gives_object x.object (holds (before_at m.place h) m.session m.desc) ≡ true = rw held (eq-eqb _ _ refl) in
-    let least : 1 ≤ sent h x.object m.place = sent_there h x.object m made given in
-    let most : sent h x.object m.place ≤ 1 = sent_le h x.object m.place in
+    let least : 1 ≤ sent c h x.object m.place = sent_there c h x.object m made.event made.recorded made.form given in
+    let most : sent c h x.object m.place ≤ 1 = sent_le c h x.object m.place in
     let sum = kept c h x.object m.place in
     let all : deliveries c h m.place ≡ taken c h x.object m.place = deliveries_taken c h x.object m.place legal (only_to c h m x made held) in
     let whole : count_at m.place (senders c h x.object) + withdrawn c h x.object m.place + count_at m.place (contents c h x.object) + taken c h x.object m.place ≡ 1 = omega arith in
-    ap how_many_hold (fates_counted c h x.object m.place)
-    ∙ one_of (count_at m.place (senders c h x.object)) (withdrawn c h x.object m.place) (count_at m.place (contents c h x.object)) (deliveries c h m.place) (alive h x.object) (rw all whole)
+    let one = one_of (count_at m.place (senders c h x.object)) (withdrawn c h x.object m.place) (count_at m.place (contents c h x.object)) (deliveries c h m.place) (alive h x.object) (rw all whole) in
+    record {
+      fate = one.fate;
+      has_it = counted_fate c h x.object m.place one.fate ∙ one.has_it;
+      no_other = λ other k. one.no_other other (sym (counted_fate c h x.object m.place other) ∙ k);
+    }
 
 -- the receive that took the message of a place was made of the object to which it was sent
 record Took (c : Config) (h : History) (i : ℕ) (w : Waiter) : Type 0 where
@@ -150,10 +200,10 @@ record Took (c : Config) (h : History) (i : ℕ) (w : Waiter) : Type 0 where
 
 received_on : (h : History) (r : Record) (o : ℕ) (w : Waiter) → IsReceiveOf h o w → IsReceiveOf (r ∷ h) o w
 received_on h r o w known =
-    let lt = place_below h w.place _ known.recorded in
+    let lt = made_below h w.place _ known.made in
     record {
       length' = known.length';
-      recorded = record_stays h r w.place lt ∙ known.recorded;
+      made = made_on h r w.place _ known.made;
       made_of = ap (λ b. gives_object o (holds b w.session w.desc)) (before_stays h r w.place lt) ∙ known.made_of;
     }
 
@@ -163,8 +213,8 @@ took_on c h r i w known = record { object = known.object; message = known.messag
 received_from : (c : Config) (h : History) (o : ℕ) (w : Waiter) → IsReceiveFrom c h o w → IsReceiveOf h o w
 received_from c h o w known = record {
   length' = known.length';
-  recorded = known.recorded;
-  made_of = let held = known.held w.place (omega arith) (place_below h w.place _ known.recorded) in rw held (eq-eqb _ _ known.object);
+  made = known.made;
+  made_of = let held = known.held w.place (omega arith) (made_below h w.place _ known.made) in rw held (eq-eqb _ _ known.object);
 }
 
 took_now : (c : Config) (h : History) (e : Event) (i : ℕ) (w : Waiter) → Legal c (record { event = e; rule = None } ∷ h) → (x : Option Delivery) → delivery c e h ≡ x → receive_of i x ≡ Some w → Took c (record { event = e; rule = None } ∷ h) i w
@@ -194,13 +244,15 @@ taker_of c h m x legal made held w k =
     subst (λ (n : ℕ). IsReceiveOf h n w) (only_to c h m x made held known.object known.message known.sent_to known.place) known.received
 
 pub one_fate : EachSendHasOneFate
-one_fate c h m legal made = at (holds (before_at m.place h) m.session m.desc) refl (held_then c (before_at m.place h) m (legal_at c h m.place (of_send m) legal made).0) where
+one_fate c h m legal made = at (holds (before_at m.place h) m.session m.desc) refl (held_then c (before_at m.place h) m made.event made.form (legal_at c h m.place (record { event = made.event; rule = None }) legal made.recorded).0) where
   at : (w : Option Held) → holds (before_at m.place h) m.session m.desc ≡ w → is_some w ≡ true → HasOneFate c h m
   at None k there = absurd cc
   at (Some x) k there = record {
     object = x.object;
     sent_to = rw k (eq-eqb _ _ refl);
-    one = one_became c h m x legal made k;
+    fate = (one_became c h m x legal made k).fate;
+    has_it = (one_became c h m x legal made k).has_it;
+    no_other = (one_became c h m x legal made k).no_other;
     taker = taker_of c h m x legal made k;
     one_taker = delivered_once c h m.place legal;
   }

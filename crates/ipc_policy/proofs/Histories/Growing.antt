@@ -7,7 +7,7 @@ use Rattle.ipc_terms.specs.declared.ids.Family.{Family}
 use Rattle.ipc_terms.specs.Flags.{has_create, has_nonblock}
 use Rattle.ipc_terms.specs.declared.call.Call.TheVariants.{Umask, MqOpen, MqSetattr, MqUnlink, SemOpen, SemUnlink}
 use Rattle.ipc_terms.specs.declared.record.Event.{Event}
-use Rattle.ipc_terms.specs.declared.record.Event.TheVariants.{Hello, Do, Hangup}
+use Rattle.ipc_terms.specs.declared.record.Event.TheVariants.{Hello, Do, Hangup, Tick}
 use Rattle.ipc_policy.specs.History.{History, newest, unless, unended}
 use Rattle.ipc_policy.specs.Sessions.{hellos, begins, hangs_up, user, live, mask, sets_mask}
 use Rattle.ipc_policy.specs.Names.{queue_opening, semaphore_opening, Opening, asks_name, unlinks, leaves_bound, is_bound, creating, creations, binds, bound}
@@ -21,6 +21,7 @@ unfolding hellos
 hello_grows h (Hello found) = refl
 hello_grows h (Do sid call) = refl
 hello_grows h (Hangup sid) = refl
+hello_grows h (Tick moment) = refl
 
 found_or : (b : Bool) (found : Option Uid) (w : Option (Option Uid)) → option_flatten (option_or (cond b (Some found) None) w) ≡ cond b found (option_flatten w)
 found_or true found w = refl
@@ -31,6 +32,7 @@ unfolding user
 user_grows h (Hello found) s = found_or (eqb (hellos h) s) found (newest (begins s) h)
 user_grows h (Do sid call) s = refl
 user_grows h (Hangup sid) s = refl
+user_grows h (Tick moment) s = refl
 
 begun : (b : Bool) (found : Option Uid) (w : Option (Option Uid)) → is_some (option_or (cond b (Some found) None) (unless (λ x. false) w)) ≡ (b || is_some w)
 begun true found w = refl
@@ -46,6 +48,7 @@ unfolding live
 live_grows h (Hello found) s = begun (eqb (hellos h) s) found (unended (begins s) (λ who e before. hangs_up s e) h)
 live_grows h (Do sid call) s = ap is_some (kept_all (unended (begins s) (λ who e before. hangs_up s e) h))
 live_grows h (Hangup sid) s = ended (eqb sid.0 s) (unended (begins s) (λ who e before. hangs_up s e) h)
+live_grows h (Tick moment) s = ap is_some (kept_all (unended (begins s) (λ who e before. hangs_up s e) h))
 
 mask_or : (b : Bool) (x n : ℕ) (w : Option ℕ) → unwrap_or (option_or (cond b (Some x) None) w) n ≡ cond b x (unwrap_or w n)
 mask_or true x n w = refl
@@ -57,6 +60,7 @@ mask_grows h (Hello found) s = refl
 mask_grows h (Do sid (Umask mode)) s = mask_or (eqb sid.0 s) (mode.0 % 512) 18 (newest (sets_mask s) h)
 mask_grows h (Do sid call) s = refl
 mask_grows h (Hangup sid) s = refl
+mask_grows h (Tick moment) s = refl
 
 bound_true : (b : Bool) (w : Option Bool) → unwrap_or (option_or (cond b (Some true) None) w) false ≡ (b || unwrap_or w false)
 bound_true true w = refl
@@ -75,6 +79,7 @@ is_bound_grows h (Do sid (SemOpen asked)) f name = bound_true (has_create asked.
 is_bound_grows h (Do sid (SemUnlink given)) f name = unbound_false (unlinks f name (Do sid (SemUnlink given))) (newest (leaves_bound f name) h)
 is_bound_grows h (Do sid call) f name = refl
 is_bound_grows h (Hangup sid) f name = refl
+is_bound_grows h (Tick moment) f name = refl
 
 some_of : {A : Type 0} (b : Bool) (x : A) (n : ℕ) → cond (is_some (cond b (Some x) None)) (n + 1) n ≡ cond b (n + 1) n
 some_of true x n = refl
@@ -87,6 +92,7 @@ creations_grow h (Do sid (MqOpen asked)) = some_of _ _ (creations h)
 creations_grow h (Do sid (SemOpen asked)) = some_of _ _ (creations h)
 creations_grow h (Do sid call) = refl
 creations_grow h (Hangup sid) = refl
+creations_grow h (Tick moment) = refl
 
 -- the object that a creation binds its name to
 abbrev bound_by : Family → List ℕ → ℕ → Option Opening → Option ℕ
@@ -118,6 +124,7 @@ bound_grows h (Do sid (SemOpen asked)) f name = bound_open f name (semaphore_ope
 bound_grows h (Do sid (SemUnlink given)) f name = kept_unless (unlinks f name (Do sid (SemUnlink given))) (bound_so_far h f name)
 bound_grows h (Do sid call) f name = kept_all (bound_so_far h f name)
 bound_grows h (Hangup sid) f name = kept_all (bound_so_far h f name)
+bound_grows h (Tick moment) f name = kept_all (bound_so_far h f name)
 
 made_open : {A : Type 0} (b d : Bool) (make : Opening → Option A) (asked : Opening) (w : Option A) → option_or (option_and_then make (cond b (cond d (Some asked) None) None)) w ≡ cond (d && b) (option_or (make asked) w) w
 made_open true true make asked w = refl
@@ -136,6 +143,7 @@ made_grows h (Do sid (MqOpen asked)) o make w = made_open (eqb (creations h) o) 
 made_grows h (Do sid (SemOpen asked)) o make w = made_open (eqb (creations h) o) (is_new (semaphore_opening sid asked) (is_bound h)) make _ w
 made_grows h (Do sid call) o make w = made_none (eqb (creations h) o) make w
 made_grows h (Hangup sid) o make w = made_none (eqb (creations h) o) make w
+made_grows h (Tick moment) o make w = made_none (eqb (creations h) o) make w
 
 pub opens_grow : (h : History) (e : Event) → opens (record { event = e; rule = None } ∷ h) ≡ opens_after e (opens h)
 unfolding opens
@@ -144,16 +152,18 @@ opens_grow h (Do sid (MqOpen asked)) = refl
 opens_grow h (Do sid (SemOpen asked)) = refl
 opens_grow h (Do sid call) = refl
 opens_grow h (Hangup sid) = refl
+opens_grow h (Tick moment) = refl
 
 nonblock_or : (b x d : Bool) (w : Option Bool) → unwrap_or (option_or (cond b (Some x) None) w) d ≡ cond b x (unwrap_or w d)
 nonblock_or true x d w = refl
 nonblock_or false x d w = refl
 
-pub nonblock_grows : (h : History) (e : Event) (s d : ℕ) → is_nonblock (record { event = e; rule = None } ∷ h) s d ≡ nonblock_after s d e (opens h) (is_nonblock h s d)
+pub nonblock_grows : (h : History) (e : Event) (d : ℕ) → is_nonblock (record { event = e; rule = None } ∷ h) d ≡ nonblock_after d e (opens h) (is_nonblock h d)
 unfolding is_nonblock
-nonblock_grows h (Hello found) s d = refl
-nonblock_grows h (Do sid (MqOpen asked)) s d = nonblock_or (eqb sid.0 s && eqb (opens h) d) (has_nonblock asked.flags) false (newest (sets_nonblock s d) h)
-nonblock_grows h (Do sid (MqSetattr desc nonblock)) s d = nonblock_or (eqb sid.0 s && eqb desc.0 d) nonblock false (newest (sets_nonblock s d) h)
-nonblock_grows h (Do sid (SemOpen asked)) s d = nonblock_or (eqb sid.0 s && eqb (opens h) d) false false (newest (sets_nonblock s d) h)
-nonblock_grows h (Do sid call) s d = refl
-nonblock_grows h (Hangup sid) s d = refl
+nonblock_grows h (Hello found) d = refl
+nonblock_grows h (Do sid (MqOpen asked)) d = nonblock_or (eqb (opens h) d) (has_nonblock asked.flags) false (newest (sets_nonblock d) h)
+nonblock_grows h (Do sid (MqSetattr desc nonblock)) d = nonblock_or (eqb desc.0 d) nonblock false (newest (sets_nonblock d) h)
+nonblock_grows h (Do sid (SemOpen asked)) d = nonblock_or (eqb (opens h) d) false false (newest (sets_nonblock d) h)
+nonblock_grows h (Do sid call) d = refl
+nonblock_grows h (Hangup sid) d = refl
+nonblock_grows h (Tick moment) d = refl

@@ -8,7 +8,7 @@ use Rattle.ipc_policy.specs.Grow.{Grows}
 use Rattle.ipc_policy.proofs.Directories.Facts.{owner_grows, group_grows, mode_grows, facts_grow, directory_grows}
 use Rattle.ipc_policy.proofs.Holdings.Holding.{held_grows, count_grows}
 use Rattle.ipc_policy.proofs.Histories.Growing.{hello_grows, user_grows, live_grows, mask_grows, is_bound_grows, creations_grow, bound_grows, made_grows, opens_grow, nonblock_grows}
-use Rattle.ipc_policy.proofs.Queues.Queueing.{queue_grows, registered_grows, semaphore_grows, given_value_grows, value_grows, parked_grows, outbox_grows}
+use Rattle.ipc_policy.proofs.Queues.Queueing.{time_grows, queue_grows, registered_grows, semaphore_grows, given_value_grows, value_grows, parked_grows, outbox_grows}
 use Rattle.ipc_policy.proofs.Queues.Charging.{limit_grows, charge_grows, charged_grows, queues_grow}
 use Rattle.ipc_policy.proofs.Directories.Living.{named_grows, bindings_grow, names_grow, alive_grows}
 
@@ -33,13 +33,15 @@ grows c h e = record {
   held_by = held_grows h e;
   count_of = count_grows h e;
   nonblock_of = nonblock_grows h e;
+  time = time_grows h e;
+  deadline_of = λ i. refl;
   queue_of = queue_grows c h e;
   registered_to = registered_grows c h e;
-  semaphore_of = semaphore_grows h e;
+  semaphore_of = semaphore_grows c h e;
   given_value_of = given_value_grows h e;
   posts_of = λ o. refl;
   passes_of = λ o. refl;
-  value_of = value_grows h e;
+  value_of = value_grows c h e;
   parked_in = parked_grows c h e;
   named_by = named_grows h e;
   bindings_of = bindings_grow h e;

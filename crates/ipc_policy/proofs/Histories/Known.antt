@@ -12,7 +12,7 @@ use Rattle.ipc_terms.specs.declared.ids.Family.{Family}
 use Rattle.ipc_terms.specs.declared.ids.Family.TheVariants.{Mq, Sem}
 use Rattle.ipc_terms.specs.declared.call.Call.TheVariants.{Umask, MqOpen, MqUnlink, SemOpen, SemUnlink}
 use Rattle.ipc_terms.specs.declared.record.Event.{Event}
-use Rattle.ipc_terms.specs.declared.record.Event.TheVariants.{Hello, Do, Hangup}
+use Rattle.ipc_terms.specs.declared.record.Event.TheVariants.{Hello, Do, Hangup, Tick}
 use Rattle.ipc_access.specs.Users.{cred_of}
 use Rattle.ipc_policy.specs.declared.config.Config.{Config}
 use Rattle.ipc_terms.specs.declared.object.Object.{Object}
@@ -89,6 +89,7 @@ iff_more h f name known (Do sid (SemOpen given)) None = open_iff (semaphore_open
 iff_more h f name known (Do sid (SemUnlink given)) None = unlinked_iff (unlinks f name (Do sid (SemUnlink given))) (newest (leaves_bound f name) h) (bound_so_far h f name) known
 iff_more h f name known (Do sid call) None = known ∙ sym (ap is_some (kept_all (bound_so_far h f name)))
 iff_more h f name known (Hangup sid) None = known ∙ sym (ap is_some (kept_all (bound_so_far h f name)))
+iff_more h f name known (Tick moment) None = known ∙ sym (ap is_some (kept_all (bound_so_far h f name)))
 
 pub bound_iff : (h : History) (f : Family) (name : List ℕ) → is_bound h f name ≡ is_some (bound h f name)
 unfolding is_bound bound
@@ -123,6 +124,7 @@ mask_more before s known (Do sid (Umask m)) None = set_at (eqb sid.0 s) where
   set_at false = known
 mask_more before s known (Do sid call) None = known
 mask_more before s known (Hangup sid) None = known
+mask_more before s known (Tick moment) None = known
 
 pub mask_lt : (h : History) (s : ℕ) → mask h s < 512
 unfolding mask
@@ -139,6 +141,7 @@ user_more c before s uid known (Hello found) None legal h = begun_at (eqb (hello
   begun_at false k = known k
 user_more c before s uid known (Do sid call) None legal h = known h
 user_more c before s uid known (Hangup sid) None legal h = known h
+user_more c before s uid known (Tick moment) None legal h = known h
 
 pub known_user : (c : Config) (h : History) → Legal c h → (s : ℕ) (uid : Uid) → user h s ≡ Some uid → is_some (cred_of c.users uid) ≡ true
 unfolding user
@@ -155,6 +158,7 @@ begun_below_more before s known (Hello found) None h = begun_at (eqb (hellos bef
   begun_at false e k = let below : s < how_many is_hello before = known k in omega arith
 begun_below_more before s known (Do sid call) None h = known h
 begun_below_more before s known (Hangup sid) None h = known h
+begun_below_more before s known (Tick moment) None h = known h
 
 begun_below : (h : History) (s : ℕ) → is_some (newest (begins s) h) ≡ true → s < hellos h
 begun_below [] s h = absurd cc
@@ -189,6 +193,7 @@ begun_user_more c before s known (Hello found) None legal h = begun_at (eqb (hel
   begun_at false k = known k
 begun_user_more c before s known (Do sid call) None legal h = known h
 begun_user_more c before s known (Hangup sid) None legal h = known h
+begun_user_more c before s known (Tick moment) None legal h = known h
 
 begun_user : (c : Config) (h : History) → Legal c h → (s : ℕ) → is_some (newest (begins s) h) ≡ true → is_some (user h s) ≡ true
 begun_user c [] legal s h = absurd cc
@@ -213,6 +218,7 @@ first_mask_more c before s known (Do sid (Umask m)) None legal h = set_at (eqb s
   set_at false e = known h
 first_mask_more c before s known (Do sid call) None legal h = known h
 first_mask_more c before s known (Hangup sid) None legal h = known h
+first_mask_more c before s known (Tick moment) None legal h = known h
 
 pub first_mask : (c : Config) (h : History) → Legal c h → (s : ℕ) → hellos h ≤ s → mask h s ≡ 18
 unfolding mask

@@ -1,10 +1,11 @@
 -- What is accepted is forbidden by no rule, and what follows from that for the session and for what a call names.
-use Rattle.std.proofs.Common.{◌≡◌, ℕ, Bool, true, false, not, ◌&&◌, nat_lt, Option, Some, None, is_some, is_none, refl, sym, ap, ◌∙◌}
+use Rattle.std.proofs.Common.{◌≡◌, ℕ, Bool, true, false, not, ◌&&◌, ◌||◌, eqb, nat_lt, Option, Some, None, is_some, is_none, refl, sym, ap, ◌∙◌}
 use Rattle.std.specs.Prelude.{MatchOption, option_and_then}
 use Rattle.ipc_terms.specs.Flags.{has_create}
 use Rattle.ipc_terms.specs.Rules.{every_rule}
+use Rattle.ipc_terms.specs.Timed.{plain_call}
 use Rattle.ipc_terms.specs.declared.rule.Rule.{Rule}
-use Rattle.ipc_terms.specs.declared.rule.Rule.TheVariants.{NoSession, InCall, BadDescr, Absent, AttrRange, ValueRange, WouldBlock, Overflow, BadKey}
+use Rattle.ipc_terms.specs.declared.rule.Rule.TheVariants.{NoSession, InCall, BadDescr, Absent, AttrRange, ValueRange, WouldBlock, Overflow, BadKey, NoTaker}
 use Rattle.ipc_terms.specs.declared.ids.Uid.{Uid}
 use Rattle.ipc_terms.specs.declared.ids.Sid.{Sid}
 use Rattle.ipc_terms.specs.declared.ids.Desc.{Desc}
@@ -14,7 +15,7 @@ use Rattle.ipc_terms.specs.declared.ids.Family.TheVariants.{Mq, Sem}
 use Rattle.ipc_terms.specs.declared.call.QueueOpen.{QueueOpen}
 use Rattle.ipc_terms.specs.declared.call.SemaphoreOpen.{SemaphoreOpen}
 use Rattle.ipc_terms.specs.declared.call.Call.{Call}
-use Rattle.ipc_terms.specs.declared.call.Call.TheVariants.{MqOpen, SemOpen, SemPost, SemTryWait}
+use Rattle.ipc_terms.specs.declared.call.Call.TheVariants.{MqOpen, MqGive, SemOpen, SemPost, SemTryWait, MqTimedSend, MqTimedReceive, SemTimedWait}
 use Rattle.ipc_terms.specs.declared.record.Event.{Event}
 use Rattle.ipc_terms.specs.declared.record.Event.TheVariants.{Hello, Do, Hangup}
 use Rattle.ipc_access.specs.declared.class.Cred.{Cred}
@@ -25,7 +26,7 @@ use Rattle.ipc_policy.specs.Sessions.{live, cred}
 use Rattle.ipc_policy.specs.Names.{is_bound, creating}
 use Rattle.ipc_policy.specs.Descriptions.{holds}
 use Rattle.ipc_policy.specs.Parking.{parked}
-use Rattle.ipc_policy.specs.Rules.{forbids, no_session, in_call, bad_descr, absent, attr_range, value_range, would_block, overflow, bad_key, is_interrupt, Described, described, is_some_and, not_held, out_of_range, is_zero, is_greatest}
+use Rattle.ipc_policy.specs.Rules.{forbids, no_session, in_call, bad_descr, absent, attr_range, value_range, would_block, overflow, bad_key, no_taker, is_interrupt, Described, described, is_some_and, not_held, out_of_range, is_zero, is_greatest}
 use Rattle.ipc_policy.specs.Verdict.{verdict}
 use Rattle.ipc_policy.proofs.Lists.FirstPassing.{NonePass, IsLeastPassing, first_is_least, numbered, place_of, has_place}
 
@@ -60,6 +61,13 @@ pub leaver_live : (c : Config) (h : History) (sid : Sid) → verdict c h (Hangup
 unfolding forbids no_session
 leaver_live c h sid accepted = off _ (unforbidden c h (Hangup sid) accepted NoSession)
 
+-- a timed call names the description that it names without its deadline
+pub described_plain : (call : Call) → described (plain_call call) ≡ described call
+described_plain (MqTimedSend desc priority until bytes) = refl
+described_plain (MqTimedReceive desc size until) = refl
+described_plain (SemTimedWait desc until) = refl
+described_plain call = refl
+
 -- a call by a description: its session is live and not parked, and holds the description of the family
 pub record IsFree (c : Config) (h : History) (s : ℕ) (family : Family) (d : ℕ) : Type 0 where
   pub lives : live h s ≡ true
@@ -71,7 +79,7 @@ unfolding forbids in_call bad_descr
 call_free c h sid call family desc other named accepted = record {
   lives = caller_live c h sid call accepted;
   idle = ap (λ b. not b && is_some (parked c h sid.0)) (sym other) ∙ unforbidden c h (Do sid call) accepted InCall;
-  held = ap (is_some_and (λ (d : Described). not_held c h sid.0 d.family d.desc.0)) (sym named) ∙ unforbidden c h (Do sid call) accepted BadDescr;
+  held = ap (is_some_and (λ (d : Described). not_held c h sid.0 d.family d.desc.0)) (sym (described_plain call ∙ named)) ∙ unforbidden c h (Do sid call) accepted BadDescr;
 }
 
 -- an open has CREAT, or its name is bound; where it creates, its attributes are in range
@@ -100,3 +108,12 @@ try_above_zero c h sid desc accepted = unforbidden c h (Do sid (SemTryWait desc)
 pub post_below_greatest : (c : Config) (h : History) (sid : Sid) (desc : Desc) → verdict c h (Do sid (SemPost desc)) ≡ None → is_some_and (λ x. is_greatest c h x.object) (holds h sid.0 desc.0) ≡ false
 unfolding forbids overflow
 post_below_greatest c h sid desc accepted = unforbidden c h (Do sid (SemPost desc)) accepted Overflow
+
+-- a give is to a session that is live, and to another
+neither : (a b : Bool) → (not a || b) ≡ false → (a ≡ true) × (b ≡ false)
+neither true b e = (refl, e)
+neither false b e = absurd cc
+
+pub taker_there : (c : Config) (h : History) (sid taker : Sid) (desc : Desc) → verdict c h (Do sid (MqGive desc taker)) ≡ None → (live h taker.0 ≡ true) × (eqb taker.0 sid.0 ≡ false)
+unfolding forbids no_taker
+taker_there c h sid taker desc accepted = neither (live h taker.0) (eqb taker.0 sid.0) (unforbidden c h (Do sid (MqGive desc taker)) accepted NoTaker)

@@ -1,16 +1,19 @@
--- In a legal history each description that is held was given by an open that was granted.
-use Rattle.std.proofs.Common.{◌≡◌, ℕ, Bool, true, false, not, ◌&&◌, ◌||◌, eqb, [], ◌∷◌, length, cond, Option, Some, None, is_some, refl, sym, ap, subst, ◌∙◌}
+-- In a legal history each description that is held was given by an open that was granted, and accepted gives led from the
+-- session of the open to the one that holds it.
+use Rattle.std.proofs.Common.{◌≡◌, ℕ, ◌≤◌, Bool, true, false, not, ◌&&◌, ◌||◌, eqb, List, [], ◌∷◌, length, cond, Option, Some, None, is_some, refl, sym, ap, subst, ◌∙◌, arith}
 use Rattle.std.specs.Prelude.{option_and_then}
 use Rattle.std.specs.Option.{option_or, option_map}
-use Rattle.std.proofs.lemmas.Bool.{eqb-true}
+use Rattle.std.proofs.lemmas.Bool.{eqb-true, eq-eqb, and_parts}
 use Rattle.ipc_terms.specs.Flags.{has_create}
+use Rattle.ipc_terms.specs.declared.ids.Sid.{Sid}
+use Rattle.ipc_terms.specs.declared.ids.Desc.{Desc}
 use Rattle.ipc_terms.specs.declared.rule.Rule.{Rule}
 use Rattle.ipc_terms.specs.declared.rule.Rule.TheVariants.{ModeDenied}
 use Rattle.ipc_terms.specs.declared.facts.Facts.{Facts}
 use Rattle.ipc_terms.specs.declared.record.Record.{Record}
 use Rattle.ipc_terms.specs.declared.record.Event.{Event}
-use Rattle.ipc_terms.specs.declared.record.Event.TheVariants.{Hello, Do, Hangup}
-use Rattle.ipc_terms.specs.declared.call.Call.TheVariants.{MqOpen, SemOpen}
+use Rattle.ipc_terms.specs.declared.record.Event.TheVariants.{Hello, Do, Hangup, Tick}
+use Rattle.ipc_terms.specs.declared.call.Call.TheVariants.{MqOpen, MqGive, SemOpen}
 use Rattle.ipc_access.specs.declared.class.Cred.{Cred}
 use Rattle.ipc_access.specs.Class.{granted}
 use Rattle.ipc_policy.specs.declared.config.Config.{Config}
@@ -19,31 +22,67 @@ use Rattle.ipc_policy.specs.History.{History, unless, is_some_and, before_at}
 use Rattle.ipc_policy.specs.Sessions.{cred}
 use Rattle.ipc_policy.specs.Names.{Opening, opening, queue_opening, semaphore_opening, is_bound, creating, creations, bound}
 use Rattle.ipc_policy.specs.Objects.{facts}
-use Rattle.ipc_policy.specs.Descriptions.{opens, opened, held_as, ends_held, held}
+use Rattle.ipc_policy.specs.Descriptions.{opens, opened, held_as, hands_over, ends_held, held, if_of, holds}
 use Rattle.ipc_policy.specs.Rules.{forbids, mode_denied, denied_at, bits_wanted}
 use Rattle.ipc_policy.specs.Verdict.{Legal, verdict}
-use Rattle.ipc_policy.specs.Confined.{IsGranted, grants_to}
+use Rattle.ipc_policy.specs.Confined.{Give, Lead, IsGranted, grants_to}
 use Rattle.ipc_policy.proofs.Histories.Moments.{place_below, record_stays, before_stays, record_now, before_now}
 use Rattle.ipc_policy.proofs.Histories.Unforbidden.{unforbidden}
-use Rattle.ipc_policy.proofs.Holdings.Holding.{kept_is}
+use Rattle.ipc_policy.proofs.Holdings.Holding.{kept_is, nothing_handed}
 use Rattle.ipc_policy.proofs.Directories.OpenAccepted.{open_there}
 use Rattle.ipc_policy.proofs.Directories.Bindings.{caller_known, bound_made}
 use Rattle.ipc_policy.proofs.Histories.Known.{bound_iff}
 
 -- a longer history keeps it
-pub granted_on : (c : Config) (h : History) (q : Record) (d : ℕ) (x : Held) → IsGranted c h d x → IsGranted c (q ∷ h) d x
-granted_on c h q d x known =
+lead_on : (h : History) (q : Record) (d : ℕ) (gs : List Give) (first : Held) (from : ℕ) (last : Held) (until : ℕ) → Lead h d gs first from last until → Lead (q ∷ h) d gs first from last until
+lead_on h q d [] first from last until known = known
+lead_on h q d (g ∷ gs) first from last until known =
+    let lt = place_below h g.place _ known.0 in (
+      record_stays h q g.place lt ∙ known.0,
+      known.1,
+      known.2,
+      ap (λ b. holds b g.giver.0 d) (before_stays h q g.place lt) ∙ known.3,
+      lead_on h q d gs first from (record last { session = g.giver }) g.place known.4,
+    )
+
+pub granted_on : (c : Config) (h : History) (q : Record) (d : ℕ) (x : Held) (act : ℕ) → IsGranted c h d x act → IsGranted c (q ∷ h) d x act
+granted_on c h q d x act known =
     let lt = place_below h known.place _ known.recorded in
     let same : before_at known.place (q ∷ h) ≡ before_at known.place h = before_stays h q known.place lt in
     record {
       place = known.place;
       event = known.event;
       asked = known.asked;
+      first = known.first;
       recorded = record_stays h q known.place lt ∙ known.recorded;
       is_open = known.is_open;
       number = ap opens same ∙ known.number;
       gives = ap (λ b. option_map (held_as known.asked) (opened b known.asked)) same ∙ known.gives;
-      grants = ap (λ b. creating b known.asked || grants_to (cred c b known.asked.session.0) (facts c b x.object) (bits_wanted known.asked.access)) same ∙ known.grants;
+      grants = ap (λ b. creating b known.asked || grants_to (cred c b known.asked.session.0) (facts c b known.first.object) (bits_wanted known.asked.access)) same ∙ known.grants;
+      given = known.given;
+      lead = lead_on h q d known.given known.first known.place x act known.lead;
+    }
+
+-- and so does a later act
+lead_later : (h : History) (d : ℕ) (gs : List Give) (first : Held) (from : ℕ) (last : Held) (until n : ℕ) → until ≤ n → Lead h d gs first from last until → Lead h d gs first from last n
+lead_later h d [] first from last until n le known = (known.0, let lt = known.1 in omega arith)
+lead_later h d (g ∷ gs) first from last until n le known = (known.0, let lt = known.1 in omega arith, known.2, known.3, known.4)
+
+granted_later : (c : Config) (h : History) (q : Record) (d : ℕ) (x : Held) → IsGranted c h d x (length h) → IsGranted c (q ∷ h) d x (length (q ∷ h))
+granted_later c h q d x known =
+    let on = granted_on c h q d x (length h) known in
+    record {
+      place = on.place;
+      event = on.event;
+      asked = on.asked;
+      first = on.first;
+      recorded = on.recorded;
+      is_open = on.is_open;
+      number = on.number;
+      gives = on.gives;
+      grants = on.grants;
+      given = on.given;
+      lead = lead_later (q ∷ h) d on.given on.first on.place x (length h) (length (q ∷ h)) (omega arith) on.lead;
     }
 
 not_denied : (c : Config) (h : History) (e : Event) (asked : Opening) → None ≡ verdict c h e → opening e ≡ Some asked → denied_at (cred c h asked.session.0) (option_and_then (facts c h) (bound h asked.family asked.name)) (bits_wanted asked.access) ≡ false
@@ -51,11 +90,12 @@ unfolding forbids mode_denied
 not_denied c h e asked legal k = ap (is_some_and (λ a. denied_at (cred c h a.session.0) (option_and_then (facts c h) (bound h a.family a.name)) (bits_wanted a.access))) (sym k) ∙ unforbidden c h e (sym legal) ModeDenied
 
 opener_known : (c : Config) (h : History) (e : Event) (asked : Opening) → Legal c h → None ≡ verdict c h e → opening e ≡ Some asked → is_some (cred c h asked.session.0) ≡ true
-opener_known c h (Do sid (MqOpen given)) asked legal accepted k = let same : queue_opening sid given ≡ asked = cc in subst (λ (a : Opening). is_some (cred c h a.session.0) ≡ true) same (caller_known c h legal sid (MqOpen given) accepted)
-opener_known c h (Do sid (SemOpen given)) asked legal accepted k = let same : semaphore_opening sid given ≡ asked = cc in subst (λ (a : Opening). is_some (cred c h a.session.0) ≡ true) same (caller_known c h legal sid (SemOpen given) accepted)
+opener_known c h (Do sid (MqOpen given)) asked legal accepted k = let same : queue_opening sid given ≡ asked = cc in subst (λ (a : Opening). is_some (cred c h a.session.0) ≡ true) same (caller_known c h sid (MqOpen given) legal (sym accepted))
+opener_known c h (Do sid (SemOpen given)) asked legal accepted k = let same : semaphore_opening sid given ≡ asked = cc in subst (λ (a : Opening). is_some (cred c h a.session.0) ≡ true) same (caller_known c h sid (SemOpen given) legal (sym accepted))
 opener_known c h (Do sid call) asked legal accepted k = absurd cc
 opener_known c h (Hello found) asked legal accepted k = absurd cc
 opener_known c h (Hangup sid) asked legal accepted k = absurd cc
+opener_known c h (Tick moment) asked legal accepted k = absurd cc
 
 created_at : (b u : Bool) → (not b && not u) ≡ false → u ≡ false → (b && not u) ≡ true
 created_at true true k e = absurd cc
@@ -94,50 +134,124 @@ grants_now c h e asked o legal accepted k found = at (bound h asked.family asked
       let passes : denied_at (cred c h asked.session.0) (facts c h o) (bits_wanted asked.access) ≡ false = rw there at (not_denied c h e asked accepted k) in
       or_second _ _ (granted_at (cred c h asked.session.0) (facts c h o) (bits_wanted asked.access) (opener_known c h e asked legal accepted k) (bound_made c h asked.family asked.name o legal there).1 passes)
 
-given_now : (c : Config) (h : History) (e : Event) (d : ℕ) (x : Held) (asked : Opening) → Legal c h → None ≡ verdict c h e → opening e ≡ Some asked → opens h ≡ d → option_map (held_as asked) (opened h asked) ≡ Some x → IsGranted c (record { event = e; rule = None } ∷ h) d x
+given_now : (c : Config) (h : History) (e : Event) (d : ℕ) (x : Held) (asked : Opening) → Legal c h → None ≡ verdict c h e → opening e ≡ Some asked → opens h ≡ d → option_map (held_as asked) (opened h asked) ≡ Some x → IsGranted c (record { event = e; rule = None } ∷ h) d x (length (record { event = e; rule = None } ∷ h))
 given_now c h e d x asked legal accepted is number given =
     let same : before_at (length h) (record { event = e; rule = None } ∷ h) ≡ h = before_now h (record { event = e; rule = None }) in
     record {
       place = length h;
       event = e;
       asked = asked;
+      first = x;
       recorded = record_now h (record { event = e; rule = None });
       is_open = is;
       number = ap opens same ∙ number;
       gives = ap (λ b. option_map (held_as asked) (opened b asked)) same ∙ given;
       grants = ap (λ b. creating b asked || grants_to (cred c b asked.session.0) (facts c b x.object) (bits_wanted asked.access)) same ∙ at (opened h asked) refl given;
+      given = [];
+      lead = (refl, omega arith);
     } where
       at : (w : Option ℕ) → opened h asked ≡ w → option_map (held_as asked) w ≡ Some x → (creating h asked || grants_to (cred c h asked.session.0) (facts c h x.object) (bits_wanted asked.access)) ≡ true
       at None q j = absurd cc
       at (Some o) q j = let same : held_as asked o ≡ x = cc in subst (λ (y : Held). (creating h asked || grants_to (cred c h asked.session.0) (facts c h y.object) (bits_wanted asked.access)) ≡ true) same (grants_now c h e asked o legal accepted is q)
 
-granted_more : (c : Config) (h : History) (d : ℕ) → ((x : Held) → held h d ≡ Some x → IsGranted c h d x) → (e : Event) (r : Option Rule) (x : Held) → Legal c h → r ≡ verdict c h e → held (record { event = e; rule = r } ∷ h) d ≡ Some x → IsGranted c (record { event = e; rule = r } ∷ h) d x
+-- what a give hands over its session had, and the taker has the same
+record Handed (d : ℕ) (e : Event) (w : Option Held) (x : Held) : Type 0 where
+  was : Held
+  taker : Sid
+  event : e ≡ Do was.session (MqGive (record { 0 = d }) taker)
+  held : w ≡ Some was
+  now : x ≡ record was { session = taker }
+
+same_sid : (s t : Sid) → s.0 ≡ t.0 → s ≡ t
+same_sid s t e = ap (λ (n : ℕ). record { 0 = n }) e
+
+same_desc : (s t : Desc) → s.0 ≡ t.0 → s ≡ t
+same_desc s t e = ap (λ (n : ℕ). record { 0 = n }) e
+
+handed_is : (d : ℕ) (e : Event) (w : Option Held) (x : Held) → hands_over d e w ≡ Some x → Handed d e w x
+handed_is d e None x k = absurd (let none : None ≡ Some x = sym (nothing_handed d e) ∙ k in cc)
+handed_is d (Do sid (MqGive desc taker)) (Some y) x k = at (eqb sid.0 y.session.0 && eqb desc.0 d) refl k where
+  at : (b : Bool) → (eqb sid.0 y.session.0 && eqb desc.0 d) ≡ b → cond b (Some (record y { session = taker })) None ≡ Some x → Handed d (Do sid (MqGive desc taker)) (Some y) x
+  at true q j =
+      let parts = and_parts (eqb sid.0 y.session.0) (eqb desc.0 d) q in
+      let who : sid ≡ y.session = same_sid sid y.session (eqb-true _ _ parts.0) in
+      let by : desc ≡ record { 0 = d } = same_desc desc (record { 0 = d }) (eqb-true _ _ parts.1) in
+      let same : record y { session = taker } ≡ x = cc in
+      record {
+        was = y;
+        taker = taker;
+        event = ap (λ (t : Sid). Do t (MqGive desc taker)) who ∙ ap (λ (t : Desc). Do y.session (MqGive t taker)) by;
+        held = refl;
+        now = sym same;
+      }
+  at false q j = absurd cc
+handed_is d e (Some y) x k = absurd cc
+
+mine_now : (y : Held) → if_of y.session.0 y ≡ Some y
+mine_now y = rw (eq-eqb y.session.0 y.session.0 refl) refl
+
+holds_own : (h : History) (d : ℕ) (y : Held) → held h d ≡ Some y → holds h y.session.0 d ≡ Some y
+unfolding holds
+holds_own h d y k = ap (option_and_then (if_of y.session.0)) k ∙ mine_now y
+
+-- a give that is accepted now
+given_over : (c : Config) (h : History) (e : Event) (d : ℕ) (x : Held) (by : Handed d e (held h d) x) → IsGranted c h d by.was (length h) → IsGranted c (record { event = e; rule = None } ∷ h) d x (length (record { event = e; rule = None } ∷ h))
+given_over c h e d x by known =
+    let on = granted_on c h (record { event = e; rule = None }) d by.was (length h) known in
+    let back : by.was ≡ record x { session = by.was.session } = ap (λ (z : Held). record z { session = by.was.session }) (sym by.now) in
+    record {
+      place = on.place;
+      event = on.event;
+      asked = on.asked;
+      first = on.first;
+      recorded = on.recorded;
+      is_open = on.is_open;
+      number = on.number;
+      gives = on.gives;
+      grants = on.grants;
+      given = record { place = length h; giver = by.was.session; taker = by.taker } ∷ on.given;
+      lead = (
+        record_now h (record { event = e; rule = None }) ∙ ap (λ (f : Event). Some (record { event = f; rule = None })) by.event,
+        omega arith,
+        ap (λ (z : Held). z.session) by.now,
+        ap (λ b. holds b by.was.session.0 d) (before_now h (record { event = e; rule = None })) ∙ holds_own h d by.was by.held ∙ ap Some back,
+        subst (λ (z : Held). Lead (record { event = e; rule = None } ∷ h) d on.given on.first on.place z (length h)) back on.lead,
+      );
+    }
+
+granted_more : (c : Config) (h : History) (d : ℕ) → ((x : Held) → held h d ≡ Some x → IsGranted c h d x (length h)) → (e : Event) (r : Option Rule) (x : Held) → Legal c h → r ≡ verdict c h e → held (record { event = e; rule = r } ∷ h) d ≡ Some x → IsGranted c (record { event = e; rule = r } ∷ h) d x (length (record { event = e; rule = r } ∷ h))
 unfolding held
-granted_more c h d known e (Some rule) x legal accepted k = granted_on c h (record { event = e; rule = Some rule }) d x (known x k)
+granted_more c h d known e (Some rule) x legal accepted k = granted_later c h (record { event = e; rule = Some rule }) d x (known x k)
 granted_more c h d known e None x legal accepted k = at (opening e) refl k where
-  old : unless (λ y. ends_held d y e) (held h d) ≡ Some x → IsGranted c (record { event = e; rule = None } ∷ h) d x
-  old j = granted_on c h (record { event = e; rule = None }) d x (known x (kept_is (λ y. ends_held d y e) (held h d) x j))
+  old : unless (λ y. ends_held d y e) (held h d) ≡ Some x → IsGranted c (record { event = e; rule = None } ∷ h) d x (length (record { event = e; rule = None } ∷ h))
+  old j = granted_later c h (record { event = e; rule = None }) d x (known x (kept_is (λ y. ends_held d y e) (held h d) x j))
 
-  given : Option Opening → Option Held
-  given None = None
-  given (Some asked) = cond (eqb (opens h) d) (option_map (held_as asked) (opened h asked)) None
+  begun : Option Opening → Option Held
+  begun None = hands_over d e (held h d)
+  begun (Some asked) = cond (eqb (opens h) d) (option_map (held_as asked) (opened h asked)) None
 
-  made : (w : Option Held) → w ≡ Some x → (asked : Opening) → opening e ≡ Some asked → opens h ≡ d → option_map (held_as asked) (opened h asked) ≡ w → IsGranted c (record { event = e; rule = None } ∷ h) d x
+  made : (w : Option Held) → w ≡ Some x → (asked : Opening) → opening e ≡ Some asked → opens h ≡ d → option_map (held_as asked) (opened h asked) ≡ w → IsGranted c (record { event = e; rule = None } ∷ h) d x (length (record { event = e; rule = None } ∷ h))
   made w j asked is number given = given_now c h e d x asked legal accepted is number (given ∙ j)
 
-  at : (w : Option Opening) → opening e ≡ w → option_or (given w) (unless (λ y. ends_held d y e) (held h d)) ≡ Some x → IsGranted c (record { event = e; rule = None } ∷ h) d x
-  at None q j = old j
+  handed : (w : Option Held) → hands_over d e (held h d) ≡ w → option_or w (unless (λ y. ends_held d y e) (held h d)) ≡ Some x → IsGranted c (record { event = e; rule = None } ∷ h) d x (length (record { event = e; rule = None } ∷ h))
+  handed None p i = old i
+  handed (Some y) p i =
+      let by = handed_is d e (held h d) x (p ∙ i) in
+      given_over c h e d x by (known by.was by.held)
+
+  at : (w : Option Opening) → opening e ≡ w → option_or (begun w) (unless (λ y. ends_held d y e) (held h d)) ≡ Some x → IsGranted c (record { event = e; rule = None } ∷ h) d x (length (record { event = e; rule = None } ∷ h))
+  at None q j = handed (hands_over d e (held h d)) refl j
   at (Some asked) q j = mine (eqb (opens h) d) refl j where
-    found : opens h ≡ d → (w : Option Held) → option_map (held_as asked) (opened h asked) ≡ w → option_or w (unless (λ y. ends_held d y e) (held h d)) ≡ Some x → IsGranted c (record { event = e; rule = None } ∷ h) d x
+    found : opens h ≡ d → (w : Option Held) → option_map (held_as asked) (opened h asked) ≡ w → option_or w (unless (λ y. ends_held d y e) (held h d)) ≡ Some x → IsGranted c (record { event = e; rule = None } ∷ h) d x (length (record { event = e; rule = None } ∷ h))
     found number None p i = old i
     found number (Some y) p i = made (Some y) i asked q number p
 
-    mine : (b : Bool) → eqb (opens h) d ≡ b → option_or (cond b (option_map (held_as asked) (opened h asked)) None) (unless (λ y. ends_held d y e) (held h d)) ≡ Some x → IsGranted c (record { event = e; rule = None } ∷ h) d x
+    mine : (b : Bool) → eqb (opens h) d ≡ b → option_or (cond b (option_map (held_as asked) (opened h asked)) None) (unless (λ y. ends_held d y e) (held h d)) ≡ Some x → IsGranted c (record { event = e; rule = None } ∷ h) d x (length (record { event = e; rule = None } ∷ h))
     mine true p i = found (eqb-true _ _ p) (option_map (held_as asked) (opened h asked)) refl i
     mine false p i = old i
 
--- in a legal history what is held was granted
-pub held_granted : (c : Config) (h : History) (d : ℕ) (x : Held) → Legal c h → held h d ≡ Some x → IsGranted c h d x
+-- in a legal history what is held was granted, before the next record
+pub held_granted : (c : Config) (h : History) (d : ℕ) (x : Held) → Legal c h → held h d ≡ Some x → IsGranted c h d x (length h)
 unfolding held
 held_granted c [] d x legal k = absurd cc
 held_granted c (r ∷ h) d x legal k = granted_more c h d (λ y j. held_granted c h d y legal.1 j) r.event r.rule x legal.1 legal.0 k

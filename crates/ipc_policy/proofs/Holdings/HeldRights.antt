@@ -1,13 +1,14 @@
 -- What a session holds outlives everything but its end, and decides alone what is refused to a call by it.
-use Rattle.std.proofs.Common.{◌≡◌, ℕ, Bool, true, false, not, ◌&&◌, eqb, cond, nat_le, nat_lt, List, [], ◌∷◌, length, Option, Some, None, is_some, is_none, refl, sym, ap, subst, ◌∙◌, arith}
+use Rattle.std.proofs.Common.{◌≡◌, ℕ, Bool, true, false, not, ◌&&◌, ◌||◌, eqb, cond, nat_le, nat_lt, List, [], ◌∷◌, length, Option, Some, None, is_some, is_none, refl, sym, ap, subst, ◌∙◌, arith}
 use Rattle.std.specs.Prelude.{◌==◌, find, option_and_then}
 use Rattle.std.specs.Option.{option_map}
-use Rattle.std.proofs.lemmas.Bool.{ne_eqb}
+use Rattle.std.proofs.lemmas.Bool.{eq-eqb, ne_eqb}
 use Rattle.ipc_terms.specs.Rules.{every_rule}
 use Rattle.ipc_terms.specs.Names.{same_family}
+use Rattle.ipc_terms.specs.Timed.{plain_call, deadline_of}
 use Rattle.ipc_terms.specs.Objects.{family_of, as_queue, as_semaphore}
 use Rattle.ipc_terms.specs.declared.rule.Rule.{Rule}
-use Rattle.ipc_terms.specs.declared.rule.Rule.TheVariants.{NoSession, InCall, NotInCall, BadDescr, NotForWrite, NotForRead, PrioRange, MessageLong, BufferShort, NotifyTaken, WouldBlock, Overflow}
+use Rattle.ipc_terms.specs.declared.rule.Rule.TheVariants.{NoSession, InCall, NotInCall, BadDescr, NotForWrite, NotForRead, DescrLimit, PrioRange, MessageLong, BufferShort, NotifyTaken, WouldBlock, Overflow, TimedOut, NoTaker}
 use Rattle.ipc_terms.specs.declared.ids.Sid.{Sid}
 use Rattle.ipc_terms.specs.declared.ids.Desc.{Desc}
 use Rattle.ipc_terms.specs.declared.ids.Family.{Family}
@@ -18,26 +19,29 @@ use Rattle.ipc_terms.specs.declared.object.Kind.TheVariants.{Queue, Semaphore}
 use Rattle.ipc_terms.specs.declared.object.TheConstants.{SEM_VALUE_MAX}
 use Rattle.ipc_terms.specs.declared.call.Attributes.{Attributes}
 use Rattle.ipc_terms.specs.declared.call.Call.{Call}
-use Rattle.ipc_terms.specs.declared.call.Call.TheVariants.{MqOpen, MqClose, MqSend, MqReceive, MqGetattr, MqSetattr, MqNotify, SemOpen, SemClose, SemPost, SemWait, SemTryWait, SemGetvalue}
+use Rattle.ipc_terms.specs.declared.call.Call.TheVariants.{MqOpen, MqClose, MqSend, MqReceive, MqGetattr, MqSetattr, MqNotify, MqGive, SemOpen, SemClose, SemPost, SemWait, SemTryWait, SemGetvalue, MqTimedSend, MqTimedReceive, SemTimedWait}
 use Rattle.ipc_terms.specs.declared.record.Event.{Event}
-use Rattle.ipc_terms.specs.declared.record.Event.TheVariants.{Hello, Do, Hangup}
+use Rattle.ipc_terms.specs.declared.record.Event.TheVariants.{Hello, Do, Hangup, Tick}
 use Rattle.ipc_policy.specs.declared.config.Config.{Config}
+use Rattle.ipc_policy.specs.declared.config.TheConstants.{DESCRIPTIONS_MAX}
 use Rattle.ipc_policy.specs.declared.config.Held.{Held}
 use Rattle.ipc_policy.specs.declared.asking.Described.{Described}
 use Rattle.ipc_policy.specs.History.{History, after_accepted, is_some_and}
 use Rattle.ipc_policy.specs.Names.{creations, bound}
 use Rattle.ipc_policy.specs.Objects.{object}
 use Rattle.ipc_policy.specs.Descriptions.{opens, held, if_of, holds, is_nonblock, ends_held}
-use Rattle.ipc_policy.specs.Queues.{Send, has_none, attributes, contents, is_full, is_empty}
+use Rattle.ipc_policy.specs.Queues.{Send, has_none, attributes}
+use Rattle.ipc_policy.specs.Timed.{now, is_past}
 use Rattle.ipc_policy.specs.Registrations.{registered}
-use Rattle.ipc_policy.specs.Semaphores.{value, is_zero, is_greatest}
+use Rattle.ipc_policy.specs.Bodies.{contents, is_full, is_empty, value, is_zero, is_greatest}
 use Rattle.ipc_policy.specs.Parking.{parked}
 use Rattle.ipc_policy.specs.Grow.{held_after}
-use Rattle.ipc_policy.specs.Rules.{is_of_family, not_held, attributes_held, described, reads_only, writes_only, is_interrupt, forbids, no_session, in_call, not_in_call, name_form, name_long, not_admin, no_user, bad_descr, not_for_write, not_for_read, dir_search, dir_read, absent, present, mode_denied, dir_write, sticky, not_owner, chown_denied, attr_range, value_range, queue_count, byte_limit, descr_limit, prio_range, message_long, buffer_short, notify_taken, would_block, overflow, bad_key}
+use Rattle.ipc_policy.specs.Rules.{is_of_family, not_held, attributes_held, described, reads_only, writes_only, is_interrupt, forbids, no_session, in_call, not_in_call, name_form, name_long, not_admin, no_user, bad_descr, not_for_write, not_for_read, dir_search, dir_read, absent, present, mode_denied, dir_write, sticky, not_owner, chown_denied, attr_range, value_range, queue_count, byte_limit, descr_limit, prio_range, message_long, buffer_short, notify_taken, would_block, overflow, bad_key, would_park, timed_out, plainly, no_taker}
 use Rattle.ipc_policy.specs.Verdict.{verdict}
-use Rattle.ipc_policy.specs.Rights.{SameObject, SameByDescription}
-use Rattle.ipc_policy.proofs.Holdings.Holding.{held_below, held_grows}
+use Rattle.ipc_policy.specs.Rights.{SameObject, SameByDescription, taker_of, SameTaker}
+use Rattle.ipc_policy.proofs.Holdings.Holding.{held_below, held_grows, given_held}
 use Rattle.ipc_policy.proofs.Directories.Creating.{holds_is_held}
+use Rattle.ipc_policy.proofs.Histories.Unforbidden.{described_plain}
 
 -- what is held stays, unless it ends
 kept_unless : (b : Bool) (x : Held) → b ≡ false → cond b None (Some x) ≡ Some x
@@ -51,8 +55,10 @@ stays_at : (h : History) (e : Event) (d : ℕ) (x : Held) → eqb (opens h) d �
 stays_at h (Hello found) d x below off = refl
 stays_at h (Do sid (MqOpen asked)) d x below off = rw below refl
 stays_at h (Do sid (SemOpen asked)) d x below off = rw below refl
+stays_at h (Do sid (MqGive desc taker)) d x below off = rw off refl
 stays_at h (Do sid call) d x below off = kept_unless (ends_held d x (Do sid call)) x off
 stays_at h (Hangup sid) d x below off = kept_unless (ends_held d x (Hangup sid)) x off
+stays_at h (Tick moment) d x below off = kept_unless (ends_held d x (Tick moment)) x off
 
 held_stays : (h : History) (e : Event) (d : ℕ) (x : Held) → held h d ≡ Some x → ends_held d x e ≡ false → held (after_accepted h e) d ≡ Some x
 held_stays h e d x is off = held_grows h e d ∙ ap (held_after d e (opens h) (bound h) (creations h)) is ∙ stays_at h e d x (earlier h d x is) off
@@ -62,6 +68,14 @@ unfolding holds
 held_outlives h e s d x is off =
     let there = holds_is_held h s d x is in
     ap (option_and_then (if_of s)) (held_stays h e d x there off ∙ sym there) ∙ is
+
+-- and where it is given, the taker holds it
+mine_now : (y : Held) → if_of y.session.0 y ≡ Some y
+mine_now y = rw (eq-eqb y.session.0 y.session.0 refl) refl
+
+pub held_handed_over : (h : History) (sid taker : Sid) (desc : Desc) (x : Held) → holds h sid.0 desc.0 ≡ Some x → holds (after_accepted h (Do sid (MqGive desc taker))) taker.0 desc.0 ≡ Some (record x { session = taker })
+unfolding holds
+held_handed_over h sid taker desc x is = ap (option_and_then (if_of taker.0)) (given_held h sid taker desc x is) ∙ mine_now (record x { session = taker })
 
 -- what is found by description is found alike in both histories
 by_held : {A : Type 0} (c : Config) (h k : History) (s d : ℕ) → SameByDescription c h k s d → (f g : Option Held → A) → f None ≡ g None → ((x : Held) → SameObject c h k x.object → f (Some x) ≡ g (Some x)) → f (holds h s d) ≡ g (holds k s d)
@@ -111,12 +125,12 @@ asked_semaphore b (Some x) = at x.kind where
   at (Queue given) = refl
   at (Semaphore first_value) = refl
 
-value_alike : (c : Config) (h k : History) (o n : ℕ) → SameObject c h k o → is_some_and (λ first_value. value h o == n) (as_semaphore (object c h o)) ≡ is_some_and (λ first_value. value k o == n) (as_semaphore (object c k o))
+value_alike : (c : Config) (h k : History) (o n : ℕ) → SameObject c h k o → is_some_and (λ first_value. value c h o == n) (as_semaphore (object c h o)) ≡ is_some_and (λ first_value. value c k o == n) (as_semaphore (object c k o))
 value_alike c h k o n at =
     ap (λ v. is_some_and (λ first_value. v == n) (as_semaphore (object c h o))) at.value
-    ∙ asked_semaphore (value k o == n) (object c h o)
-    ∙ ap (is_some_and (λ g. same_family g Sem && (value k o == n))) at.family
-    ∙ sym (asked_semaphore (value k o == n) (object c k o))
+    ∙ asked_semaphore (value c k o == n) (object c h o)
+    ∙ ap (is_some_and (λ g. same_family g Sem && (value c k o == n))) at.family
+    ∙ sym (asked_semaphore (value c k o == n) (object c k o))
 
 -- a call by this description
 abbrev naming_it : Family → Desc → Described
@@ -131,35 +145,43 @@ none_of : {A : Type 0} (w : Option A) → is_none w ≡ not (is_some w)
 none_of None = refl
 none_of (Some x) = refl
 
--- the rules that ask about a session, a description or what is sent by it; a call by description is asked no other
+-- the rules that ask about a session, a description, what is sent by it or to whom it is given; a call by description is asked
+-- no other
 abbrev by_description : Rule → Config → History → Event → Bool
 by_description NoSession = no_session
 by_description InCall = in_call
 by_description NotInCall = not_in_call
-by_description BadDescr = bad_descr
-by_description NotForWrite = not_for_write
-by_description NotForRead = not_for_read
-by_description PrioRange = prio_range
-by_description MessageLong = message_long
-by_description BufferShort = buffer_short
+by_description BadDescr = plainly bad_descr
+by_description NotForWrite = plainly not_for_write
+by_description NotForRead = plainly not_for_read
+by_description DescrLimit = descr_limit
+by_description PrioRange = plainly prio_range
+by_description MessageLong = plainly message_long
+by_description BufferShort = plainly buffer_short
 by_description NotifyTaken = notify_taken
-by_description WouldBlock = would_block
+by_description WouldBlock = plainly would_block
 by_description Overflow = overflow
+by_description TimedOut = timed_out
+by_description NoTaker = no_taker
 by_description _ = λ c h e. false
 
 asked_no_other : (c : Config) (h : History) (sid : Sid) (call : Call) (named : Described) → described call ≡ Some named → verdict c h (Do sid call) ≡ find (λ rule. by_description rule c h (Do sid call)) every_rule
-unfolding verdict forbids name_form name_long not_admin no_user dir_search dir_read absent present mode_denied dir_write sticky not_owner chown_denied attr_range value_range queue_count byte_limit descr_limit bad_key
+unfolding verdict forbids name_form name_long not_admin no_user dir_search dir_read absent present mode_denied dir_write sticky not_owner chown_denied attr_range value_range queue_count byte_limit bad_key
 asked_no_other c h sid (MqClose desc) named is = refl
 asked_no_other c h sid (MqSend desc priority bytes) named is = refl
 asked_no_other c h sid (MqReceive desc length') named is = refl
 asked_no_other c h sid (MqGetattr desc) named is = refl
 asked_no_other c h sid (MqSetattr desc nonblock) named is = refl
 asked_no_other c h sid (MqNotify desc on) named is = refl
+asked_no_other c h sid (MqGive desc taker) named is = refl
 asked_no_other c h sid (SemClose desc) named is = refl
 asked_no_other c h sid (SemPost desc) named is = refl
 asked_no_other c h sid (SemWait desc) named is = refl
 asked_no_other c h sid (SemTryWait desc) named is = refl
 asked_no_other c h sid (SemGetvalue desc) named is = refl
+asked_no_other c h sid (MqTimedSend desc priority until bytes) named is = refl
+asked_no_other c h sid (MqTimedReceive desc size until) named is = refl
+asked_no_other c h sid (SemTimedWait desc until) named is = refl
 asked_no_other c h sid call named is = absurd cc
 
 -- each of them forbids alike
@@ -206,11 +228,11 @@ unfolding would_block
 block_alike c h k sid (MqSend desc priority bytes) named is same =
     let mine = at_desc c h k sid.0 Mq desc named is same in
     ap (λ b. b && is_some_and (λ (x : Held). is_full c h x.object) (holds h sid.0 desc.0)) mine.nonblock
-    ∙ ap (λ b. is_nonblock k sid.0 desc.0 && b) (by_held c h k sid.0 desc.0 mine (is_some_and (λ x. is_full c h x.object)) (is_some_and (λ x. is_full c k x.object)) refl (λ x at. full_alike c h k x.object at))
+    ∙ ap (λ b. is_nonblock k desc.0 && b) (by_held c h k sid.0 desc.0 mine (is_some_and (λ x. is_full c h x.object)) (is_some_and (λ x. is_full c k x.object)) refl (λ x at. full_alike c h k x.object at))
 block_alike c h k sid (MqReceive desc length') named is same =
     let mine = at_desc c h k sid.0 Mq desc named is same in
     ap (λ b. b && is_some_and (λ (x : Held). is_empty c h x.object) (holds h sid.0 desc.0)) mine.nonblock
-    ∙ ap (λ b. is_nonblock k sid.0 desc.0 && b) (by_held c h k sid.0 desc.0 mine (is_some_and (λ x. is_empty c h x.object)) (is_some_and (λ x. is_empty c k x.object)) refl (λ x at. empty_alike c h k x.object at))
+    ∙ ap (λ b. is_nonblock k desc.0 && b) (by_held c h k sid.0 desc.0 mine (is_some_and (λ x. is_empty c h x.object)) (is_some_and (λ x. is_empty c k x.object)) refl (λ x at. empty_alike c h k x.object at))
 block_alike c h k sid (SemTryWait desc) named is same =
     by_held c h k sid.0 desc.0 (at_desc c h k sid.0 Sem desc named is same) (is_some_and (λ x. is_zero c h x.object)) (is_some_and (λ x. is_zero c k x.object)) refl (λ x at. value_alike c h k x.object 0 at)
 block_alike c h k sid call named is same = refl
@@ -221,29 +243,57 @@ overflow_alike c h k sid (SemPost desc) named is same =
     by_held c h k sid.0 desc.0 (at_desc c h k sid.0 Sem desc named is same) (is_some_and (λ x. is_greatest c h x.object)) (is_some_and (λ x. is_greatest c k x.object)) refl (λ x at. value_alike c h k x.object SEM_VALUE_MAX at)
 overflow_alike c h k sid call named is same = refl
 
-forbid_alike : (c : Config) (h k : History) (sid : Sid) (call : Call) (named : Described) → described call ≡ Some named → SameByDescription c h k sid.0 named.desc.0 → (rule : Rule) → by_description rule c h (Do sid call) ≡ by_description rule c k (Do sid call)
+park_alike : (c : Config) (h k : History) (sid : Sid) (call : Call) (named : Described) → described call ≡ Some named → SameByDescription c h k sid.0 named.desc.0 → would_park c h (Do sid call) ≡ would_park c k (Do sid call)
+park_alike c h k sid (MqSend desc priority bytes) named is same = by_held c h k sid.0 desc.0 (at_desc c h k sid.0 Mq desc named is same) (is_some_and (λ x. is_full c h x.object)) (is_some_and (λ x. is_full c k x.object)) refl (λ x at. full_alike c h k x.object at)
+park_alike c h k sid (MqReceive desc length') named is same = by_held c h k sid.0 desc.0 (at_desc c h k sid.0 Mq desc named is same) (is_some_and (λ x. is_empty c h x.object)) (is_some_and (λ x. is_empty c k x.object)) refl (λ x at. empty_alike c h k x.object at)
+park_alike c h k sid (SemWait desc) named is same = by_held c h k sid.0 desc.0 (at_desc c h k sid.0 Sem desc named is same) (is_some_and (λ x. is_zero c h x.object)) (is_some_and (λ x. is_zero c k x.object)) refl (λ x at. value_alike c h k x.object 0 at)
+park_alike c h k sid call named is same = refl
+
+timed_alike : (c : Config) (h k : History) (sid : Sid) (call : Call) (named : Described) → described call ≡ Some named → SameByDescription c h k sid.0 named.desc.0 → timed_out c h (Do sid call) ≡ timed_out c k (Do sid call)
+unfolding timed_out
+timed_alike c h k sid call named is same =
+    ap (λ t. is_past t (deadline_of call) && would_park c h (Do sid (plain_call call))) same.time
+    ∙ ap (λ b. is_past (now k) (deadline_of call) && b) (park_alike c h k sid (plain_call call) named (described_plain call ∙ is) same)
+
+-- the taker decides whether a give is refused for it
+descr_alike : (c : Config) (h k : History) (sid : Sid) (call : Call) (named : Described) → described call ≡ Some named → SameTaker h k (taker_of call) → descr_limit c h (Do sid call) ≡ descr_limit c k (Do sid call)
+unfolding descr_limit
+descr_alike c h k sid (MqGive desc taker) named is takers = ap (nat_le DESCRIPTIONS_MAX) takers.1
+descr_alike c h k sid (MqOpen asked) named is takers = absurd cc
+descr_alike c h k sid (SemOpen asked) named is takers = absurd cc
+descr_alike c h k sid call named is takers = refl
+
+taker_alike : (c : Config) (h k : History) (sid : Sid) (call : Call) → SameTaker h k (taker_of call) → no_taker c h (Do sid call) ≡ no_taker c k (Do sid call)
+unfolding no_taker
+taker_alike c h k sid (MqGive desc taker) takers = ap (λ b. not b || eqb taker.0 sid.0) takers.0
+taker_alike c h k sid call takers = refl
+
+forbid_alike : (c : Config) (h k : History) (sid : Sid) (call : Call) (named : Described) → described call ≡ Some named → SameByDescription c h k sid.0 named.desc.0 → SameTaker h k (taker_of call) → (rule : Rule) → by_description rule c h (Do sid call) ≡ by_description rule c k (Do sid call)
 unfolding no_session in_call not_in_call
-forbid_alike c h k sid call named is same NoSession = ap not same.live
-forbid_alike c h k sid call named is same InCall = ap (λ b. not (is_interrupt call) && b) same.parked
-forbid_alike c h k sid call named is same NotInCall = ap (λ b. is_interrupt call && b) (none_of (parked c h sid.0) ∙ ap not same.parked ∙ sym (none_of (parked c k sid.0)))
-forbid_alike c h k sid call named is same BadDescr = bad_descr_alike c h k sid call named is same
-forbid_alike c h k sid call named is same NotForWrite = not_for_write_alike c h k sid call named is same
-forbid_alike c h k sid call named is same NotForRead = not_for_read_alike c h k sid call named is same
-forbid_alike c h k sid call named is same PrioRange = prio_alike c h k sid call
-forbid_alike c h k sid call named is same MessageLong = message_alike c h k sid call named is same
-forbid_alike c h k sid call named is same BufferShort = buffer_alike c h k sid call named is same
-forbid_alike c h k sid call named is same NotifyTaken = notify_alike c h k sid call named is same
-forbid_alike c h k sid call named is same WouldBlock = block_alike c h k sid call named is same
-forbid_alike c h k sid call named is same Overflow = overflow_alike c h k sid call named is same
-forbid_alike c h k sid call named is same rule = refl
+forbid_alike c h k sid call named is same takers NoSession = ap not same.live
+forbid_alike c h k sid call named is same takers InCall = ap (λ b. not (is_interrupt call) && b) same.parked
+forbid_alike c h k sid call named is same takers NotInCall = ap (λ b. is_interrupt call && b) (none_of (parked c h sid.0) ∙ ap not same.parked ∙ sym (none_of (parked c k sid.0)))
+forbid_alike c h k sid call named is same takers BadDescr = bad_descr_alike c h k sid (plain_call call) named (described_plain call ∙ is) same
+forbid_alike c h k sid call named is same takers NotForWrite = not_for_write_alike c h k sid (plain_call call) named (described_plain call ∙ is) same
+forbid_alike c h k sid call named is same takers NotForRead = not_for_read_alike c h k sid (plain_call call) named (described_plain call ∙ is) same
+forbid_alike c h k sid call named is same takers DescrLimit = descr_alike c h k sid call named is takers
+forbid_alike c h k sid call named is same takers PrioRange = prio_alike c h k sid (plain_call call)
+forbid_alike c h k sid call named is same takers MessageLong = message_alike c h k sid (plain_call call) named (described_plain call ∙ is) same
+forbid_alike c h k sid call named is same takers BufferShort = buffer_alike c h k sid (plain_call call) named (described_plain call ∙ is) same
+forbid_alike c h k sid call named is same takers NotifyTaken = notify_alike c h k sid call named is same
+forbid_alike c h k sid call named is same takers WouldBlock = block_alike c h k sid (plain_call call) named (described_plain call ∙ is) same
+forbid_alike c h k sid call named is same takers Overflow = overflow_alike c h k sid call named is same
+forbid_alike c h k sid call named is same takers TimedOut = timed_alike c h k sid call named is same
+forbid_alike c h k sid call named is same takers NoTaker = taker_alike c h k sid call takers
+forbid_alike c h k sid call named is same takers rule = refl
 
 -- so the first that forbids is the same
 find_alike : (f g : Rule → Bool) (rules : List Rule) → ((rule : Rule) → f rule ≡ g rule) → find f rules ≡ find g rules
 find_alike f g [] same = refl
 find_alike f g (rule ∷ rules) same = ap (λ b. cond b (Some rule) (find f rules)) (same rule) ∙ ap (cond (g rule) (Some rule)) (find_alike f g rules same)
 
-pub rights_by_description : (c : Config) (h k : History) (sid : Sid) (call : Call) (named : Described) → described call ≡ Some named → SameByDescription c h k sid.0 named.desc.0 → verdict c h (Do sid call) ≡ verdict c k (Do sid call)
-rights_by_description c h k sid call named is same =
+pub rights_by_description : (c : Config) (h k : History) (sid : Sid) (call : Call) (named : Described) → described call ≡ Some named → SameByDescription c h k sid.0 named.desc.0 → SameTaker h k (taker_of call) → verdict c h (Do sid call) ≡ verdict c k (Do sid call)
+rights_by_description c h k sid call named is same takers =
     asked_no_other c h sid call named is
-    ∙ find_alike (λ rule. by_description rule c h (Do sid call)) (λ rule. by_description rule c k (Do sid call)) every_rule (forbid_alike c h k sid call named is same)
+    ∙ find_alike (λ rule. by_description rule c h (Do sid call)) (λ rule. by_description rule c k (Do sid call)) every_rule (forbid_alike c h k sid call named is same takers)
     ∙ sym (asked_no_other c k sid call named is)

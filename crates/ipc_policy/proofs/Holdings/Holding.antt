@@ -1,20 +1,20 @@
--- What is held, how many, and what an open and a close make of it.
-use Rattle.std.proofs.Common.{◌≡◌, ℕ, zero, suc, ◌+◌, ◌-◌, ◌<◌, ◌≤◌, Bool, true, false, ◌&&◌, eqb, [], ◌∷◌, cond, Option, Some, None, inl, inr, ◌⊎◌, refl, sym, ap, ◌∙◌, arith, add-one}
+-- What is held, how many, and what an open, a close and a give make of it.
+use Rattle.std.proofs.Common.{◌≡◌, ℕ, zero, suc, ◌+◌, ◌-◌, ◌<◌, ◌≤◌, Bool, true, false, ◌&&◌, eqb, [], ◌∷◌, cond, Option, Some, None, inl, inr, ◌⊎◌, refl, sym, ap, subst, ◌∙◌, arith, add-one}
 use Rattle.std.specs.Prelude.{is_some, option_and_then}
 use Rattle.std.specs.Option.{option_or, option_map}
 use Rattle.std.proofs.lemmas.Bool.{cases_eq, eqb-true, eq-eqb, ne_eqb, and_parts, and_from, and_left, and_right}
 use Rattle.ipc_terms.specs.declared.rule.Rule.{Rule}
 use Rattle.ipc_terms.specs.declared.ids.Sid.{Sid}
 use Rattle.ipc_terms.specs.declared.ids.Desc.{Desc}
-use Rattle.ipc_terms.specs.declared.call.Call.TheVariants.{Umask, MqOpen, MqClose, MqSend, MqReceive, MqGetattr, MqSetattr, MqNotify, MqUnlink, SemOpen, SemClose, SemUnlink, SemPost, SemWait, SemTryWait, SemGetvalue, ListNames, StatName, Chmod, Chown, SetLimit, Interrupt, Audit}
+use Rattle.ipc_terms.specs.declared.call.Call.TheVariants.{Umask, MqOpen, MqClose, MqSend, MqReceive, MqGetattr, MqSetattr, MqNotify, MqGive, MqUnlink, SemOpen, SemClose, SemUnlink, SemPost, SemWait, SemTryWait, SemGetvalue, ListNames, StatName, Chmod, Chown, SetLimit, Interrupt, Audit, MqTimedSend, MqTimedReceive, SemTimedWait}
 use Rattle.ipc_terms.specs.declared.record.Event.{Event}
 use Rattle.ipc_terms.specs.declared.record.Record.{Record}
-use Rattle.ipc_terms.specs.declared.record.Event.TheVariants.{Hello, Do, Hangup}
+use Rattle.ipc_terms.specs.declared.record.Event.TheVariants.{Hello, Do, Hangup, Tick}
 use Rattle.ipc_policy.specs.declared.config.Held.{Held}
 use Rattle.ipc_policy.specs.History.{History, unless, unended_from, how_many_below}
 use Rattle.ipc_policy.specs.Names.{Opening, queue_opening, semaphore_opening, opening, bound, creations}
-use Rattle.ipc_policy.specs.Descriptions.{opens, opened, held_as, gives, ends_held, held, if_of, holds, held_count}
-use Rattle.ipc_policy.specs.Grow.{held_after, held_count_after}
+use Rattle.ipc_policy.specs.Descriptions.{opens, opened, held_as, hands_over, gives, ends_held, held, if_of, holds, held_count}
+use Rattle.ipc_policy.specs.Grow.{held_after, count_moved, held_count_after}
 
 pub kept_some : {A : Type 0} (p : A → Bool) (o : Option A) → is_some (unless p o) ≡ true → is_some o ≡ true
 kept_some p None e = e
@@ -32,15 +32,24 @@ kept_is p (Some y) x e = at (p y) e where
   at true k = absurd cc
   at false k = k
 
--- what an open with this number gives
-abbrev given : History → ℕ → Option Opening → Option Held
-given h d None = None
-given h d (Some asked) = cond (eqb (opens h) d) (option_map (held_as asked) (opened h asked)) None
+-- a give hands over what there was
+pub nothing_handed : (d : ℕ) (e : Event) → hands_over d e None ≡ None
+nothing_handed d (Do sid (MqGive desc taker)) = refl
+nothing_handed d e = refl
+
+handed_some : (d : ℕ) (e : Event) (q : Held → Bool) (w : Option Held) → is_some (option_or (hands_over d e w) (unless q w)) ≡ true → is_some w ≡ true
+handed_some d e q None k = rw (nothing_handed d e) at k
+handed_some d e q (Some x) k = refl
+
+-- what an open with this number gives, or else a give
+abbrev given : History → ℕ → Event → Option Opening → Option Held
+given h d e None = hands_over d e (held h d)
+given h d e (Some asked) = cond (eqb (opens h) d) (option_map (held_as asked) (opened h asked)) None
 
 -- a description is numbered below the opens
-held_below_at : (h : History) (d : ℕ) → (is_some (held h d) ≡ true → d < opens h) → (q : Held → Bool) (o : Option Opening) → is_some (option_or (given h d o) (unless q (held h d))) ≡ true → d < cond (is_some o) (opens h + 1) (opens h)
-held_below_at h d known q None k = known (kept_some q (held h d) k)
-held_below_at h d known q (Some asked) k = at (eqb (opens h) d) refl k where
+held_below_at : (h : History) (d : ℕ) → (is_some (held h d) ≡ true → d < opens h) → (e : Event) (q : Held → Bool) (o : Option Opening) → is_some (option_or (given h d e o) (unless q (held h d))) ≡ true → d < cond (is_some o) (opens h + 1) (opens h)
+held_below_at h d known e q None k = known (handed_some d e q (held h d) k)
+held_below_at h d known e q (Some asked) k = at (eqb (opens h) d) refl k where
   at : (b : Bool) → eqb (opens h) d ≡ b → is_some (option_or (cond b (option_map (held_as asked) (opened h asked)) None) (unless q (held h d))) ≡ true → d < opens h + 1
   at true same j = let same' : opens h ≡ d = eqb-true _ _ same in omega arith
   at false _ j = let below = known (kept_some q (held h d) j) in omega arith
@@ -48,7 +57,7 @@ held_below_at h d known q (Some asked) k = at (eqb (opens h) d) refl k where
 held_below_more : (h : History) (d : ℕ) → (is_some (held h d) ≡ true → d < opens h) → (e : Event) (r : Option Rule) → is_some (held (record { event = e; rule = r } ∷ h) d) ≡ true → d < opens (record { event = e; rule = r } ∷ h)
 unfolding held opens
 held_below_more h d known e (Some rule) k = known k
-held_below_more h d known e None k = held_below_at h d known (λ x. ends_held d x e) (opening e) k
+held_below_more h d known e None k = held_below_at h d known e (λ x. ends_held d x e) (opening e) k
 
 pub held_below : (h : History) (d : ℕ) → is_some (held h d) ≡ true → d < opens h
 unfolding held opens
@@ -80,6 +89,7 @@ held_grows h (Do sid (MqOpen asked)) d = ap (option_or _) (kept_all (unended_fro
 held_grows h (Do sid (SemOpen asked)) d = ap (option_or _) (kept_all (unended_from (gives d) (λ x e before. ends_held d x e) h))
 held_grows h (Do sid call) d = refl
 held_grows h (Hangup sid) d = refl
+held_grows h (Tick moment) d = refl
 
 -- tests that agree below a limit have as many numbers below it
 pub how_many_below_same : (f g : ℕ → Bool) (n : ℕ) → ((d : ℕ) → d < n → f d ≡ g d) → how_many_below f n ≡ how_many_below g n
@@ -226,6 +236,119 @@ count_left h sid s = at (eqb sid.0 s) refl where
 count_quiet : (h : History) (e : Event) (s : ℕ) → opens (record { event = e; rule = None } ∷ h) ≡ opens h → ((d : ℕ) → held (record { event = e; rule = None } ∷ h) d ≡ unless (λ x. false) (held h d)) → held_count (record { event = e; rule = None } ∷ h) s ≡ held_count h s
 count_quiet h e s n same = count_kept h _ s n (λ d. same d ∙ kept_all (held h d))
 
+-- a give moves what its session holds to the taker, and leaves all else
+abbrev pub moved : Sid → Desc → Sid → ℕ → Held → Held
+moved sid desc taker d x = cond (eqb sid.0 x.session.0 && eqb desc.0 d) (record x { session = taker }) x
+
+handed_at : (b : Bool) (x y : Held) → option_or (cond b (Some y) None) (cond b None (Some x)) ≡ Some (cond b y x)
+handed_at true x y = refl
+handed_at false x y = refl
+
+pub held_given : (h : History) (sid taker : Sid) (desc : Desc) (d : ℕ) → held (record { event = Do sid (MqGive desc taker); rule = None } ∷ h) d ≡ option_map (moved sid desc taker d) (held h d)
+held_given h sid taker desc d = held_grows h (Do sid (MqGive desc taker)) d ∙ at (held h d) where
+  at : (w : Option Held) → option_or (hands_over d (Do sid (MqGive desc taker)) w) (unless (λ x. ends_held d x (Do sid (MqGive desc taker))) w) ≡ option_map (moved sid desc taker d) w
+  at None = refl
+  at (Some x) = handed_at (eqb sid.0 x.session.0 && eqb desc.0 d) x (record x { session = taker })
+
+-- what was held and is its session's
+mine_only : (s : ℕ) (w : Option Held) (y : Held) → option_and_then (if_of s) w ≡ Some y → (w ≡ Some y) × (y.session.0 ≡ s)
+mine_only s None y k = absurd cc
+mine_only s (Some x) y k = at (eqb x.session.0 s) refl k where
+  at : (b : Bool) → eqb x.session.0 s ≡ b → cond b (Some x) None ≡ Some y → (Some x ≡ Some y) × (y.session.0 ≡ s)
+  at true q j = let same : x ≡ y = cc in (j, ap (λ (z : Held). z.session.0) (sym same) ∙ eqb-true _ _ q)
+  at false q j = absurd cc
+
+pub holds_parts : (h : History) (s d : ℕ) (y : Held) → holds h s d ≡ Some y → (held h d ≡ Some y) × (y.session.0 ≡ s)
+unfolding holds
+holds_parts h s d y k = mine_only s (held h d) y k
+
+-- the description that is given is the taker's
+pub given_held : (h : History) (sid taker : Sid) (desc : Desc) (y : Held) → holds h sid.0 desc.0 ≡ Some y → held (record { event = Do sid (MqGive desc taker); rule = None } ∷ h) desc.0 ≡ Some (record y { session = taker })
+given_held h sid taker desc y k =
+    let was = holds_parts h sid.0 desc.0 y k in
+    let here : eqb sid.0 y.session.0 ≡ true = eq-eqb sid.0 y.session.0 (sym was.1) in
+    held_given h sid taker desc desc.0 ∙ ap (option_map (moved sid desc taker desc.0)) was.0 ∙ rw (here, eq-eqb desc.0 desc.0 refl) refl
+
+-- each other is what it was
+not_moved : (sid taker : Sid) (desc : Desc) (d : ℕ) (w : Option Held) → ((x : Held) → w ≡ Some x → (eqb sid.0 x.session.0 && eqb desc.0 d) ≡ false) → option_map (moved sid desc taker d) w ≡ w
+not_moved sid taker desc d None off = refl
+not_moved sid taker desc d (Some x) off = ap (λ b. Some (cond b (record x { session = taker }) x)) (off x refl)
+
+pub other_held : (h : History) (sid taker : Sid) (desc : Desc) (d : ℕ) → eqb desc.0 d ≡ false → held (record { event = Do sid (MqGive desc taker); rule = None } ∷ h) d ≡ held h d
+other_held h sid taker desc d other = held_given h sid taker desc d ∙ not_moved sid taker desc d (held h d) (λ x e. and_right _ _ other)
+
+-- a give of what its session does not hold changes nothing
+mine_there : (s : ℕ) (x : Held) → eqb s x.session.0 ≡ true → is_some (option_and_then (if_of s) (Some x)) ≡ true
+mine_there s x e = let here : eqb x.session.0 s ≡ true = eq-eqb _ _ (sym (eqb-true _ _ e)) in rw here refl
+
+pub unheld_stays : (h : History) (sid taker : Sid) (desc : Desc) (d : ℕ) → is_some (holds h sid.0 desc.0) ≡ false → held (record { event = Do sid (MqGive desc taker); rule = None } ∷ h) d ≡ held h d
+unfolding holds
+unheld_stays h sid taker desc d none = held_given h sid taker desc d ∙ not_moved sid taker desc d (held h d) (λ x e. at x e (eqb sid.0 x.session.0 && eqb desc.0 d) refl) where
+  at : (x : Held) → held h d ≡ Some x → (b : Bool) → (eqb sid.0 x.session.0 && eqb desc.0 d) ≡ b → b ≡ false
+  at x e true q =
+      let parts = and_parts (eqb sid.0 x.session.0) (eqb desc.0 d) q in
+      let same : desc.0 ≡ d = eqb-true _ _ parts.1 in
+      let there : held h desc.0 ≡ Some x = ap (held h) same ∙ e in
+      let mine : is_some (option_and_then (if_of sid.0) (held h desc.0)) ≡ true = ap (λ w. is_some (option_and_then (if_of sid.0) w)) there ∙ mine_there sid.0 x parts.0 in
+      let wrong : true ≡ false = sym mine ∙ none in
+      absurd cc
+  at x e false q = refl
+
+-- where one number below the limit is of the kind, there is one at least
+how_many_below_some : (f : ℕ → Bool) (n k : ℕ) → k < n → f k ≡ true → 1 ≤ how_many_below f n
+how_many_below_some f zero k lt on = absurd (omega arith)
+how_many_below_some f (suc n) k lt on = at (f n) refl (λ below. how_many_below_some f n k below on) where
+  at : (b : Bool) → f n ≡ b → (k < n → 1 ≤ how_many_below f n) → 1 ≤ cond b (how_many_below f n + 1) (how_many_below f n)
+  at true e earlier = omega arith
+  at false e earlier = earlier (other (cases_eq k n)) where
+    other : (k ≡ n) ⊎ (k ≡ n → ⊥) → k < n
+    other (inl same) = absurd (let wrong : true ≡ false = sym on ∙ ap f same ∙ e in cc)
+    other (inr ne) = omega arith
+
+-- what each session holds after a give
+mine_is : (s : ℕ) (x : Held) → is_some (option_and_then (if_of s) (Some x)) ≡ eqb x.session.0 s
+mine_is s x = mine (eqb x.session.0 s) x
+
+taken_is : (h : History) (sid taker : Sid) (desc : Desc) (y : Held) (s : ℕ) → holds h sid.0 desc.0 ≡ Some y → is_some (holds (record { event = Do sid (MqGive desc taker); rule = None } ∷ h) s desc.0) ≡ eqb taker.0 s
+unfolding holds
+taken_is h sid taker desc y s k = ap (λ w. is_some (option_and_then (if_of s) w)) (given_held h sid taker desc y k) ∙ mine_is s (record y { session = taker })
+
+giver_is : (h : History) (sid : Sid) (desc : Desc) (y : Held) (s : ℕ) → holds h sid.0 desc.0 ≡ Some y → is_some (holds h s desc.0) ≡ eqb sid.0 s
+unfolding holds
+giver_is h sid desc y s k =
+    let was = holds_parts h sid.0 desc.0 y k in
+    ap (λ w. is_some (option_and_then (if_of s) w)) was.0 ∙ mine_is s y ∙ ap (λ n. eqb n s) was.1
+
+other_is : (h : History) (sid taker : Sid) (desc : Desc) (s d : ℕ) → eqb desc.0 d ≡ false → is_some (holds (record { event = Do sid (MqGive desc taker); rule = None } ∷ h) s d) ≡ is_some (holds h s d)
+unfolding holds
+other_is h sid taker desc s d other = ap (λ w. is_some (option_and_then (if_of s) w)) (other_held h sid taker desc d other)
+
+each_is : (f g : ℕ → Bool) (n k : ℕ) → f k ≡ g k → ((d : ℕ) → eqb k d ≡ false → f d ≡ g d) → how_many_below f n ≡ how_many_below g n
+each_is f g n k here others = how_many_below_same f g n (λ d lt. at d (eqb k d) refl) where
+  at : (d : ℕ) (b : Bool) → eqb k d ≡ b → f d ≡ g d
+  at d true e = let same : k ≡ d = eqb-true _ _ e in subst (λ (i : ℕ). f i ≡ g i) same here
+  at d false e = others d e
+
+-- one moves from the session to the taker
+count_moves : (f g : ℕ → Bool) (n k : ℕ) (gives' takes : Bool) → k < n → f k ≡ gives' → g k ≡ takes → ((d : ℕ) → eqb k d ≡ false → g d ≡ f d) → how_many_below g n ≡ count_moved gives' takes (how_many_below f n)
+count_moves f g n k true true lt on on' others =
+    let same : how_many_below g n ≡ how_many_below f n = each_is g f n k (on' ∙ sym on) others in
+    let some = how_many_below_some f n k lt on in
+    omega arith
+count_moves f g n k true false lt on off others =
+    let less : how_many_below g n + 1 ≡ how_many_below f n = how_many_below_less f g n k lt on off (λ d ne. others d (ne_eqb _ _ (λ r. ne (sym r)))) in
+    omega arith
+count_moves f g n k false true lt off on others = sym (how_many_below_less g f n k lt on off (λ d ne. sym (others d (ne_eqb _ _ (λ r. ne (sym r))))))
+count_moves f g n k false false lt off off' others = each_is g f n k (off' ∙ sym off) others
+
+count_given : (h : History) (sid taker : Sid) (desc : Desc) (s : ℕ) → held_count (record { event = Do sid (MqGive desc taker); rule = None } ∷ h) s ≡ cond (is_some (holds h sid.0 desc.0)) (count_moved (eqb sid.0 s) (eqb taker.0 s) (held_count h s)) (held_count h s)
+unfolding held_count opens
+count_given h sid taker desc s = at (holds h sid.0 desc.0) refl where
+  at : (w : Option Held) → holds h sid.0 desc.0 ≡ w → held_count (record { event = Do sid (MqGive desc taker); rule = None } ∷ h) s ≡ cond (is_some w) (count_moved (eqb sid.0 s) (eqb taker.0 s) (held_count h s)) (held_count h s)
+  at None k = count_kept h _ s refl (λ d. unheld_stays h sid taker desc d (ap is_some k))
+  at (Some y) k = count_moves (λ d. is_some (holds h s d)) (λ d. is_some (holds (record { event = Do sid (MqGive desc taker); rule = None } ∷ h) s d)) (opens h) desc.0 (eqb sid.0 s) (eqb taker.0 s)
+      (holds_below h sid.0 desc.0 (ap is_some k)) (giver_is h sid desc y s k) (taken_is h sid taker desc y s k) (λ d other. other_is h sid taker desc s d other)
+
 pub count_grows : (h : History) (e : Event) (s : ℕ) → held_count (record { event = e; rule = None } ∷ h) s ≡ held_count_after s e (bound h) (creations h) (holds h) (held_count h s)
 unfolding opens
 count_grows h (Hello found) s = count_quiet h (Hello found) s refl (held_grows h (Hello found))
@@ -239,6 +362,7 @@ count_grows h (Do sid (MqReceive desc room)) s = count_quiet h (Do sid (MqReceiv
 count_grows h (Do sid (MqGetattr desc)) s = count_quiet h (Do sid (MqGetattr desc)) s refl (held_grows h (Do sid (MqGetattr desc)))
 count_grows h (Do sid (MqSetattr desc nonblock)) s = count_quiet h (Do sid (MqSetattr desc nonblock)) s refl (held_grows h (Do sid (MqSetattr desc nonblock)))
 count_grows h (Do sid (MqNotify desc on)) s = count_quiet h (Do sid (MqNotify desc on)) s refl (held_grows h (Do sid (MqNotify desc on)))
+count_grows h (Do sid (MqGive desc taker)) s = count_given h sid taker desc s
 count_grows h (Do sid (MqUnlink name)) s = count_quiet h (Do sid (MqUnlink name)) s refl (held_grows h (Do sid (MqUnlink name)))
 count_grows h (Do sid (SemUnlink name)) s = count_quiet h (Do sid (SemUnlink name)) s refl (held_grows h (Do sid (SemUnlink name)))
 count_grows h (Do sid (SemPost desc)) s = count_quiet h (Do sid (SemPost desc)) s refl (held_grows h (Do sid (SemPost desc)))
@@ -252,4 +376,8 @@ count_grows h (Do sid (Chown owner group target)) s = count_quiet h (Do sid (Cho
 count_grows h (Do sid (SetLimit uid bytes)) s = count_quiet h (Do sid (SetLimit uid bytes)) s refl (held_grows h (Do sid (SetLimit uid bytes)))
 count_grows h (Do sid Interrupt) s = count_quiet h (Do sid Interrupt) s refl (held_grows h (Do sid Interrupt))
 count_grows h (Do sid (Audit start count)) s = count_quiet h (Do sid (Audit start count)) s refl (held_grows h (Do sid (Audit start count)))
+count_grows h (Do sid (MqTimedSend desc priority until bytes)) s = count_quiet h (Do sid (MqTimedSend desc priority until bytes)) s refl (held_grows h (Do sid (MqTimedSend desc priority until bytes)))
+count_grows h (Do sid (MqTimedReceive desc room until)) s = count_quiet h (Do sid (MqTimedReceive desc room until)) s refl (held_grows h (Do sid (MqTimedReceive desc room until)))
+count_grows h (Do sid (SemTimedWait desc until)) s = count_quiet h (Do sid (SemTimedWait desc until)) s refl (held_grows h (Do sid (SemTimedWait desc until)))
 count_grows h (Hangup sid) s = count_left h sid s
+count_grows h (Tick moment) s = count_quiet h (Tick moment) s refl (held_grows h (Tick moment))

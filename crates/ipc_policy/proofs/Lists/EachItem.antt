@@ -93,13 +93,13 @@ each_parked_receiver P Q (Withdraws s) q hi r f g h = each_filter P Q (λ w. not
 each_parked_receiver P Q NoAct q hi r f g h = each_map P Q q.receivers (λ v p. f v p refl) h
 
 -- the waits that are parked after an act were parked and not ended, or come with it
-pub each_parked_waiter : (P Q : Waiter → Type 0) (a : SemaphoreAct) (q : Semaphore) (hi : ℕ) → Rising (λ (w : Waiter). w.place) 0 q.waiters hi → ((w : Waiter) → P w → ends_wait w a q ≡ false → Q w) → ((w : Waiter) → a ≡ Waits w → eqb q.value 0 ≡ true → Q w) → Each P q.waiters → Each Q (waiters_after a q)
+pub each_parked_waiter : (P Q : Waiter → Type 0) (a : SemaphoreAct) (q : Semaphore) (hi : ℕ) → Rising (λ (w : Waiter). w.place) 0 q.waiters hi → ((w : Waiter) → P w → ends_wait w a q ≡ false → Q w) → ((w : Waiter) → a ≡ Waits w → eqb q.running 0 ≡ true → Q w) → Each P q.waiters → Each Q (waiters_after a q)
 each_parked_waiter P Q Posts q hi r f g h = each_behind_other (λ (w : Waiter). w.place) P Q q.waiters 0 hi r f h
-each_parked_waiter P Q (Waits w) q hi r f g h = at (eqb q.value 0) refl where
+each_parked_waiter P Q (Waits w) q hi r f g h = at (eqb q.running 0) refl where
   old : Each Q q.waiters
   old = each_map P Q q.waiters (λ v p. f v p refl) h
 
-  at : (b : Bool) → eqb q.value 0 ≡ b → Each Q (cond b (q.waiters ++ w ∷ []) q.waiters)
+  at : (b : Bool) → eqb q.running 0 ≡ b → Each Q (cond b (q.waiters ++ w ∷ []) q.waiters)
   at true e = each_append Q q.waiters (w ∷ []) old (g w refl e, tt)
   at false e = old
 each_parked_waiter P Q (WithdrawsWait s) q hi r f g h = each_filter P Q (λ w. not (eqb w.session s)) q.waiters (λ w e p. f w p (not_false (eqb w.session s) e)) h

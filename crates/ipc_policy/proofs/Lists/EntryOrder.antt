@@ -8,7 +8,8 @@ use Rattle.ipc_terms.specs.declared.rule.Rule.{Rule}
 use Rattle.ipc_terms.specs.declared.record.Event.{Event}
 use Rattle.ipc_policy.specs.declared.config.Config.{Config}
 use Rattle.ipc_policy.specs.History.{History, newest}
-use Rattle.ipc_policy.specs.Queues.{Send, Act, Sends, Receives, Withdraws, NoAct, Queue, is_filled, has_none, next, others, contents_after, act, queue, maxmsg, contents}
+use Rattle.ipc_policy.specs.Queues.{Send, Act, Sends, Receives, Withdraws, NoAct, Queue, is_filled, has_none, next, others, contents_after, maxmsg}
+use Rattle.ipc_policy.specs.Bodies.{act, queue, contents}
 use Rattle.ipc_policy.specs.Readings.{Rising, enters, entering, entered, EachInsideInOrder, IsNext, EachNextIsGreatest}
 use Rattle.ipc_policy.proofs.Lists.PlaceLists.{rising_higher, rising_append, rising_filter}
 use Rattle.ipc_policy.proofs.Lists.EachItem.{each_map, each_append, each_filter}
@@ -89,7 +90,7 @@ last_or false n d w = refl
 order_more : (c : Config) (h : History) (o : ℕ) → Rising (λ (m : Send). entered c h o m.place) 0 (contents c h o) (length h) → (e : Event) (r : Option Rule) → Rising (λ (m : Send). entered c (record { event = e; rule = r } ∷ h) o m.place) 0 (contents c (record { event = e; rule = r } ∷ h) o) (length h + 1)
 unfolding queue
 order_more c h o known e (Some rule) = rising_higher (λ (m : Send). entered c h o m.place) 0 (contents c h o) (length h) (length h + 1) (omega arith) known
-order_more c h o known e None = order_step (maxmsg c h o) (length h) (act o e h) (queue c h o) (entered c h o) (entered c (record { event = e; rule = None } ∷ h) o) (act_place o e h) (sent_later c h o (length h) (omega arith)) (sent_once c h o) (λ i. last_or (is_some (enters (maxmsg c h o) i (act o e h) (queue c h o))) (length h) 0 (newest (λ e before. cond (is_some (enters (maxmsg c before o) i (act o e before) (queue c before o))) (Some (length before)) None) h)) known
+order_more c h o known e None = order_step (maxmsg c h o) (length h) (act c o e h) (queue c h o) (entered c h o) (entered c (record { event = e; rule = None } ∷ h) o) (act_place c o e h) (sent_later c h o (length h) (omega arith)) (sent_once c h o) (λ i. last_or (is_some (enters (maxmsg c h o) i (act c o e h) (queue c h o))) (length h) 0 (newest (λ e before. cond (is_some (enters (maxmsg c before o) i (act c o e before) (queue c before o))) (Some (length before)) None) h)) known
 
 pub inside_in_order : EachInsideInOrder
 unfolding queue

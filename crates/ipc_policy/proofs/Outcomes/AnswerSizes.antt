@@ -1,5 +1,5 @@
 -- In a legal history what is answered is small.
-use Rattle.std.proofs.Common.{◌≡◌, ℕ, ◌≤◌, Bool, true, false, eqb, List, [], ◌∷◌, ◌++◌, length, map, cond, Option, Some, None, refl}
+use Rattle.std.proofs.Common.{◌≡◌, ℕ, ◌≤◌, Bool, true, false, eqb, List, [], ◌∷◌, ◌++◌, length, map, cond, Option, Some, None, refl, sym}
 use Rattle.std.specs.Prelude.{filter}
 use Rattle.ipc_terms.specs.Lists.{first, Each}
 use Rattle.ipc_terms.specs.Lines.{lines}
@@ -11,9 +11,9 @@ use Rattle.ipc_terms.specs.declared.line.Line.{Line}
 use Rattle.ipc_terms.specs.declared.call.Answer.{Answer}
 use Rattle.ipc_terms.specs.declared.call.Answer.TheVariants.{Sent, Done}
 use Rattle.ipc_terms.specs.declared.call.Attributes.{Attributes}
-use Rattle.ipc_terms.specs.declared.call.Call.TheVariants.{MqSend, MqReceive, MqGetattr, MqSetattr, SemPost, SemWait, SemGetvalue, ListNames, StatName, Interrupt, Audit}
+use Rattle.ipc_terms.specs.declared.call.Call.TheVariants.{MqSend, MqReceive, MqGetattr, MqSetattr, MqGive, SemPost, SemWait, SemGetvalue, ListNames, StatName, Interrupt, Audit, MqTimedSend, MqTimedReceive, SemTimedWait}
 use Rattle.ipc_terms.specs.declared.record.Event.{Event}
-use Rattle.ipc_terms.specs.declared.record.Event.TheVariants.{Hello, Do, Hangup}
+use Rattle.ipc_terms.specs.declared.record.Event.TheVariants.{Hello, Do, Hangup, Tick}
 use Rattle.ipc_policy.specs.declared.config.Config.{Config}
 use Rattle.ipc_policy.specs.declared.config.Held.{Held}
 use Rattle.ipc_policy.specs.declared.config.Registration.{Registration}
@@ -22,11 +22,12 @@ use Rattle.ipc_policy.specs.History.{History}
 use Rattle.ipc_policy.specs.Sessions.{live}
 use Rattle.ipc_policy.specs.Descriptions.{holds}
 use Rattle.ipc_policy.specs.Life.{names}
-use Rattle.ipc_policy.specs.Queues.{Send, Waiter, queue, contents, senders, receivers, attributes, next, is_full}
+use Rattle.ipc_policy.specs.Queues.{Send, Waiter, attributes, next}
 use Rattle.ipc_policy.specs.Registrations.{is_idle, registered}
-use Rattle.ipc_policy.specs.Semaphores.{waiters, is_zero}
-use Rattle.ipc_policy.specs.Verdict.{verdict, Legal, answers, answers_at, accepted_answers, answers_of, receiver_answers, sender_answers, noticed, send_answers, received, receive_answers, attributes_told, waiter_answers, post_answers, wait_answers, value_told, stat_answers, facts_meant, for_session, outbox}
+use Rattle.ipc_policy.specs.Bodies.{due, queue, contents, senders, receivers, is_full, waiters, is_zero}
+use Rattle.ipc_policy.specs.Verdict.{verdict, Legal, answers, answers_at, tick_answers, accepted_answers, answers_of, receiver_answers, sender_answers, noticed, send_answers, received, receive_answers, attributes_told, waiter_answers, post_answers, wait_answers, value_told, stat_answers, facts_meant, for_session, outbox}
 use Rattle.ipc_policy.specs.Sizes.{LimitsMessages, EachAnswerIsSmall, EachOutboxIsSmall}
+use Rattle.ipc_policy.proofs.Histories.PlainForms.{plain_accepted}
 use Rattle.ipc_policy.proofs.Lists.EachItem.{each_append, each_filter, each_greatest}
 use Rattle.ipc_policy.proofs.Lists.Pages.{page_le, each_paged}
 use Rattle.ipc_policy.proofs.Directories.NameLengths.{names_short, lines_short}
@@ -52,6 +53,10 @@ let_in_small (Some m) = (tt, tt)
 let_through_small : (w : Option Waiter) → AllSmall (waiter_answers w)
 let_through_small None = tt
 let_through_small (Some w) = (tt, tt)
+
+ticked_small : (w : Option ℕ) → AllSmall (tick_answers w)
+ticked_small None = tt
+ticked_small (Some s) = (tt, tt)
 
 -- what each call answers
 sent_small : (c : Config) (h : History) (sid : Sid) (priority : ℕ) (bytes : List ℕ) (o : ℕ) → length bytes ≤ HARD_MSGSIZE_MAX → AllSmall (send_answers c h sid priority bytes o)
@@ -100,15 +105,20 @@ accepted_small c h (Do sid (MqSend desc priority bytes)) soft legal accepted = b
 accepted_small c h (Do sid (MqReceive desc length')) soft legal accepted = by_held_small (holds h sid.0 desc.0) (receive_answers c h sid) (λ x held. received_small sid (next (contents c h x.object)) (first (senders c h x.object)) (next_short c h x.object soft legal))
 accepted_small c h (Do sid (MqGetattr desc)) soft legal accepted = attributes_small c h sid desc.0
 accepted_small c h (Do sid (MqSetattr desc nonblock)) soft legal accepted = attributes_small c h sid desc.0
-accepted_small c h (Do sid (SemPost desc)) soft legal accepted = by_held_small (holds h sid.0 desc.0) (post_answers h sid) (λ x held. (tt, let_through_small (first (waiters h x.object))))
+accepted_small c h (Do sid (MqGive desc taker)) soft legal accepted = (tt, (tt, tt))
+accepted_small c h (Do sid (SemPost desc)) soft legal accepted = by_held_small (holds h sid.0 desc.0) (post_answers c h sid) (λ x held. (tt, let_through_small (first (waiters c h x.object))))
 accepted_small c h (Do sid (SemWait desc)) soft legal accepted = by_held_small (holds h sid.0 desc.0) (wait_answers c h sid) (λ x held. wait_small c h sid x.object)
-accepted_small c h (Do sid (SemGetvalue desc)) soft legal accepted = by_held_small (holds h sid.0 desc.0) (value_told h sid) (λ x held. (tt, tt))
+accepted_small c h (Do sid (SemGetvalue desc)) soft legal accepted = by_held_small (holds h sid.0 desc.0) (value_told c h sid) (λ x held. (tt, tt))
 accepted_small c h (Do sid (ListNames family start count)) soft legal accepted = ((page_le start count (names h family), each_paged (λ name. length name ≤ 256) start count (names h family) (names_short c h family legal)), tt)
 accepted_small c h (Do sid (StatName target)) soft legal accepted = told_small sid (facts_meant c h target)
 accepted_small c h (Do sid (Audit start count)) soft legal accepted = ((page_le start count (lines h), each_paged (λ (line : Line). length line.name ≤ 256) start count (lines h) (lines_short h)), tt)
 accepted_small c h (Do sid Interrupt) soft legal accepted = (tt, (tt, tt))
+accepted_small c h (Do sid (MqTimedSend desc priority until bytes)) soft legal accepted = by_held_small (holds h sid.0 desc.0) (send_answers c h sid priority bytes) (λ x held. sent_small c h sid priority bytes x.object (fits_range c h x.object (length bytes) soft legal (send_fits c h sid desc priority bytes x (sym (plain_accepted c h (Do sid (MqTimedSend desc priority until bytes)) (sym accepted))) held)))
+accepted_small c h (Do sid (MqTimedReceive desc size until)) soft legal accepted = by_held_small (holds h sid.0 desc.0) (receive_answers c h sid) (λ x held. received_small sid (next (contents c h x.object)) (first (senders c h x.object)) (next_short c h x.object soft legal))
+accepted_small c h (Do sid (SemTimedWait desc until)) soft legal accepted = by_held_small (holds h sid.0 desc.0) (wait_answers c h sid) (λ x held. wait_small c h sid x.object)
 accepted_small c h (Do sid call) soft legal accepted = (tt, tt)
 accepted_small c h (Hangup sid) soft legal accepted = tt
+accepted_small c h (Tick moment) soft legal accepted = ticked_small (due c h moment)
 
 -- a refusal too
 small_by_verdict : (c : Config) (h : History) (e : Event) (r : Option Rule) → LimitsMessages c → Legal c h → verdict c h e ≡ r → AllSmall (answers_at r c h e)

@@ -3,6 +3,7 @@ use Rattle.std.proofs.Common.{◌≡◌, ℕ, Bool, true, false, not, eqb, List,
 use Rattle.std.specs.Prelude.{MatchOption, option_and_then}
 use Rattle.std.proofs.lemmas.Bool.{eq-eqb}
 use Rattle.ipc_terms.specs.Lists.{first}
+use Rattle.ipc_terms.specs.Timed.{plain_call, plain}
 use Rattle.ipc_terms.specs.declared.rule.Rule.{Rule}
 use Rattle.ipc_terms.specs.declared.rule.Rule.TheVariants.{Absent}
 use Rattle.ipc_terms.specs.declared.ids.Sid.{Sid}
@@ -16,29 +17,31 @@ use Rattle.ipc_terms.specs.declared.call.Attributes.{Attributes}
 use Rattle.ipc_terms.specs.declared.call.Answer.{Answer}
 use Rattle.ipc_terms.specs.declared.call.Answer.TheVariants.{Sent, Done}
 use Rattle.ipc_terms.specs.declared.call.Call.{Call}
-use Rattle.ipc_terms.specs.declared.call.Call.TheVariants.{Umask, MqOpen, MqClose, MqSend, MqReceive, MqGetattr, MqSetattr, MqNotify, MqUnlink, SemOpen, SemClose, SemUnlink, SemPost, SemWait, SemTryWait, SemGetvalue, ListNames, StatName, Chmod, Chown, SetLimit, Interrupt, Audit}
+use Rattle.ipc_terms.specs.declared.call.Call.TheVariants.{Umask, MqOpen, MqClose, MqSend, MqReceive, MqGetattr, MqSetattr, MqNotify, MqGive, MqUnlink, SemOpen, SemClose, SemUnlink, SemPost, SemWait, SemTryWait, SemGetvalue, ListNames, StatName, Chmod, Chown, SetLimit, Interrupt, Audit, MqTimedSend, MqTimedReceive, SemTimedWait}
 use Rattle.ipc_terms.specs.declared.record.Event.{Event}
-use Rattle.ipc_terms.specs.declared.record.Event.TheVariants.{Do}
+use Rattle.ipc_terms.specs.declared.record.Event.TheVariants.{Hello, Do, Hangup, Tick}
 use Rattle.ipc_policy.specs.declared.config.Config.{Config}
 use Rattle.ipc_policy.specs.declared.config.Held.{Held}
 use Rattle.ipc_policy.specs.History.{History, is_some_and}
 use Rattle.ipc_policy.specs.Names.{is_bound, bound}
 use Rattle.ipc_policy.specs.Objects.{object, facts}
 use Rattle.ipc_policy.specs.Descriptions.{holds}
-use Rattle.ipc_policy.specs.Queues.{Send, has_none, contents, senders, receivers, queue, attributes, next, is_full, is_empty}
+use Rattle.ipc_policy.specs.Queues.{Send, has_none, attributes, next}
 use Rattle.ipc_policy.specs.Registrations.{is_idle, registered}
-use Rattle.ipc_policy.specs.Semaphores.{is_zero}
-use Rattle.ipc_policy.specs.Parking.{ParkedKind, Sending, Receiving, Waiting, Parked, parked_on, parks}
+use Rattle.ipc_policy.specs.Bodies.{contents, senders, receivers, queue, is_full, is_empty, is_zero}
+use Rattle.ipc_policy.specs.Parking.{ParkedKind, Sending, Receiving, Waiting, Parked, parked_on, plain_parks, parks, seen}
 use Rattle.ipc_policy.specs.Readings.{IsNext}
-use Rattle.ipc_policy.specs.Rules.{forbids, absent, not_held, is_of_family}
+use Rattle.ipc_policy.specs.Rules.{would_park, not_held, is_of_family, forbids, no_session, in_call, not_in_call, name_form, name_long, not_admin, no_user, bad_descr, not_for_write, not_for_read, dir_search, dir_read, absent, present, mode_denied, dir_write, sticky, not_owner, chown_denied, attr_range, value_range, queue_count, byte_limit, descr_limit, prio_range, message_long, buffer_short, notify_taken, would_block, overflow, bad_key, timed_out, no_taker}
 use Rattle.ipc_policy.specs.Verdict.{verdict, Legal, answers, answers_at, accepted_answers, answers_of, receiver_answers, noticed, send_answers, received, receive_answers, attributes_told, post_answers, wait_answers, value_told, stat_answers, facts_meant}
-use Rattle.ipc_policy.specs.Answered.{is_notice, IsAnsweredFirst, EachCallIsAnswered, ParkingAnswersNobody, HelloAnswersItsSession, HangupAnswersNobody, RefusalAnswersItsCaller}
+use Rattle.ipc_policy.specs.Ticks.{EachCountsAsPlain, EachWouldPark}
+use Rattle.ipc_policy.specs.Answered.{is_uncalled, IsAnsweredFirst, EachCallIsAnswered, ParkingAnswersNobody, HelloAnswersItsSession, HangupAnswersNobody, RefusalAnswersItsCaller, EachTickIsAnswered}
 use Rattle.ipc_policy.proofs.Queues.ActsOf.{queue_given}
 use Rattle.ipc_policy.proofs.Directories.Bindings.{bound_made}
 use Rattle.ipc_policy.proofs.Lists.EntryOrder.{next_is_greatest}
 use Rattle.ipc_policy.proofs.Histories.Known.{bound_iff}
 use Rattle.ipc_policy.proofs.Lists.Lengths.{none_is_empty}
 use Rattle.ipc_policy.proofs.Histories.Unforbidden.{unforbidden, off, call_free}
+use Rattle.ipc_policy.proofs.Histories.PlainForms.{plain_accepted}
 
 -- what is answered by the verdict
 by_verdict : (c : Config) (h : History) (e : Event) (r : Option Rule) → verdict c h e ≡ r → answers c h e ≡ answers_at r c h e
@@ -75,10 +78,10 @@ met test kind place true w x e k p = at (test x.object) refl (rw k at p) where
   at false q r = q
 
 -- the first is the session's
-first_is : (sid : Sid) (a : Answer) (rest : List (Sid × Answer)) → is_notice a ≡ false → IsAnsweredFirst sid ((sid, a) ∷ rest)
+first_is : (sid : Sid) (a : Answer) (rest : List (Sid × Answer)) → is_uncalled a ≡ false → IsAnsweredFirst sid ((sid, a) ∷ rest)
 first_is sid a rest no_notice = record { answer = a; others = rest; whole = refl; called_for = no_notice }
 
-first_unless : (sid : Sid) (b : Bool) (a : Answer) (rest : List (Sid × Answer)) → b ≡ false → is_notice a ≡ false → IsAnsweredFirst sid (cond b [] ((sid, a) ∷ rest))
+first_unless : (sid : Sid) (b : Bool) (a : Answer) (rest : List (Sid × Answer)) → b ≡ false → is_uncalled a ≡ false → IsAnsweredFirst sid (cond b [] ((sid, a) ∷ rest))
 first_unless sid true a rest e no_notice = absurd cc
 first_unless sid false a rest e no_notice = first_is sid a rest no_notice
 
@@ -145,14 +148,15 @@ call_first c h sid (MqReceive desc length') legal accepted p = receive_first c h
 call_first c h sid (MqGetattr desc) legal accepted p = attributes_first c h sid desc.0 (given_by c h sid.0 Mq desc.0 (call_free c h sid (MqGetattr desc) Mq desc refl refl accepted).held)
 call_first c h sid (MqSetattr desc nonblock) legal accepted p = attributes_first c h sid desc.0 (given_by c h sid.0 Mq desc.0 (call_free c h sid (MqSetattr desc nonblock) Mq desc refl refl accepted).held)
 call_first c h sid (MqNotify desc on) legal accepted p = first_is sid _ _ refl
+call_first c h sid (MqGive desc taker) legal accepted p = first_is sid _ _ refl
 call_first c h sid (MqUnlink name) legal accepted p = first_is sid _ _ refl
 call_first c h sid (SemOpen asked) legal accepted p = first_is sid _ _ refl
 call_first c h sid (SemClose desc) legal accepted p = first_is sid _ _ refl
 call_first c h sid (SemUnlink name) legal accepted p = first_is sid _ _ refl
-call_first c h sid (SemPost desc) legal accepted p = let given' = given_by c h sid.0 Sem desc.0 (call_free c h sid (SemPost desc) Sem desc refl refl accepted).held in by_held sid (holds h sid.0 desc.0) given'.x (post_answers h sid) given'.held (first_is sid _ _ refl)
+call_first c h sid (SemPost desc) legal accepted p = let given' = given_by c h sid.0 Sem desc.0 (call_free c h sid (SemPost desc) Sem desc refl refl accepted).held in by_held sid (holds h sid.0 desc.0) given'.x (post_answers c h sid) given'.held (first_is sid _ _ refl)
 call_first c h sid (SemWait desc) legal accepted p = wait_first c h sid desc (given_by c h sid.0 Sem desc.0 (call_free c h sid (SemWait desc) Sem desc refl refl accepted).held) p
 call_first c h sid (SemTryWait desc) legal accepted p = first_is sid _ _ refl
-call_first c h sid (SemGetvalue desc) legal accepted p = let given' = given_by c h sid.0 Sem desc.0 (call_free c h sid (SemGetvalue desc) Sem desc refl refl accepted).held in by_held sid (holds h sid.0 desc.0) given'.x (value_told h sid) given'.held (first_is sid _ _ refl)
+call_first c h sid (SemGetvalue desc) legal accepted p = let given' = given_by c h sid.0 Sem desc.0 (call_free c h sid (SemGetvalue desc) Sem desc refl refl accepted).held in by_held sid (holds h sid.0 desc.0) given'.x (value_told c h sid) given'.held (first_is sid _ _ refl)
 call_first c h sid (ListNames family start count) legal accepted p = first_is sid _ _ refl
 call_first c h sid (StatName target) legal accepted p = told_first sid (facts_meant c h target) (target_known c h sid target legal accepted)
 call_first c h sid (Chmod mode target) legal accepted p = first_is sid _ _ refl
@@ -160,6 +164,9 @@ call_first c h sid (Chown owner group target) legal accepted p = first_is sid _ 
 call_first c h sid (SetLimit uid bytes) legal accepted p = first_is sid _ _ refl
 call_first c h sid Interrupt legal accepted p = first_is sid _ _ refl
 call_first c h sid (Audit start count) legal accepted p = first_is sid _ _ refl
+call_first c h sid (MqTimedSend desc priority until bytes) legal accepted p = send_first c h sid desc priority bytes (given_by c h sid.0 Mq desc.0 (call_free c h sid (MqTimedSend desc priority until bytes) Mq desc refl refl accepted).held) p
+call_first c h sid (MqTimedReceive desc size until) legal accepted p = receive_first c h sid desc size (given_by c h sid.0 Mq desc.0 (call_free c h sid (MqTimedReceive desc size until) Mq desc refl refl accepted).held) p
+call_first c h sid (SemTimedWait desc until) legal accepted p = wait_first c h sid desc (given_by c h sid.0 Sem desc.0 (call_free c h sid (SemTimedWait desc until) Sem desc refl refl accepted).held) p
 
 pub call_answered : EachCallIsAnswered
 call_answered c h sid call legal accepted p = subst (IsAnsweredFirst sid) (sym (by_verdict c h (Do sid call) None accepted)) (call_first c h sid call legal accepted p)
@@ -188,7 +195,51 @@ parking_silent : (c : Config) (h : History) (sid : Sid) (call : Call) (p : Parke
 parking_silent c h sid (MqSend desc priority bytes) p k = nobody (is_full c h) Sending (length h) (send_answers c h sid priority bytes) (λ o e. none_if (is_full c h o) _ e) (eqb sid.0 sid.0) (holds h sid.0 desc.0) p k
 parking_silent c h sid (MqReceive desc length') p k = nobody (is_empty c h) Receiving (length h) (receive_answers c h sid) (receive_nothing c h sid) (eqb sid.0 sid.0) (holds h sid.0 desc.0) p k
 parking_silent c h sid (SemWait desc) p k = nobody (is_zero c h) Waiting (length h) (wait_answers c h sid) (λ o e. none_if (is_zero c h o) _ e) (eqb sid.0 sid.0) (holds h sid.0 desc.0) p k
+parking_silent c h sid (MqTimedSend desc priority until bytes) p k = nobody (is_full c h) Sending (length h) (send_answers c h sid priority bytes) (λ o e. none_if (is_full c h o) _ e) (eqb sid.0 sid.0) (holds h sid.0 desc.0) p k
+parking_silent c h sid (MqTimedReceive desc size until) p k = nobody (is_empty c h) Receiving (length h) (receive_answers c h sid) (receive_nothing c h sid) (eqb sid.0 sid.0) (holds h sid.0 desc.0) p k
+parking_silent c h sid (SemTimedWait desc until) p k = nobody (is_zero c h) Waiting (length h) (wait_answers c h sid) (λ o e. none_if (is_zero c h o) _ e) (eqb sid.0 sid.0) (holds h sid.0 desc.0) p k
 parking_silent c h sid call p k = absurd cc
 
 pub parking_unanswered : ParkingAnswersNobody
 parking_unanswered c h sid call p accepted k = by_verdict c h (Do sid call) None accepted ∙ parking_silent c h sid call p k
+
+-- no rule forbids a tick
+tick_accepted : (c : Config) (h : History) (moment : ℕ) → verdict c h (Tick moment) ≡ None
+unfolding verdict forbids no_session in_call not_in_call name_form name_long not_admin no_user bad_descr not_for_write not_for_read dir_search dir_read absent present mode_denied dir_write sticky not_owner chown_denied attr_range value_range queue_count byte_limit descr_limit prio_range message_long buffer_short notify_taken would_block overflow bad_key timed_out no_taker
+tick_accepted c h moment = refl
+
+pub ticks_answered : EachTickIsAnswered
+ticks_answered c h moment = record { accepted = tick_accepted c h moment; answered = by_verdict c h (Tick moment) None (tick_accepted c h moment) }
+
+-- an event is answered as without the deadline of its call
+plain_answers : (c : Config) (h : History) (e : Event) → accepted_answers c h e ≡ accepted_answers c h (plain e)
+plain_answers c h (Hello found) = refl
+plain_answers c h (Do sid (MqTimedSend desc priority until bytes)) = refl
+plain_answers c h (Do sid (MqTimedReceive desc size until)) = refl
+plain_answers c h (Do sid (SemTimedWait desc until)) = refl
+plain_answers c h (Do sid call) = refl
+plain_answers c h (Hangup sid) = refl
+plain_answers c h (Tick moment) = refl
+
+pub counts_as_plain : EachCountsAsPlain
+counts_as_plain c h e accepted =
+    let plainly' : verdict c h (plain e) ≡ None = sym (plain_accepted c h e (sym accepted)) in
+    record { accepted = plainly'; answered = by_verdict c h e None accepted ∙ plain_answers c h e ∙ sym (by_verdict c h (plain e) None plainly') }
+
+-- a call by which its own session parks
+own_parks : (test : ℕ → Bool) (kind : ParkedKind) (place : ℕ) (b : Bool) (w : Option Held) → b ≡ true → is_some_and (λ x. test x.object) w ≡ is_some (cond b (option_and_then (parked_on test kind place) w) None)
+own_parks test kind place false w e = absurd cc
+own_parks test kind place true None e = refl
+own_parks test kind place true (Some x) e = at (test x.object) where
+  at : (d : Bool) → d ≡ is_some (cond {A = Option Parked} d (Some (record { object = x.object; place = place; kind = kind })) None)
+  at true = refl
+  at false = refl
+
+plain_would_park : (c : Config) (h : History) (sid : Sid) (call : Call) → would_park c h (Do sid call) ≡ is_some (plain_parks (seen c h) sid.0 (Do sid call))
+plain_would_park c h sid (MqSend desc priority bytes) = own_parks (is_full c h) Sending (length h) (eqb sid.0 sid.0) (holds h sid.0 desc.0) (same_session sid.0)
+plain_would_park c h sid (MqReceive desc length') = own_parks (is_empty c h) Receiving (length h) (eqb sid.0 sid.0) (holds h sid.0 desc.0) (same_session sid.0)
+plain_would_park c h sid (SemWait desc) = own_parks (is_zero c h) Waiting (length h) (eqb sid.0 sid.0) (holds h sid.0 desc.0) (same_session sid.0)
+plain_would_park c h sid call = refl
+
+pub each_would_park : EachWouldPark
+each_would_park c h sid call = plain_would_park c h sid (plain_call call)

@@ -3,6 +3,7 @@ use Rattle.std.proofs.Common.{◌≡◌, ℕ, ◌≤◌, Bool, true, false, eqb,
 use Rattle.std.proofs.lemmas.Bool.{ltb-false}
 use Rattle.std.specs.Prelude.{option_and_then}
 use Rattle.std.specs.Option.{option_map}
+use Rattle.ipc_terms.specs.Timed.{plain}
 use Rattle.ipc_terms.specs.Lists.{first, Each}
 use Rattle.ipc_terms.specs.Objects.{as_queue}
 use Rattle.ipc_terms.specs.declared.rule.Rule.{Rule}
@@ -20,13 +21,15 @@ use Rattle.ipc_policy.specs.declared.config.TheConstants.{HARD_MSGSIZE_MAX}
 use Rattle.ipc_policy.specs.History.{History, is_some_and}
 use Rattle.ipc_policy.specs.Objects.{object}
 use Rattle.ipc_policy.specs.Descriptions.{holds}
-use Rattle.ipc_policy.specs.Queues.{Send, Waiter, Act, Sends, Receives, Withdraws, NoAct, Queue, is_filled, next, act, queue, contents_after, senders_after, attributes, maxmsg}
+use Rattle.ipc_policy.specs.Queues.{Send, Waiter, Act, Sends, Receives, Withdraws, NoAct, Queue, is_filled, next, contents_after, senders_after, attributes, maxmsg}
+use Rattle.ipc_policy.specs.Bodies.{act, queue}
 use Rattle.ipc_policy.specs.Rules.{forbids, message_long, attributes_held}
 use Rattle.ipc_policy.specs.Verdict.{verdict, Legal}
 use Rattle.ipc_policy.specs.Deliveries.{Delivery, delivers, object_asked, delivery}
 use Rattle.ipc_policy.specs.Sizes.{LimitsMessages, EachMessageFits, EachDeliveryFits, EachSizeIsInRange}
 use Rattle.ipc_policy.proofs.Lists.EachItem.{each_map, each_inside, each_sender, each_greatest}
 use Rattle.ipc_policy.proofs.Histories.Unforbidden.{unforbidden}
+use Rattle.ipc_policy.proofs.Histories.PlainForms.{plain_accepted}
 use Rattle.ipc_policy.proofs.Queues.ActsOf.{act_sends, held_queue, queue_is_object}
 use Rattle.ipc_policy.proofs.Histories.Known.{object_below}
 use Rattle.ipc_policy.proofs.Queues.Limiting.{object_before}
@@ -63,10 +66,10 @@ send_fits c h sid desc priority bytes x accepted held =
     let passes' : is_some_and (λ (y : Attributes). nat_lt y.msgsize (length bytes)) (attributes c h x.object) ≡ false = rw held at passes in
     fits_at (length bytes) (attributes c h x.object) (held_queue c h sid (MqSend desc priority bytes) desc x (sym accepted) refl held) passes'
 
-act_fits : (c : Config) (h : History) (o : ℕ) (e : Event) → None ≡ verdict c h e → (m : Send) → act o e h ≡ Sends m → Fits (attributes c h o) (length m.bytes)
+act_fits : (c : Config) (h : History) (o : ℕ) (e : Event) → None ≡ verdict c h e → (m : Send) → act c o e h ≡ Sends m → Fits (attributes c h o) (length m.bytes)
 act_fits c h o e legal m k =
-    let a = act_sends o e h m k in
-    subst (λ (n : ℕ). Fits (attributes c h n) (length m.bytes)) a.object (send_fits c h a.sid a.desc m.priority m.bytes a.x (sym (legal ∙ ap (verdict c h) a.event)) a.held)
+    let a = act_sends c o e h m k in
+    subst (λ (n : ℕ). Fits (attributes c h n) (length m.bytes)) a.object (send_fits c h a.sid a.desc m.priority m.bytes a.x (sym (plain_accepted c h e legal ∙ ap (verdict c h) a.event)) a.held)
 
 -- what is a queue keeps its message size
 fits_some : (w : Option Attributes) (n : ℕ) → Fits w n → is_some w ≡ true
@@ -87,8 +90,8 @@ fits_more : (c : Config) (h : History) (o : ℕ) → AllFit (attributes c h o) (
 unfolding queue object
 fits_more c h o known e (Some rule) legal = record { inside = known.inside; parked = known.parked }
 fits_more c h o known e None legal = record {
-  inside = each_map Before After (contents_after (maxmsg c h o) (act o e h) (queue c h o)) (λ m fits. still_fits c h o (length m.bytes) e fits) (each_inside Before (maxmsg c h o) (act o e h) (queue c h o) (act_fits c h o e legal) known.parked known.inside);
-  parked = each_map Before After (senders_after (maxmsg c h o) (act o e h) (queue c h o)) (λ m fits. still_fits c h o (length m.bytes) e fits) (each_sender Before (maxmsg c h o) (act o e h) (queue c h o) (act_fits c h o e legal) known.parked);
+  inside = each_map Before After (contents_after (maxmsg c h o) (act c o e h) (queue c h o)) (λ m fits. still_fits c h o (length m.bytes) e fits) (each_inside Before (maxmsg c h o) (act c o e h) (queue c h o) (act_fits c h o e legal) known.parked known.inside);
+  parked = each_map Before After (senders_after (maxmsg c h o) (act c o e h) (queue c h o)) (λ m fits. still_fits c h o (length m.bytes) e fits) (each_sender Before (maxmsg c h o) (act c o e h) (queue c h o) (act_fits c h o e legal) known.parked);
 } where
   Before : Send → Type 0
   Before m = Fits (attributes c h o) (length m.bytes)
@@ -110,7 +113,7 @@ pub inside_fits : (c : Config) (h : History) (o : ℕ) → Legal c h → Each (�
 inside_fits c h o legal = (all_fit c h o legal).inside
 
 -- and so does each that is handed to a receive
-handed_on : (c : Config) (h : History) (o : ℕ) (e : Event) → Legal c h → None ≡ verdict c h e → (d : Delivery) (a : Act) → act o e h ≡ a → delivers (maxmsg c h o) o a (queue c h o) ≡ Some d → Fits (attributes c h d.object) (length d.message.bytes)
+handed_on : (c : Config) (h : History) (o : ℕ) (e : Event) → Legal c h → None ≡ verdict c h e → (d : Delivery) (a : Act) → act c o e h ≡ a → delivers (maxmsg c h o) o a (queue c h o) ≡ Some d → Fits (attributes c h d.object) (length d.message.bytes)
 handed_on c h o e legal accepted d (Sends m) k j = sent (is_filled (maxmsg c h o) (queue c h o).contents) (first (queue c h o).receivers) j where
   sent : (b : Bool) (w : Option Waiter) → cond b None (option_map (λ v. record { object = o; message = m; receive = v }) w) ≡ Some d → Fits (attributes c h d.object) (length d.message.bytes)
   sent true w i = absurd cc
@@ -123,13 +126,13 @@ handed_on c h o e legal accepted d (Receives w) k j = taken (next (queue c h o).
 handed_on c h o e legal accepted d (Withdraws s) k j = absurd cc
 handed_on c h o e legal accepted d NoAct k j = absurd cc
 
-delivered_by : (c : Config) (h : History) (e : Event) → Legal c h → None ≡ verdict c h e → (d : Delivery) (w : Option ℕ) → option_and_then (λ o. delivers (maxmsg c h o) o (act o e h) (queue c h o)) w ≡ Some d → Fits (attributes c h d.object) (length d.message.bytes)
+delivered_by : (c : Config) (h : History) (e : Event) → Legal c h → None ≡ verdict c h e → (d : Delivery) (w : Option ℕ) → option_and_then (λ o. delivers (maxmsg c h o) o (act c o e h) (queue c h o)) w ≡ Some d → Fits (attributes c h d.object) (length d.message.bytes)
 delivered_by c h e legal accepted d None k = absurd cc
-delivered_by c h e legal accepted d (Some o) k = handed_on c h o e legal accepted d (act o e h) refl k
+delivered_by c h e legal accepted d (Some o) k = handed_on c h o e legal accepted d (act c o e h) refl k
 
 pub deliveries_fit : EachDeliveryFits
 unfolding delivery
-deliveries_fit c h e d x legal accepted k j = subst (λ (w : Option Attributes). Fits w (length d.message.bytes)) j (delivered_by c h e legal (sym accepted) d (object_asked h e) k)
+deliveries_fit c h e d x legal accepted k j = subst (λ (w : Option Attributes). Fits w (length d.message.bytes)) j (delivered_by c h e legal (sym accepted) d (object_asked h (plain e)) k)
 
 -- what fits has at most 16,777,216 bytes
 fits_most : (n : ℕ) (w : Option Attributes) → OfAttributes (λ x. x.msgsize ≤ HARD_MSGSIZE_MAX) w → Fits w n → n ≤ HARD_MSGSIZE_MAX

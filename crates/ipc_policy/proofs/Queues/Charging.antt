@@ -5,7 +5,7 @@ use Rattle.std.specs.Option.{option_or, option_map}
 use Rattle.ipc_terms.specs.declared.ids.Uid.{Uid}
 use Rattle.ipc_terms.specs.declared.call.Call.TheVariants.{SetLimit}
 use Rattle.ipc_terms.specs.declared.record.Event.{Event}
-use Rattle.ipc_terms.specs.declared.record.Event.TheVariants.{Hello, Do, Hangup}
+use Rattle.ipc_terms.specs.declared.record.Event.TheVariants.{Hello, Do, Hangup, Tick}
 use Rattle.ipc_access.specs.declared.class.Cred.{Cred}
 use Rattle.ipc_access.specs.Users.{cred_of}
 use Rattle.ipc_policy.specs.declared.config.Config.{Config}
@@ -31,6 +31,7 @@ limit_grows c h (Hello found) u = refl
 limit_grows c h (Do sid (SetLimit uid bytes)) u = limit_at (cred_of c.users u) (eqb uid.0 u.0) bytes (newest (sets_limit u) h)
 limit_grows c h (Do sid call) u = refl
 limit_grows c h (Hangup sid) u = refl
+limit_grows c h (Tick moment) u = refl
 
 -- sums of what is the same below the limit
 pub sum_below_same : (f g : ℕ → ℕ) (n : ℕ) → ((i : ℕ) → i < n → f i ≡ g i) → sum_below f n ≡ sum_below g n

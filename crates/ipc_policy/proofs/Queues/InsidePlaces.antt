@@ -8,7 +8,8 @@ use Rattle.ipc_terms.specs.declared.rule.Rule.{Rule}
 use Rattle.ipc_terms.specs.declared.record.Event.{Event}
 use Rattle.ipc_policy.specs.declared.config.Config.{Config}
 use Rattle.ipc_policy.specs.History.{History, unless, unended}
-use Rattle.ipc_policy.specs.Queues.{Send, Act, Sends, Receives, Withdraws, NoAct, Queue, is_filled, has_none, next, others, contents_after, act, queue, maxmsg, contents}
+use Rattle.ipc_policy.specs.Queues.{Send, Act, Sends, Receives, Withdraws, NoAct, Queue, is_filled, has_none, next, others, contents_after, maxmsg}
+use Rattle.ipc_policy.specs.Bodies.{act, queue, contents}
 use Rattle.ipc_policy.specs.Parking.{stands_at}
 use Rattle.ipc_policy.specs.Readings.{of_place, entering, takes, stays, EachInsideByPlace}
 use Rattle.ipc_policy.proofs.Lists.PlaceLists.{found_append, found_place}
@@ -137,10 +138,10 @@ inside_step maxmsg n i (Withdraws s) q p new one = sym (kept_all (of_place (λ (
 inside_step maxmsg n i NoAct q p new one = sym (kept_all (of_place (λ (m : Send). m.place) i q.contents))
 
 -- what the law says of one place
-inside_more : (c : Config) (h : History) (o i : ℕ) → of_place (λ (m : Send). m.place) i (contents c h o) ≡ unended (λ e before. stays (maxmsg c before o) i (act o e before) (queue c before o)) (λ m e before. takes m (act o e before) (queue c before o)) h → (e : Event) (r : Option Rule) → of_place (λ (m : Send). m.place) i (contents c (record { event = e; rule = r } ∷ h) o) ≡ unended (λ e before. stays (maxmsg c before o) i (act o e before) (queue c before o)) (λ m e before. takes m (act o e before) (queue c before o)) (record { event = e; rule = r } ∷ h)
+inside_more : (c : Config) (h : History) (o i : ℕ) → of_place (λ (m : Send). m.place) i (contents c h o) ≡ unended (λ e before. stays (maxmsg c before o) i (act c o e before) (queue c before o)) (λ m e before. takes m (act c o e before) (queue c before o)) h → (e : Event) (r : Option Rule) → of_place (λ (m : Send). m.place) i (contents c (record { event = e; rule = r } ∷ h) o) ≡ unended (λ e before. stays (maxmsg c before o) i (act c o e before) (queue c before o)) (λ m e before. takes m (act c o e before) (queue c before o)) (record { event = e; rule = r } ∷ h)
 unfolding queue
 inside_more c h o i known e (Some rule) = known
-inside_more c h o i known e None = inside_step (maxmsg c h o) (length h) i (act o e h) (queue c h o) (act_place o e h) (sent_later c h o (length h) (omega arith)) (sent_once c h o) ∙ ap (λ x. option_or (stays (maxmsg c h o) i (act o e h) (queue c h o)) (unless (λ m. takes m (act o e h) (queue c h o)) x)) known
+inside_more c h o i known e None = inside_step (maxmsg c h o) (length h) i (act c o e h) (queue c h o) (act_place c o e h) (sent_later c h o (length h) (omega arith)) (sent_once c h o) ∙ ap (λ x. option_or (stays (maxmsg c h o) i (act c o e h) (queue c h o)) (unless (λ m. takes m (act c o e h) (queue c h o)) x)) known
 
 pub inside_by_place : EachInsideByPlace
 unfolding queue

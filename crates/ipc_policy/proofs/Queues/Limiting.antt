@@ -15,29 +15,29 @@ use Rattle.ipc_terms.specs.declared.ids.Family.{Family}
 use Rattle.ipc_terms.specs.declared.rule.Rule.{Rule}
 use Rattle.ipc_terms.specs.declared.rule.Rule.TheVariants.{ValueRange, ByteLimit}
 use Rattle.ipc_terms.specs.declared.call.Attributes.{Attributes}
-use Rattle.ipc_terms.specs.declared.call.Call.TheVariants.{MqOpen, SemOpen, SetLimit}
+use Rattle.ipc_terms.specs.declared.call.Call.TheVariants.{MqOpen, MqGive, SemOpen, SetLimit}
 use Rattle.ipc_terms.specs.declared.object.Object.{Object}
 use Rattle.ipc_terms.specs.declared.object.Kind.{Kind}
 use Rattle.ipc_terms.specs.declared.record.Event.{Event}
-use Rattle.ipc_terms.specs.declared.record.Event.TheVariants.{Hello, Do, Hangup}
+use Rattle.ipc_terms.specs.declared.record.Event.TheVariants.{Hello, Do, Hangup, Tick}
 use Rattle.ipc_access.specs.declared.class.Cred.{Cred}
 use Rattle.ipc_access.specs.declared.users.User.{User}
 use Rattle.ipc_access.specs.Users.{cred_of}
 use Rattle.ipc_policy.specs.declared.config.Config.{Config}
 use Rattle.ipc_policy.specs.declared.config.Held.{Held}
-use Rattle.ipc_policy.specs.declared.config.TheConstants.{LIMIT_MAX}
+use Rattle.ipc_terms.specs.declared.limits.TheConstants.{LIMIT_MAX}
 use Rattle.ipc_policy.specs.History.{History, newest, unless, gathered_below, any_below, sum_below, is_some_and}
 use Rattle.ipc_policy.specs.Sessions.{user, cred}
 use Rattle.ipc_policy.specs.Names.{Opening, queue_opening, semaphore_opening, unlinks, is_bound, creating, creations, bound}
 use Rattle.ipc_policy.specs.Objects.{kind_of, made_by, creation_of, makes, object}
-use Rattle.ipc_policy.specs.Descriptions.{opens, held, held_as, opened, ends_held}
+use Rattle.ipc_policy.specs.Descriptions.{opens, held, held_as, opened, hands_over, ends_held}
 use Rattle.ipc_policy.specs.Life.{named, binding_of, bindings, alive, gives_object}
 use Rattle.ipc_policy.specs.Charges.{bytes_of, charge, charge_of, charged, sets_limit, limit}
 use Rattle.ipc_policy.specs.Rules.{forbids, value_range, byte_limit, above_limit, queue_made}
 use Rattle.ipc_policy.specs.Verdict.{verdict, Legal}
 use Rattle.ipc_policy.specs.Grow.{is_new, alive_then, object_then, creations_after}
 use Rattle.ipc_policy.specs.Laws.{WithinLimit}
-use Rattle.ipc_policy.proofs.Holdings.Holding.{kept_some, held_below}
+use Rattle.ipc_policy.proofs.Holdings.Holding.{kept_some, held_below, nothing_handed}
 use Rattle.ipc_policy.proofs.Lists.Gathering.{any_below_more, any_below_at}
 use Rattle.ipc_policy.proofs.Directories.Listing.{listed_is_bound}
 use Rattle.ipc_policy.proofs.Histories.Known.{object_below}
@@ -82,17 +82,26 @@ either : {A : Type 0} (a b : Bool) → (a ≡ true → A) → (b ≡ true → A)
 either true b one two k = one refl
 either false b one two k = two k
 
-gives_kept : (o : ℕ) (p : Held → Bool) (w : Option Held) → gives_object o (unless p w) ≡ true → gives_object o w ≡ true
-gives_kept o p None k = k
-gives_kept o p (Some x) k = at (p x) k where
+gives_kept : (o d : ℕ) (e : Event) (p : Held → Bool) (w : Option Held) → gives_object o (option_or (hands_over d e w) (unless p w)) ≡ true → gives_object o w ≡ true
+gives_kept o d e p None k = rw (nothing_handed d e) at k
+gives_kept o d (Do sid (MqGive desc taker)) p (Some x) k = at (eqb sid.0 x.session.0 && eqb desc.0 d) (p x) k where
+  at : (b q : Bool) → gives_object o (option_or (cond b (Some (record x { session = taker })) None) (cond q None (Some x))) ≡ true → eqb x.object o ≡ true
+  at true q j = j
+  at false true j = absurd cc
+  at false false j = j
+gives_kept o d e p (Some x) k = at (p x) k where
   at : (b : Bool) → gives_object o (cond b None (Some x)) ≡ true → eqb x.object o ≡ true
   at true j = absurd cc
   at false j = j
 
-quiet_alive : (h : History) (e : Event) (o : ℕ) → (is_some (unless (λ asked. unlinks asked.family asked.name e) (named h o)) || any_below (λ d. gives_object o (unless (λ x. ends_held d x e) (held h d))) (opens h)) ≡ true → alive h o ≡ true
-quiet_alive h e o k = either (is_some (unless (λ asked. unlinks asked.family asked.name e) (named h o))) (any_below (λ d. gives_object o (unless (λ x. ends_held d x e) (held h d))) (opens h))
+-- what each description gives after an event that is no open
+abbrev left_held : History → Event → ℕ → Option Held
+left_held h e d = option_or (hands_over d e (held h d)) (unless (λ x. ends_held d x e) (held h d))
+
+quiet_alive : (h : History) (e : Event) (o : ℕ) → (is_some (unless (λ asked. unlinks asked.family asked.name e) (named h o)) || any_below (λ d. gives_object o (left_held h e d)) (opens h)) ≡ true → alive h o ≡ true
+quiet_alive h e o k = either (is_some (unless (λ asked. unlinks asked.family asked.name e) (named h o))) (any_below (λ d. gives_object o (left_held h e d)) (opens h))
     (λ n. named_alive h o (kept_some (λ asked. unlinks asked.family asked.name e) (named h o) n))
-    (λ g. given_alive h o (any_below_more (λ d. gives_object o (unless (λ x. ends_held d x e) (held h d))) (λ d. gives_object o (held h d)) (opens h) (λ d j. gives_kept o (λ x. ends_held d x e) (held h d) j) g))
+    (λ g. given_alive h o (any_below_more (λ d. gives_object o (left_held h e d)) (λ d. gives_object o (held h d)) (opens h) (λ d j. gives_kept o d e (λ x. ends_held d x e) (held h d) j) g))
     k
 
 -- a number below a limit that is of a kind
@@ -147,6 +156,7 @@ alive_before h (Do sid (MqOpen asked)) o lt k = open_alive h (queue_opening sid 
 alive_before h (Do sid (SemOpen asked)) o lt k = open_alive h (semaphore_opening sid asked) o lt k
 alive_before h (Do sid call) o lt k = quiet_alive h (Do sid call) o k
 alive_before h (Hangup sid) o lt k = quiet_alive h (Hangup sid) o k
+alive_before h (Tick moment) o lt k = quiet_alive h (Tick moment) o k
 
 -- and it is what it was
 made_other : (n o : ℕ) (b : Bool) (x y : Option Object) → o < n → cond (b && eqb n o) x y ≡ y
@@ -159,6 +169,7 @@ object_before c h (Do sid (MqOpen asked)) o lt = made_other (creations h) o (is_
 object_before c h (Do sid (SemOpen asked)) o lt = made_other (creations h) o (is_new (semaphore_opening sid asked) (is_bound h)) _ (object c h o) lt
 object_before c h (Do sid call) o lt = refl
 object_before c h (Hangup sid) o lt = refl
+object_before c h (Tick moment) o lt = refl
 
 -- so it takes no more than before
 charge_less : (u : Uid) (now was : Bool) (made : Option Object) → (now ≡ true → was ≡ true) → charge u now made ≤ charge u was made
@@ -307,6 +318,7 @@ event_within c h (Do sid (MqOpen asked)) u bound accepted l k = open_within c h 
 event_within c h (Do sid (SemOpen asked)) u bound accepted l k = open_within c h (Do sid (SemOpen asked)) (semaphore_opening sid asked) u bound (refl, refl) l k (is_new (semaphore_opening sid asked) (is_bound h)) refl (unforbidden c h (Do sid (SemOpen asked)) accepted ByteLimit)
 event_within c h (Do sid call) u bound accepted l k = quiet_within c h (Do sid call) u bound k refl
 event_within c h (Hangup sid) u bound accepted l k = quiet_within c h (Hangup sid) u bound k refl
+event_within c h (Tick moment) u bound accepted l k = quiet_within c h (Tick moment) u bound k refl
 
 -- where no limit was set, none was set before
 none_later : {A : Type 0} (x w : Option A) → option_or x w ≡ None → w ≡ None
@@ -350,6 +362,7 @@ set_more c h u known (Do sid (SetLimit uid bytes)) None legal m k = at (eqb uid.
   at false j = known m j
 set_more c h u known (Do sid call) None legal m k = known m k
 set_more c h u known (Hangup sid) None legal m k = known m k
+set_more c h u known (Tick moment) None legal m k = known m k
 
 set_le : (c : Config) (h : History) → Legal c h → (u : Uid) (m : ℕ) → newest (sets_limit u) h ≡ Some m → m ≤ LIMIT_MAX
 set_le c [] legal u m k = absurd cc

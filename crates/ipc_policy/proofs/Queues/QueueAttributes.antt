@@ -10,7 +10,7 @@ use Rattle.ipc_terms.specs.declared.call.SemaphoreOpen.{SemaphoreOpen}
 use Rattle.ipc_terms.specs.declared.call.Call.TheVariants.{MqOpen, SemOpen}
 use Rattle.ipc_terms.specs.declared.object.Object.{Object}
 use Rattle.ipc_terms.specs.declared.record.Event.{Event}
-use Rattle.ipc_terms.specs.declared.record.Event.TheVariants.{Hello, Do, Hangup}
+use Rattle.ipc_terms.specs.declared.record.Event.TheVariants.{Hello, Do, Hangup, Tick}
 use Rattle.ipc_access.specs.declared.class.Cred.{Cred}
 use Rattle.ipc_policy.specs.declared.config.Config.{Config}
 use Rattle.ipc_policy.specs.History.{History}
@@ -58,6 +58,7 @@ made_more c P h o all known (Do sid (SemOpen asked)) legal = at (is_new (semapho
 made_more c P h o all known (Do sid call) legal = known
 made_more c P h o all known (Hello found) legal = known
 made_more c P h o all known (Hangup sid) legal = known
+made_more c P h o all known (Tick moment) legal = known
 
 made_next : (c : Config) (P : Attributes → Type 0) (h : History) (o : ℕ) → OfMade c P → OfAttributes P (attributes c h o) → (e : Event) (r : Option Rule) → r ≡ verdict c h e → OfAttributes P (attributes c (record { event = e; rule = r } ∷ h) o)
 unfolding object

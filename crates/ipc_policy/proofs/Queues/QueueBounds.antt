@@ -10,17 +10,19 @@ use Rattle.ipc_terms.specs.declared.rule.Rule.{Rule}
 use Rattle.ipc_terms.specs.declared.call.Attributes.{Attributes}
 use Rattle.ipc_terms.specs.declared.call.Call.TheVariants.{MqOpen, MqReceive, SemOpen}
 use Rattle.ipc_terms.specs.declared.record.Event.{Event}
-use Rattle.ipc_terms.specs.declared.record.Event.TheVariants.{Hello, Do, Hangup}
+use Rattle.ipc_terms.specs.declared.record.Event.TheVariants.{Hello, Do, Hangup, Tick}
 use Rattle.ipc_policy.specs.declared.config.Config.{Config}
 use Rattle.ipc_terms.specs.declared.object.Object.{Object}
 use Rattle.ipc_policy.specs.History.{History}
 use Rattle.ipc_policy.specs.Sessions.{cred}
 use Rattle.ipc_policy.specs.Names.{queue_opening, semaphore_opening, is_bound, creations}
 use Rattle.ipc_policy.specs.Objects.{object, made_by}
-use Rattle.ipc_policy.specs.Queues.{Send, Waiter, Act, Sends, Receives, Withdraws, NoAct, Queue, empty_queue, has_none, is_filled, next, others, queue_after, act, queue, maxmsg_of, attributes, maxmsg}
+use Rattle.ipc_policy.specs.Queues.{Send, Waiter, Act, Sends, Receives, Withdraws, NoAct, Queue, empty_queue, has_none, is_filled, next, others, queue_after, maxmsg_of, attributes, maxmsg}
+use Rattle.ipc_policy.specs.Bodies.{act, queue}
 use Rattle.ipc_policy.specs.Grow.{made_after, is_new}
 use Rattle.ipc_policy.specs.Verdict.{verdict, Legal}
 use Rattle.ipc_policy.specs.Laws.{IsBounded, EachIsBounded}
+use Rattle.ipc_policy.proofs.Histories.PlainForms.{plain_accepted}
 use Rattle.ipc_policy.proofs.Lists.Counting.{count_at}
 use Rattle.ipc_policy.proofs.Queues.Keeping.{sent_once}
 use Rattle.ipc_policy.proofs.Lists.Lengths.{none_is_empty, length_some, behind_some, filter_some, first_none, first_one, others_length, others_le}
@@ -125,10 +127,10 @@ room_positive c h most legal o there = at (attributes c h o) there (attributes_h
   at (Some x) e known = known
 
 -- a receive that is accepted is from a queue
-receives_room : (c : Config) (h : History) (o : ℕ) (e : Event) → 1 ≤ c.limits.msg_max → Legal c h → None ≡ verdict c h e → (w : Waiter) → act o e h ≡ Receives w → 1 ≤ maxmsg c h o
+receives_room : (c : Config) (h : History) (o : ℕ) (e : Event) → 1 ≤ c.limits.msg_max → Legal c h → None ≡ verdict c h e → (w : Waiter) → act c o e h ≡ Receives w → 1 ≤ maxmsg c h o
 receives_room c h o e most before legal w k =
-    let a = act_receives o e h w k in
-    let legal' : None ≡ verdict c h (Do a.sid (MqReceive a.desc a.length')) = rw a.event at legal in
+    let a = act_receives c o e h w k in
+    let legal' : None ≡ verdict c h (Do a.sid (MqReceive a.desc a.length')) = rw a.event at (plain_accepted c h e legal) in
     let there = held_queue c h a.sid (MqReceive a.desc a.length') a.desc a.x legal' refl a.held in
     subst (λ (n : ℕ). 1 ≤ maxmsg c h n) a.object (room_positive c h most before a.x.object there)
 
@@ -147,19 +149,20 @@ same_or_new c h o (Do sid (SemOpen asked)) q known new = at (is_new (semaphore_o
 same_or_new c h o (Do sid call) q known new = known
 same_or_new c h o (Hello found) q known new = known
 same_or_new c h o (Hangup sid) q known new = known
+same_or_new c h o (Tick moment) q known new = known
 
 bounded_more : (c : Config) (h : History) (o : ℕ) → 1 ≤ c.limits.msg_max → Legal c h → IsBounded (maxmsg c h o) (queue c h o) → (e : Event) (r : Option Rule) → r ≡ verdict c h e → IsBounded (maxmsg c (record { event = e; rule = r } ∷ h) o) (queue c (record { event = e; rule = r } ∷ h) o)
 unfolding object queue
 bounded_more c h o most before known e (Some rule) legal = known
-bounded_more c h o most before known e None legal = subst (λ (x : Option Object). IsBounded (maxmsg_of (as_queue x)) (queue_after (maxmsg c h o) (act o e h) (queue c h o))) (sym now) (same_or_new c h o e (queue_after (maxmsg c h o) (act o e h) (queue c h o)) stepped (λ le. ap (queue_after (maxmsg c h o) (act o e h)) (not_created_empty c h o le) ∙ empty_after h o (maxmsg c h o) e le)) where
+bounded_more c h o most before known e None legal = subst (λ (x : Option Object). IsBounded (maxmsg_of (as_queue x)) (queue_after (maxmsg c h o) (act c o e h) (queue c h o))) (sym now) (same_or_new c h o e (queue_after (maxmsg c h o) (act c o e h) (queue c h o)) stepped (λ le. ap (queue_after (maxmsg c h o) (act c o e h)) (not_created_empty c h o le) ∙ empty_after c h o (maxmsg c h o) e le)) where
   now : object c (record { event = e; rule = None } ∷ h) o ≡ made_after o e (is_bound h) (creations h) (λ asked. option_map (made_by c asked) (cred c h asked.session.0)) (object c h o)
   now = (grows c h e).object_of o
 
   one : (i : ℕ) → count_at i (queue c h o).contents ≤ 1
   one i = let most' = sent_once c h o i in omega arith
 
-  stepped : IsBounded (maxmsg c h o) (queue_after (maxmsg c h o) (act o e h) (queue c h o))
-  stepped = bounded_step (maxmsg c h o) (act o e h) (queue c h o) (receives_room c h o e most before legal) one known
+  stepped : IsBounded (maxmsg c h o) (queue_after (maxmsg c h o) (act c o e h) (queue c h o))
+  stepped = bounded_step (maxmsg c h o) (act c o e h) (queue c h o) (receives_room c h o e most before legal) one known
 
 -- in a legal history each queue is so, where the limits let a queue have a message
 pub bounded : (c : Config) (h : History) → 1 ≤ c.limits.msg_max → Legal c h → (o : ℕ) → IsBounded (maxmsg c h o) (queue c h o)

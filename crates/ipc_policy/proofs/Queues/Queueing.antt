@@ -10,16 +10,22 @@ use Rattle.ipc_policy.specs.declared.config.Config.{Config}
 use Rattle.ipc_policy.specs.History.{History, newest}
 use Rattle.ipc_policy.specs.Sessions.{hellos, live}
 use Rattle.ipc_policy.specs.Descriptions.{holds}
-use Rattle.ipc_policy.specs.Queues.{act_by, queue, queue_after, maxmsg_of, attributes, is_full, is_empty}
+use Rattle.ipc_policy.specs.Queues.{act_by, queue_after, maxmsg_of, attributes}
 use Rattle.ipc_policy.specs.Names.{is_bound, creations}
-use Rattle.ipc_policy.specs.Semaphores.{semaphore_act, semaphore_act_by, gives_value, with_first, semaphore_after, semaphore, posts, passes, given_value, value, is_zero}
+use Rattle.ipc_policy.specs.Timed.{told, now}
+use Rattle.ipc_policy.specs.Semaphores.{semaphore_act_by, gives_value, with_first, semaphore_after, given_value}
+use Rattle.ipc_policy.specs.Bodies.{due, queue, semaphore_act, semaphore, posts, passes, value}
 use Rattle.ipc_policy.specs.Registrations.{registered}
-use Rattle.ipc_policy.specs.Parking.{parked}
+use Rattle.ipc_policy.specs.Parking.{parked, seen}
 use Rattle.ipc_policy.specs.Grow.{live_after, first_value, given_value_after, posts_after, passes_after, registered_after, parked_after}
 use Rattle.ipc_policy.specs.Verdict.{verdict, caller, answers, answers_at, for_session, outbox}
 use Rattle.ipc_policy.proofs.Histories.Growing.{live_grows, made_grows}
 
-pub queue_grows : (c : Config) (h : History) (e : Event) (o : ℕ) → queue c (record { event = e; rule = None } ∷ h) o ≡ queue_after (maxmsg_of (attributes c h o)) (act_by (length h) (holds h) o e) (queue c h o)
+pub time_grows : (h : History) (e : Event) → now (record { event = e; rule = None } ∷ h) ≡ told e (now h)
+unfolding now
+time_grows h e = refl
+
+pub queue_grows : (c : Config) (h : History) (e : Event) (o : ℕ) → queue c (record { event = e; rule = None } ∷ h) o ≡ queue_after (maxmsg_of (attributes c h o)) (act_by (length h) (holds h) (due c h) o e) (queue c h o)
 unfolding queue
 queue_grows c h e o = refl
 
@@ -30,9 +36,9 @@ or_nothing (Some x) = refl
 pub first_value_is : (h : History) (e : Event) (o : ℕ) → gives_value o e h ≡ first_value o e (is_bound h) (creations h)
 first_value_is h e o = sym (or_nothing (gives_value o e h)) ∙ made_grows h e o (λ asked. value_asked asked.kind) None
 
-pub semaphore_grows : (h : History) (e : Event) (o : ℕ) → semaphore (record { event = e; rule = None } ∷ h) o ≡ with_first (first_value o e (is_bound h) (creations h)) (semaphore_after (semaphore_act_by (length h) (holds h) o e) (semaphore h o))
+pub semaphore_grows : (c : Config) (h : History) (e : Event) (o : ℕ) → semaphore c (record { event = e; rule = None } ∷ h) o ≡ with_first (first_value o e (is_bound h) (creations h)) (semaphore_after (semaphore_act_by (length h) (holds h) (due c h) o e) (semaphore c h o))
 unfolding semaphore
-semaphore_grows h e o = ap (λ v. with_first v (semaphore_after (semaphore_act o e h) (semaphore h o))) (first_value_is h e o)
+semaphore_grows c h e o = ap (λ v. with_first v (semaphore_after (semaphore_act c o e h) (semaphore c h o))) (first_value_is h e o)
 
 -- what its value is counted from
 or_first : (v w : Option ℕ) → unwrap_or (option_or v w) 0 ≡ unwrap_or v (unwrap_or w 0)
@@ -42,19 +48,19 @@ or_first (Some n) w = refl
 pub given_value_grows : (h : History) (e : Event) (o : ℕ) → given_value (record { event = e; rule = None } ∷ h) o ≡ given_value_after (first_value o e (is_bound h) (creations h)) (given_value h o)
 given_value_grows h e o = or_first (gives_value o e h) (newest (gives_value o) h) ∙ ap (λ v. unwrap_or v (given_value h o)) (first_value_is h e o)
 
-pub value_grows : (h : History) (e : Event) (o : ℕ) → value (record { event = e; rule = None } ∷ h) o ≡ (given_value_after (first_value o e (is_bound h) (creations h)) (given_value h o) + posts_after (semaphore_act o e h) (posts h o)) - passes_after (semaphore_act o e h) (semaphore h o) (passes h o)
+pub value_grows : (c : Config) (h : History) (e : Event) (o : ℕ) → value c (record { event = e; rule = None } ∷ h) o ≡ (given_value_after (first_value o e (is_bound h) (creations h)) (given_value h o) + posts_after (semaphore_act c o e h) (posts c h o)) - passes_after (semaphore_act c o e h) (semaphore c h o) (passes c h o)
 unfolding value
-value_grows h e o = ap (λ n. (n + posts_after (semaphore_act o e h) (posts h o)) - passes_after (semaphore_act o e h) (semaphore h o) (passes h o)) (given_value_grows h e o)
+value_grows c h e o = ap (λ n. (n + posts_after (semaphore_act c o e h) (posts c h o)) - passes_after (semaphore_act c o e h) (semaphore c h o) (passes c h o)) (given_value_grows h e o)
 
-pub refused_semaphore : (h : History) (e : Event) (rule : Rule) (o : ℕ) → semaphore (record { event = e; rule = Some rule } ∷ h) o ≡ semaphore h o
+pub refused_semaphore : (c : Config) (h : History) (e : Event) (rule : Rule) (o : ℕ) → semaphore c (record { event = e; rule = Some rule } ∷ h) o ≡ semaphore c h o
 unfolding semaphore
-refused_semaphore h e rule o = refl
+refused_semaphore c h e rule o = refl
 
-pub registered_grows : (c : Config) (h : History) (e : Event) (o : ℕ) → registered c (record { event = e; rule = None } ∷ h) o ≡ registered_after o e (length h) (holds h) (queue c h o) (registered c h o)
+pub registered_grows : (c : Config) (h : History) (e : Event) (o : ℕ) → registered c (record { event = e; rule = None } ∷ h) o ≡ registered_after (seen c h) o e (registered c h o)
 unfolding registered
 registered_grows c h e o = refl
 
-pub parked_grows : (c : Config) (h : History) (e : Event) (s : ℕ) → parked c (record { event = e; rule = None } ∷ h) s ≡ parked_after s e (length h) (holds h) (is_full c h) (is_empty c h) (is_zero c h) (queue c h) (semaphore h) (parked c h s)
+pub parked_grows : (c : Config) (h : History) (e : Event) (s : ℕ) → parked c (record { event = e; rule = None } ∷ h) s ≡ parked_after (seen c h) s e (parked c h s)
 unfolding parked
 parked_grows c h e s = refl
 

@@ -5,7 +5,7 @@ use Rattle.std.specs.Option.{option_or}
 use Rattle.std.proofs.lemmas.Bool.{eqb-true, eqb-false, eq-eqb, ne_eqb}
 use Rattle.ipc_terms.specs.declared.ids.Sid.{Sid}
 use Rattle.ipc_terms.specs.declared.ids.Desc.{Desc}
-use Rattle.ipc_terms.specs.declared.call.Call.TheVariants.{MqClose, MqSend, MqNotify}
+use Rattle.ipc_terms.specs.declared.call.Call.TheVariants.{MqClose, MqSend, MqNotify, MqGive}
 use Rattle.ipc_terms.specs.declared.record.Event.{Event}
 use Rattle.ipc_terms.specs.declared.record.Event.TheVariants.{Do, Hangup}
 use Rattle.ipc_policy.specs.declared.config.Config.{Config}
@@ -15,7 +15,7 @@ use Rattle.ipc_policy.specs.History.{History, after_accepted, unless, any_below}
 use Rattle.ipc_policy.specs.Names.{creations}
 use Rattle.ipc_policy.specs.Descriptions.{opens, held, holds}
 use Rattle.ipc_policy.specs.Life.{named, alive, gives_object}
-use Rattle.ipc_policy.specs.Queues.{act, queue}
+use Rattle.ipc_policy.specs.Bodies.{act, queue}
 use Rattle.ipc_policy.specs.Registrations.{registers, is_idle, ends_registration, registered}
 use Rattle.ipc_policy.proofs.Lists.Gathering.{any_below_at}
 use Rattle.ipc_policy.proofs.Holdings.Holding.{held_below}
@@ -83,18 +83,18 @@ kept_all p None none = refl
 kept_all p (Some x) none = ap (λ b. cond b None (Some x)) (none x refl)
 
 -- an event that begins none and does not end the one that there is
-pub registered_stays : (c : Config) (h : History) (e : Event) (o : ℕ) → registers (holds h) o e ≡ None → ((x : Registration) → registered c h o ≡ Some x → ends_registration x e (act o e h) (queue c h o) ≡ false) → registered c (after_accepted h e) o ≡ registered c h o
+pub registered_stays : (c : Config) (h : History) (e : Event) (o : ℕ) → registers (holds h) o e ≡ None → ((x : Registration) → registered c h o ≡ Some x → ends_registration x e (act c o e h) (queue c h o) ≡ false) → registered c (after_accepted h e) o ≡ registered c h o
 registered_stays c h e o none keeps =
     registered_grows c h e o
-    ∙ ap (λ w. option_or w (unless (λ x. ends_registration x e (act o e h) (queue c h o)) (registered c h o))) none
-    ∙ kept_all (λ x. ends_registration x e (act o e h) (queue c h o)) (registered c h o) keeps
+    ∙ ap (λ w. option_or w (unless (λ x. ends_registration x e (act c o e h) (queue c h o)) (registered c h o))) none
+    ∙ kept_all (λ x. ends_registration x e (act c o e h) (queue c h o)) (registered c h o) keeps
 
 -- an event that begins none and ends those that the test says
-pub registered_kept : (c : Config) (h : History) (e : Event) (o : ℕ) (test : Registration → Bool) → registers (holds h) o e ≡ None → ((x : Registration) → registered c h o ≡ Some x → ends_registration x e (act o e h) (queue c h o) ≡ test x) → registered c (after_accepted h e) o ≡ unless test (registered c h o)
+pub registered_kept : (c : Config) (h : History) (e : Event) (o : ℕ) (test : Registration → Bool) → registers (holds h) o e ≡ None → ((x : Registration) → registered c h o ≡ Some x → ends_registration x e (act c o e h) (queue c h o) ≡ test x) → registered c (after_accepted h e) o ≡ unless test (registered c h o)
 registered_kept c h e o test none same =
     registered_grows c h e o
-    ∙ ap (λ w. option_or w (unless (λ x. ends_registration x e (act o e h) (queue c h o)) (registered c h o))) none
-    ∙ kept_same (λ x. ends_registration x e (act o e h) (queue c h o)) test (registered c h o) same
+    ∙ ap (λ w. option_or w (unless (λ x. ends_registration x e (act c o e h) (queue c h o)) (registered c h o))) none
+    ∙ kept_same (λ x. ends_registration x e (act c o e h) (queue c h o)) test (registered c h o) same
 
 -- a description of the session's is that of a registration exactly if it has its number
 by_number : (c : Config) (h : History) (o : ℕ) (sid : Sid) (desc : Desc) (y : Held) (x : Registration) → holds h sid.0 desc.0 ≡ Some y → registered c h o ≡ Some x → (eqb sid.0 x.session.0 && eqb desc.0 x.desc.0) ≡ eqb desc.0 x.desc.0
@@ -117,6 +117,10 @@ or_none false = refl
 -- a close of a description that is held ends the registration by it
 pub registered_close : (c : Config) (h : History) (sid : Sid) (desc : Desc) (y : Held) (o : ℕ) → holds h sid.0 desc.0 ≡ Some y → registered c (after_accepted h (Do sid (MqClose desc))) o ≡ unless (λ x. eqb desc.0 x.desc.0) (registered c h o)
 registered_close c h sid desc y o held' = registered_kept c h (Do sid (MqClose desc)) o (λ x. eqb desc.0 x.desc.0) refl (λ x k. or_none (eqb sid.0 x.session.0 && eqb desc.0 x.desc.0) ∙ by_number c h o sid desc y x held' k)
+
+-- and so a give of it
+pub registered_give : (c : Config) (h : History) (sid taker : Sid) (desc : Desc) (y : Held) (o : ℕ) → holds h sid.0 desc.0 ≡ Some y → registered c (after_accepted h (Do sid (MqGive desc taker))) o ≡ unless (λ x. eqb desc.0 x.desc.0) (registered c h o)
+registered_give c h sid taker desc y o held' = registered_kept c h (Do sid (MqGive desc taker)) o (λ x. eqb desc.0 x.desc.0) refl (λ x k. or_none (eqb sid.0 x.session.0 && eqb desc.0 x.desc.0) ∙ by_number c h o sid desc y x held' k)
 
 -- a hang-up ends those of its session
 pub registered_hangup : (c : Config) (h : History) (sid : Sid) (o : ℕ) → registered c (after_accepted h (Hangup sid)) o ≡ unless (λ x. eqb sid.0 x.session.0) (registered c h o)

@@ -5,14 +5,14 @@ use Rattle.std.proofs.lemmas.Bool.{eqb-true}
 use Rattle.ipc_terms.specs.declared.rule.Rule.{Rule}
 use Rattle.ipc_terms.specs.declared.call.Call.TheVariants.{MqNotify}
 use Rattle.ipc_terms.specs.declared.record.Event.{Event}
-use Rattle.ipc_terms.specs.declared.record.Event.TheVariants.{Hello, Do, Hangup}
+use Rattle.ipc_terms.specs.declared.record.Event.TheVariants.{Hello, Do, Hangup, Tick}
 use Rattle.ipc_policy.specs.declared.config.Config.{Config}
 use Rattle.ipc_policy.specs.declared.config.Held.{Held}
 use Rattle.ipc_policy.specs.declared.config.Registration.{Registration}
 use Rattle.ipc_policy.specs.History.{History, unless}
-use Rattle.ipc_policy.specs.Descriptions.{held, holds, closes, ends_held}
+use Rattle.ipc_policy.specs.Descriptions.{held, holds, lets_go, ends_held}
 use Rattle.ipc_policy.specs.Life.{gives_object}
-use Rattle.ipc_policy.specs.Queues.{act, queue}
+use Rattle.ipc_policy.specs.Bodies.{act, queue}
 use Rattle.ipc_policy.specs.Registrations.{registers, turns_off, fires, ends_registration, registered}
 use Rattle.ipc_policy.proofs.Blocked.Waits.{or_left, or_right}
 use Rattle.ipc_policy.proofs.Blocked.ParkedSessions.{holds_on, if_of_is, session_is}
@@ -43,27 +43,28 @@ begun h o (Do sid (MqNotify desc on)) x k = at (on && gives_object o (holds h si
 begun h o (Do sid call) x k = absurd cc
 begun h o (Hello found) x k = absurd cc
 begun h o (Hangup sid) x k = absurd cc
+begun h o (Tick moment) x k = absurd cc
 
 -- what is held for a registration that does not end is held on
-goes_on : (c : Config) (h : History) (o : ℕ) (e : Event) (x : Registration) → ends_registration x e (act o e h) (queue c h o) ≡ false → IsHeldFor h o x → IsHeldFor (record { event = e; rule = None } ∷ h) o x
+goes_on : (c : Config) (h : History) (o : ℕ) (e : Event) (x : Registration) → ends_registration x e (act c o e h) (queue c h o) ≡ false → IsHeldFor h o x → IsHeldFor (record { event = e; rule = None } ∷ h) o x
 goes_on c h o e x keeps known =
-    let stays : closes x.session.0 x.desc.0 e ≡ false = or_right (turns_off x e) _ (or_left _ (fires (act o e h) (queue c h o)) keeps) in
+    let stays : lets_go x.session.0 x.desc.0 e ≡ false = or_right (turns_off x e) _ (or_left _ (fires (act c o e h) (queue c h o)) keeps) in
     let mine : known.x'.session.0 ≡ x.session.0 = session_is x.session.0 known.x' (if_of_is x.session.0 x.desc.0 h known.x' known.held) in
-    let keeps' : ends_held x.desc.0 known.x' e ≡ false = subst (λ (s : ℕ). closes s x.desc.0 e ≡ false) (sym mine) stays in
+    let keeps' : ends_held x.desc.0 known.x' e ≡ false = subst (λ (s : ℕ). lets_go s x.desc.0 e ≡ false) (sym mine) stays in
     record { x' = known.x'; held = holds_on h x.session.0 x.desc.0 known.x' e known.held keeps'; object = known.object }
 
 registered_next : (c : Config) (h : History) (o : ℕ) → ((x : Registration) → registered c h o ≡ Some x → IsHeldFor h o x) → (e : Event) (r : Option Rule) (x : Registration) → registered c (record { event = e; rule = r } ∷ h) o ≡ Some x → IsHeldFor (record { event = e; rule = r } ∷ h) o x
 unfolding registered held holds
 registered_next c h o known e (Some rule) x k = let was = known x k in record { x' = was.x'; held = was.held; object = was.object }
 registered_next c h o known e None x k = at (registers (holds h) o e) refl k where
-  old : (w : Option Registration) → registered c h o ≡ w → unless (λ y. ends_registration y e (act o e h) (queue c h o)) w ≡ Some x → IsHeldFor (record { event = e; rule = None } ∷ h) o x
+  old : (w : Option Registration) → registered c h o ≡ w → unless (λ y. ends_registration y e (act c o e h) (queue c h o)) w ≡ Some x → IsHeldFor (record { event = e; rule = None } ∷ h) o x
   old None q j = absurd cc
-  old (Some y) q j = stays (ends_registration y e (act o e h) (queue c h o)) refl j where
-    stays : (b : Bool) → ends_registration y e (act o e h) (queue c h o) ≡ b → cond b None (Some y) ≡ Some x → IsHeldFor (record { event = e; rule = None } ∷ h) o x
+  old (Some y) q j = stays (ends_registration y e (act c o e h) (queue c h o)) refl j where
+    stays : (b : Bool) → ends_registration y e (act c o e h) (queue c h o) ≡ b → cond b None (Some y) ≡ Some x → IsHeldFor (record { event = e; rule = None } ∷ h) o x
     stays true p i = absurd cc
     stays false p i = let same : y ≡ x = cc in subst (IsHeldFor (record { event = e; rule = None } ∷ h) o) same (goes_on c h o e y p (known y q))
 
-  at : (w : Option Registration) → registers (holds h) o e ≡ w → option_or w (unless (λ y. ends_registration y e (act o e h) (queue c h o)) (registered c h o)) ≡ Some x → IsHeldFor (record { event = e; rule = None } ∷ h) o x
+  at : (w : Option Registration) → registers (holds h) o e ≡ w → option_or w (unless (λ y. ends_registration y e (act c o e h) (queue c h o)) (registered c h o)) ≡ Some x → IsHeldFor (record { event = e; rule = None } ∷ h) o x
   at None q j = old (registered c h o) refl j
   at (Some y) q j = let same : y ≡ x = cc in subst (IsHeldFor (record { event = e; rule = None } ∷ h) o) same (begun h o e y q)
 

@@ -8,41 +8,43 @@ use Rattle.ipc_terms.specs.declared.object.TheConstants.{SEM_VALUE_MAX}
 use Rattle.ipc_terms.specs.declared.rule.Rule.{Rule}
 use Rattle.ipc_terms.specs.declared.call.Call.TheVariants.{MqOpen, SemOpen, SemPost}
 use Rattle.ipc_terms.specs.declared.record.Event.{Event}
-use Rattle.ipc_terms.specs.declared.record.Event.TheVariants.{Hello, Do, Hangup}
+use Rattle.ipc_terms.specs.declared.record.Event.TheVariants.{Hello, Do, Hangup, Tick}
 use Rattle.ipc_policy.specs.declared.config.Config.{Config}
 use Rattle.ipc_policy.specs.declared.config.Held.{Held}
 use Rattle.ipc_policy.specs.History.{History, is_some_and}
 use Rattle.ipc_policy.specs.Names.{queue_opening, semaphore_opening, is_bound, creations}
 use Rattle.ipc_policy.specs.Descriptions.{holds}
-use Rattle.ipc_policy.specs.Queues.{Waiter, has_none, queue}
-use Rattle.ipc_policy.specs.Semaphores.{SemaphoreAct, Posts, Waits, Tries, WithdrawsWait, NoSemaphoreAct, Semaphore, semaphore_act, semaphore_after, with_first, semaphore, is_greatest}
+use Rattle.ipc_policy.specs.Queues.{Waiter, has_none}
+use Rattle.ipc_policy.specs.Semaphores.{SemaphoreAct, Posts, Waits, Tries, WithdrawsWait, NoSemaphoreAct, Semaphore, semaphore_after, with_first}
+use Rattle.ipc_policy.specs.Bodies.{queue, semaphore_act, semaphore, is_greatest}
 use Rattle.ipc_policy.specs.Parking.{ParkedKind}
 use Rattle.ipc_policy.specs.Grow.{first_value, is_new}
 use Rattle.ipc_policy.specs.Verdict.{verdict, Legal}
 use Rattle.ipc_policy.specs.Laws.{IsInRange, EachIsInRange, WaitsAtZero, place_listed}
+use Rattle.ipc_policy.proofs.Histories.PlainForms.{plain_accepted}
 use Rattle.ipc_policy.proofs.Lists.Lengths.{behind_some, filter_some}
 use Rattle.ipc_policy.proofs.Queues.Queueing.{semaphore_grows}
 use Rattle.ipc_policy.proofs.Directories.Creating.{not_created_still, still_after}
 use Rattle.ipc_policy.proofs.Histories.Unforbidden.{semaphore_open_in_range, post_below_greatest}
 use Rattle.ipc_policy.proofs.Queues.ActsOf.{held_semaphore}
-use Rattle.ipc_policy.proofs.Blocked.Waits.{act_posts}
+use Rattle.ipc_policy.proofs.Blocked.Waits.{act_made}
 use Rattle.ipc_policy.proofs.Semaphores.ValueCounts.{value_counted, is_greatest-at}
 use Rattle.ipc_policy.proofs.Blocked.CallsListed.{calls_listed}
 
 -- an act that raises no greatest value
-range_step : (a : SemaphoreAct) (q : Semaphore) → (a ≡ Posts → q.value + 1 ≤ SEM_VALUE_MAX) → IsInRange q → IsInRange (semaphore_after a q)
+range_step : (a : SemaphoreAct) (q : Semaphore) → (a ≡ Posts → q.running + 1 ≤ SEM_VALUE_MAX) → IsInRange q → IsInRange (semaphore_after a q)
 range_step Posts q room known = record {
   within = at (has_none q.waiters);
-  waiters_wait = λ e. let some : has_none q.waiters ≡ false = behind_some q.waiters e in ap (λ b. cond b (q.value + 1) q.value) some ∙ known.waiters_wait some;
+  waiters_wait = λ e. let some : has_none q.waiters ≡ false = behind_some q.waiters e in ap (λ b. cond b (q.running + 1) q.running) some ∙ known.waiters_wait some;
 } where
-  at : (b : Bool) → cond b (q.value + 1) q.value ≤ SEM_VALUE_MAX
+  at : (b : Bool) → cond b (q.running + 1) q.running ≤ SEM_VALUE_MAX
   at true = room refl
   at false = known.within
 range_step (Waits w) q room known = record {
   within = let most = known.within in omega arith;
-  waiters_wait = at (eqb q.value 0) refl;
+  waiters_wait = at (eqb q.running 0) refl;
 } where
-  at : (b : Bool) → eqb q.value 0 ≡ b → has_none (cond b (q.waiters ++ w ∷ []) q.waiters) ≡ false → q.value - 1 ≡ 0
+  at : (b : Bool) → eqb q.running 0 ≡ b → has_none (cond b (q.waiters ++ w ∷ []) q.waiters) ≡ false → q.running - 1 ≡ 0
   at true e k = let none = eqb-true _ _ e in omega arith
   at false e k = let none = known.waiters_wait k in omega arith
 range_step Tries q room known = record {
@@ -83,31 +85,32 @@ first_in_range c h o (Do sid (MqOpen asked)) legal n k = absurd (not_asked (is_n
 first_in_range c h o (Do sid call) legal n k = absurd cc
 first_in_range c h o (Hello found) legal n k = absurd cc
 first_in_range c h o (Hangup sid) legal n k = absurd cc
+first_in_range c h o (Tick moment) legal n k = absurd cc
 
 -- a post at the greatest value is refused
-pub post_has_room : (c : Config) (h : History) (o : ℕ) (e : Event) → Legal c h → None ≡ verdict c h e → semaphore_act o e h ≡ Posts → eqb (semaphore h o).value SEM_VALUE_MAX ≡ false
+pub post_has_room : (c : Config) (h : History) (o : ℕ) (e : Event) → Legal c h → None ≡ verdict c h e → semaphore_act c o e h ≡ Posts → eqb (semaphore c h o).running SEM_VALUE_MAX ≡ false
 post_has_room c h o e before legal k =
-    let a = act_posts o e h k in
-    let legal' : None ≡ verdict c h (Do a.sid (SemPost a.desc)) = rw a.event at legal in
+    let a = act_made c o e h Posts k in
+    let legal' : None ≡ verdict c h (Do a.sid (SemPost a.desc)) = rw a.event at (plain_accepted c h e legal) in
     let there = held_semaphore c h a.sid (SemPost a.desc) a.desc a.x legal' refl a.held in
     let passes : is_some_and (λ (x : Held). is_greatest c h x.object) (holds h a.sid.0 a.desc.0) ≡ false = post_below_greatest c h a.sid a.desc (sym legal') in
     let passes' : is_greatest c h a.x.object ≡ false = ap (is_some_and (λ (x : Held). is_greatest c h x.object)) (sym a.held) ∙ passes in
-    subst (λ (n : ℕ). eqb (semaphore h n).value SEM_VALUE_MAX ≡ false) a.object (sym (is_greatest-at c h a.x.object before there) ∙ passes')
+    subst (λ (n : ℕ). eqb (semaphore c h n).running SEM_VALUE_MAX ≡ false) a.object (sym (is_greatest-at c h a.x.object before there) ∙ passes')
 
 one_more : (n m : ℕ) → n ≤ m → eqb n m ≡ false → n + 1 ≤ m
 one_more n m le e = let other = eqb-false n m e in grind (arith, nat_tests)
 
-range_more : (c : Config) (h : History) (o : ℕ) → Legal c h → IsInRange (semaphore h o) → (e : Event) (r : Option Rule) → r ≡ verdict c h e → IsInRange (semaphore (record { event = e; rule = r } ∷ h) o)
+range_more : (c : Config) (h : History) (o : ℕ) → Legal c h → IsInRange (semaphore c h o) → (e : Event) (r : Option Rule) → r ≡ verdict c h e → IsInRange (semaphore c (record { event = e; rule = r } ∷ h) o)
 unfolding semaphore
 range_more c h o before known e (Some rule) legal = known
-range_more c h o before known e None legal = subst IsInRange (sym now) (range_first (first_value o e (is_bound h) (creations h)) (semaphore_after (semaphore_act o e h) (semaphore h o)) stepped (λ n k.
+range_more c h o before known e None legal = subst IsInRange (sym now) (range_first (first_value o e (is_bound h) (creations h)) (semaphore_after (semaphore_act c o e h) (semaphore c h o)) stepped (λ n k.
     let first = first_in_range c h o e legal n k in
-    (first.0, ap (λ (q : Semaphore). q.waiters) (ap (semaphore_after (semaphore_act o e h)) (not_created_still h o first.1) ∙ still_after h o e first.1)))) where
-      now : semaphore (record { event = e; rule = None } ∷ h) o ≡ with_first (first_value o e (is_bound h) (creations h)) (semaphore_after (semaphore_act o e h) (semaphore h o))
-      now = semaphore_grows h e o
+    (first.0, ap (λ (q : Semaphore). q.waiters) (ap (semaphore_after (semaphore_act c o e h)) (not_created_still c h o first.1) ∙ still_after c h o e first.1)))) where
+      now : semaphore c (record { event = e; rule = None } ∷ h) o ≡ with_first (first_value o e (is_bound h) (creations h)) (semaphore_after (semaphore_act c o e h) (semaphore c h o))
+      now = semaphore_grows c h e o
 
-      stepped : IsInRange (semaphore_after (semaphore_act o e h) (semaphore h o))
-      stepped = range_step (semaphore_act o e h) (semaphore h o) (λ k. one_more (semaphore h o).value SEM_VALUE_MAX known.within (post_has_room c h o e before legal k)) known
+      stepped : IsInRange (semaphore_after (semaphore_act c o e h) (semaphore c h o))
+      stepped = range_step (semaphore_act c o e h) (semaphore c h o) (λ k. one_more (semaphore c h o).running SEM_VALUE_MAX known.within (post_has_room c h o e before legal k)) known
 
 pub each_in_range : EachIsInRange
 unfolding semaphore
@@ -120,6 +123,6 @@ found_some s i [] e = absurd cc
 found_some s i (x ∷ xs) e = refl
 
 pub waits_at_zero : WaitsAtZero
-waits_at_zero c h legal s p k kind = value_counted c h p.object legal ∙ (each_in_range c h p.object legal).waiters_wait (found_some s p.place (semaphore h p.object).waiters listed) where
-  listed : option_map (λ (w : Waiter). w.place) (find (λ w. eqb w.session s) (semaphore h p.object).waiters) ≡ Some p.place
-  listed = ap (λ (z : ParkedKind). place_listed z s (queue c h p.object) (semaphore h p.object)) (sym kind) ∙ (calls_listed c h legal).each_parked s p k
+waits_at_zero c h legal s p k kind = value_counted c h p.object legal ∙ (each_in_range c h p.object legal).waiters_wait (found_some s p.place (semaphore c h p.object).waiters listed) where
+  listed : option_map (λ (w : Waiter). w.place) (find (λ w. eqb w.session s) (semaphore c h p.object).waiters) ≡ Some p.place
+  listed = ap (λ (z : ParkedKind). place_listed z s (queue c h p.object) (semaphore c h p.object)) (sym kind) ∙ (calls_listed c h legal).each_parked s p k

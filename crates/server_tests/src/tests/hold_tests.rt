@@ -3,12 +3,12 @@
 use super::books::{Left, Work, serve_alone, serve_by_workers};
 use super::signs::{Sign, wait_a_turn};
 use super::streams::{HELLO, INTERRUPT, NOT_IN_CALL, STARTED};
-use ipc_server::{Ending, Gate, Link, Listen, OpenGate, WorkersFault};
+use ipc_server::{Ending, Gate, Link, Listen, WorkersFault};
 use std::alloc::{AllocError, Global};
 use std::io;
 use std::io::{ErrorKind, Read, Write};
 use std::sync::Wait;
-use std::sync::atomic::{AtomicUsize, Ordering};
+use std::sync::atomic::{AtomicU64, AtomicUsize, Ordering};
 use std::test::*;
 use std::thread::Threads;
 use std::time::Clock;
@@ -16,8 +16,8 @@ use std::time::Clock;
 /// How many interrupts come behind the hello.
 const CALLS: usize = 1_000;
 
-/// The most bytes of answers that are untaken at once: 257, with that of the hello.
-const MOST_AT_ONCE: usize = 13 + 257 * 7;
+/// The most bytes of answers that are untaken at once: 256, with that of the hello.
+const MOST_AT_ONCE: usize = 13 + 255 * 7;
 
 /// Gives one frame at each read: a hello, and then interrupts.
 #[derive(Drop)]
@@ -222,6 +222,30 @@ impl Listen for Listener {
     }
 }
 
+/// Notes the numbers of the connections that are read, each as a bit.
+#[derive(Drop)]
+struct Numbers {
+    seen: AtomicU64,
+}
+
+impl Numbers {
+    /// Whether these are the numbers from 0 on, of so many connections.
+    fn are_first(&self, connections: usize) -> bool {
+        let seen = self.seen.load(Ordering::SeqCst);
+        (0..64).all(|number| (seen >> number & 1 == 1) == (number < connections))
+    }
+}
+
+impl Gate for Numbers {
+    fn before_read(&self, conn: u64) {
+        if conn < 64 {
+            self.seen.fetch_or(1 << conn, Ordering::SeqCst);
+        }
+    }
+
+    fn before_answer(&self, _conn: u64) {}
+}
+
 /// How many workers serve.
 const WORKERS: usize = 3;
 
@@ -258,21 +282,30 @@ static ROWS: [Row; 6] = [
     ),
 ];
 
-/// Whether the workers end so, and the book closes with their seats.
+/// Whether the workers end so, the connections have the first numbers, two records each, and the book closes with the
+/// workers' seats.
 fn end_so<R: Threads + Wait + Sync>(rt: &R, alloc: Global, row: &Row) -> Result<bool, Fail> {
     let (accepts, stop_after, outcome, records) = row;
     let listener = Listener {
         accepts,
         accepted: AtomicUsize::new(0),
     };
+    let numbers = Numbers {
+        seen: AtomicU64::new(0),
+    };
     let work = Work {
         listener: &listener,
         workers: WORKERS,
         stop_after: *stop_after,
-        gate: &OpenGate,
+        gate: &numbers,
     };
     let worked = serve_by_workers(rt, alloc, &work)?;
-    Ok(worked.outcome == *outcome && worked.seats == WORKERS && worked.closed.records == *records)
+    Ok(
+        worked.outcome == *outcome
+            && worked.seats == WORKERS
+            && worked.closed.records == *records
+            && numbers.are_first(*records / 2),
+    )
 }
 
 #[test]

@@ -2,7 +2,9 @@
 
 use super::books::{Work, serve_by_workers};
 use super::signs::Sign;
-use super::streams::{HELLO, OPEN, OPENED, RECEIVE, RECEIVED, SEND, SENT, STARTED};
+use super::streams::{
+    HELLO, INTERRUPT, NOT_IN_CALL, OPEN, OPENED, RECEIVE, RECEIVED, SEND, SENT, STARTED,
+};
 use ipc_server::{Gate, OpenGate};
 use std::alloc::Global;
 use std::io::{Read, Write};
@@ -33,15 +35,36 @@ static ONE_MESSAGE: &[Step] = &[
     (0, b"", RECEIVED),
 ];
 
+/// Session 1 has started.
+const STARTED_1: &[u8] = b"\0\0\0\x09\x41\0\0\0\0\0\0\0\x01";
+
+/// Description 1 is opened.
+const OPENED_1: &[u8] = b"\0\0\0\x09\x43\0\0\0\0\0\0\0\x01";
+
+/// Sends `hi` to description 1, at priority 5.
+const SEND_1: &[u8] = b"\0\0\0\x0f\x06\0\0\0\0\0\0\0\x01\0\0\0\x05hi";
+
 /// One session waits for a message, and another sends it.
 static TWO_SESSIONS: &[Step] = &[
     (0, HELLO, STARTED),
     (0, OPEN, OPENED),
     (0, RECEIVE, b""),
-    (1, HELLO, b"\0\0\0\x09\x41\0\0\0\0\0\0\0\x01"),
-    (1, OPEN, b"\0\0\0\x09\x43\0\0\0\0\0\0\0\x01"),
-    (1, b"\0\0\0\x0f\x06\0\0\0\0\0\0\0\x01\0\0\0\x05hi", SENT),
+    (1, HELLO, STARTED_1),
+    (1, OPEN, OPENED_1),
+    (1, SEND_1, SENT),
     (0, b"", RECEIVED),
+];
+
+/// The session that started first sends it, and the other waits.
+static YOUNGER_WAITS: &[Step] = &[
+    (0, HELLO, STARTED),
+    (1, HELLO, STARTED_1),
+    (1, OPEN, OPENED),
+    (1, RECEIVE, b""),
+    (0, INTERRUPT, NOT_IN_CALL),
+    (0, OPEN, OPENED_1),
+    (0, SEND_1, SENT),
+    (1, b"", RECEIVED),
 ];
 
 /// Two hellos, then their answers but for the last byte of the session's number: either may come first.
@@ -135,6 +158,11 @@ fn one_message_goes_over_loopback(rt: HostRuntime) -> Result<(), Fail> {
 #[test]
 fn a_message_goes_from_one_to_another(rt: HostRuntime) -> Result<(), Fail> {
     go_over_loopback(&rt, rt.alloc(), 2, TWO_SESSIONS, &OpenGate)
+}
+
+#[test]
+fn a_message_goes_to_the_younger(rt: HostRuntime) -> Result<(), Fail> {
+    go_over_loopback(&rt, rt.alloc(), 2, YOUNGER_WAITS, &OpenGate)
 }
 
 /// Holds the answers of connection 0 until connection 1 is about to be answered.

@@ -5,6 +5,7 @@ ghost use Rattle.std.specs.Prelude.{◌≡◌, ◌^◌};
 use super::books::{Closed, close_book, shared_book};
 use super::memory_tests::serve_both;
 use super::seat_tests::{offer_one, pass_one, work_beside};
+use super::ticker_tests::{serve_beside_ticker, tick_beside};
 use ipc_book::{CloseFault, Seat, Shared};
 use std::alloc::Global;
 use std::marker::Brand;
@@ -26,6 +27,10 @@ pub(crate) enum Pair {
     Message,
     /// One offers a call while it has too many answers, and the other answers it.
     Offer,
+    /// One waits until a moment, and the other is a ticker's.
+    Ticker,
+    /// The same of a connection that is served.
+    TimedConnection,
 }
 
 /// What a new book has once the two have come and it is closed.
@@ -63,6 +68,8 @@ fn meet<L: Ledger + Send + Sync, R: Threads + Wait + Clock + Abort + Sync>(
         Pair::Threads => work_beside(rt, alloc, book),
         Pair::Message => pass_one(rt, alloc, book),
         Pair::Offer => offer_one(rt, alloc, book),
+        Pair::Ticker => tick_beside(rt, alloc, book),
+        Pair::TimedConnection => serve_beside_ticker(rt, alloc, book),
     }
 }
 

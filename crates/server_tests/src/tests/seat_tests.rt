@@ -30,7 +30,7 @@ fn one_offer(rt: HostRuntime) -> Result<(), Fail> {
 }
 
 /// A seat that comes with the key and makes these calls.
-fn act<L: Ledger, R: Wait>(
+pub(crate) fn act<L: Ledger, R: Wait>(
     rt: &R,
     alloc: Global,
     book: &Shared<L>,
@@ -161,7 +161,8 @@ fn is_bobs(answers: &[Answer]) -> bool {
 }
 
 /// A seat with two answers untaken is full where two are the most: the call comes back, and is stepped once they are
-/// taken. A message that another sends to the blocked session rings its bell.
+/// taken. A message that another sends to the blocked session rings its bell, which the book then gives up. Each seat has
+/// its own answers waiting.
 pub(crate) fn offer_one<L: Ledger, R: Wait + Abort>(
     rt: &R,
     alloc: Global,
@@ -175,10 +176,14 @@ pub(crate) fn offer_one<L: Ledger, R: Wait + Abort>(
         .ok_or("no room")?;
     assert!(rt; matches!((&fault, &call), (OfferFault::Full, Call::Interrupt)));
     let bell = Arc::new(alloc, Bell::new())?;
-    book.add_bell(rt, bob.sid().ok_or("a session")?, &bell)?;
+    let bobs = bob.sid().ok_or("a session")?;
+    book.add_bell(rt, bobs, &bell)?;
     let sent = calls_of_sender(alloc, Desc(1))?;
     let other = act(rt, alloc, book, b"kb1", sent).ok_or("a sender")?;
     assert!(rt; bell.rings() == 1 && book.collect(rt, &bob).len() == 3);
+    assert!(rt; book.waiting(rt, &bob) == 0 && book.waiting(rt, &other) == 3);
+    book.remove_bell(rt, bobs);
+    assert!(rt; Arc::strong_count(&bell) == 1);
     book.offer(rt, alloc, &mut bob, call, 2).ok().ok_or("room")?;
     Ok((bob, other))
 }

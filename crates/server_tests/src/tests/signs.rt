@@ -5,7 +5,7 @@ use std::thread::sleep;
 use std::time::{Clock, Duration};
 
 /// For how many turns a thread waits for a sign before it goes on without it.
-const MOST_TURNS: u32 = 1_000;
+pub(crate) const MOST_TURNS: u32 = 1_000;
 
 /// Lets 10 milliseconds pass.
 pub(crate) fn wait_a_turn<R: Clock>(clock: &R) {

@@ -1,5 +1,5 @@
 use Rattle.ipc_state.proofs.Accepted.{leaver_within}
-use Rattle.ipc_state.proofs.Accepting.{agrees_ended}
+use Rattle.ipc_state.proofs.Releases.{agrees_ended}
 use Rattle.ipc_state.proofs.ChargeTables.{core_covered}
 use Rattle.ipc_state.proofs.accept.accept_hangup.Goals as goal
 

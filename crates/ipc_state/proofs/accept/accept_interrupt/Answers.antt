@@ -1,6 +1,6 @@
 use Rattle.ipc_terms.specs.declared.call.Call.TheVariants.{Interrupt}
 use Rattle.ipc_state.proofs.Accepted.{caller_within}
-use Rattle.ipc_state.proofs.Accepting.{agrees_interrupted}
+use Rattle.ipc_state.proofs.Withdrawals.{agrees_interrupted}
 use Rattle.ipc_state.proofs.accept.accept_interrupt.Goals as goal
 
 pub returns : goal.returns

@@ -1,4 +1,4 @@
-use Rattle.std.proofs.Common.{rules, ◌≡◌, ℕ, ◌+◌, ◌≤◌, cond, take, List, [], ◌∷◌, ◌++◌, Option, None, is_some, refl, sym, ap, ◌∙◌, arith, length, count_by}
+use Rattle.std.proofs.Common.{rules, ◌≡◌, ℕ, ◌+◌, ◌-◌, ◌≤◌, cond, take, List, [], ◌∷◌, ◌++◌, Option, None, is_some, refl, sym, ap, ◌∙◌, arith, length, count_by}
 use Rattle.std.proofs.lemmas.List.{length_push}
 use Rattle.std.proofs.Math.Seq.{take-append_seam}
 use Rattle.std.proofs.lemmas.List.Sums.{count_by-le-length}
@@ -24,7 +24,7 @@ use Rattle.ipc_tables.specs.Steps.{with_object}
 use Rattle.ipc_tables.proofs.Numbering.{rows_last, count_below}
 use Rattle.ipc_tables.proofs.StandingLemmas.{Adds, added_stands, same_stands}
 use Rattle.ipc_tables.proofs.tables.Tables.add.Goals as goal
-use Rattle.ipc_tables.proofs.tables.Tables.add.Goals.{After-open-opened, After-truncate, in-Queue, in_default}
+use Rattle.ipc_tables.proofs.tables.Tables.add.Goals.{After-open-opened, After-undo_push, in-Queue, in_default}
 
 -- ---- what stands in a new object
 
@@ -59,11 +59,14 @@ row_is : (c : After-open-opened) → put c ≡ new_row (length c.self.inside.obj
 unfolding put
 row_is c = rw (c.created-number.ensures, c.bytes_taken-bytes.ensures, c.new.ensures) refl
 
+undone : (slots : List (Option ObjectRow)) (slot : Option ObjectRow) → take (length (slots ++ slot ∷ []) - 1) (slots ++ slot ∷ []) ≡ slots
+undone slots slot =
+    let before : length (slots ++ slot ∷ []) - 1 ≡ length slots = omega (arith, length_push slots slot) in
+    ap (λ n. take n (slots ++ slot ∷ [])) before ∙ take-append_seam slots (slot ∷ [])
+
 -- where no description can be opened it is taken out again
-taken_out : (c : After-truncate) → c.truncate.new.self ≡ c.self.inside.objects.rows
-taken_out c =
-    let rows = c.self.inside.objects.rows in
-    c.truncate.ensures ∙ ap (λ n. take n c.push.new.self) c.created-number.ensures ∙ ap (take (length rows)) c.in_ok-push.ensures.ok ∙ take-append_seam rows _
+taken_out : (c : After-undo_push) → c.undo_push.new.self ≡ c.self.inside.objects.rows
+taken_out c = c.undo_push.ensures ∙ ap (λ (slots : List (Option ObjectRow)). take (length slots - 1) slots) c.in_ok-push.ensures.ok ∙ undone c.self.inside.objects.rows _
 
 pub invariant_of-self-then-is_err : goal.invariant_of-self-then-is_err
 invariant_of-self-then-is_err c =
@@ -75,7 +78,7 @@ pub returns-then-is_err-clause-err : goal.returns-then-is_err-clause-err
 returns-then-is_err-clause-err c =
     let inside = c.self.inside in
     let unopened : c.open-opened.new.self ≡ inside.descriptions = search rules in
-    ap (λ (d : Descriptions). record (the_view inside) { objects = rows_of c.truncate.new.self; created = length c.truncate.new.self; descriptions = d }) unopened ∙ ap (λ (slots : List (Option ObjectRow)). record (the_view inside) { objects = rows_of slots; created = length slots }) (taken_out c) ∙ c.self.view_is
+    ap (λ (d : Descriptions). record (the_view inside) { objects = rows_of c.undo_push.new.self; created = length c.undo_push.new.self; descriptions = d }) unopened ∙ ap (λ (slots : List (Option ObjectRow)). record (the_view inside) { objects = rows_of slots; created = length slots }) (taken_out c) ∙ c.self.view_is
 
 -- there are no more queues than numbers
 pub overflow_add-objects : goal.overflow_add-objects

@@ -1,0 +1,3 @@
+pub mod CallsLemmas
+pub mod TreeAt
+pub mod KeptPlaces

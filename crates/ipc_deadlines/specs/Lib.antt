@@ -1,0 +1,4 @@
+pub mod Calls
+pub mod TimedView
+pub mod Trees
+pub mod Falls

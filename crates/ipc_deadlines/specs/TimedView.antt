@@ -1,0 +1,34 @@
+-- The timed calls of a server, and at which place each session's stands.
+use Rattle.std.specs.Prelude.{◌≡◌, ◌⊎◌, ℕ, ◌==◌, not, List, [], ◌∷◌, filter, slice_get, Option, Some}
+use Rattle.ipc_deadlines.specs.declared.timed.Timed.{Timed}
+
+pub record TimedView : Type 0 where
+  pub calls : List Timed
+  pub sessions : ℕ
+
+-- the call stands in the list
+abbrev pub In : Timed → List Timed → Type 0
+In u [] = ⊥
+In u (t ∷ calls) = (t ≡ u) ⊎ In u calls
+
+-- all but the calls of this session
+abbrev pub without_session : ℕ → List Timed → List Timed
+without_session s calls = filter (λ t. not (t.session.0 == s)) calls
+
+-- none of the calls is of this session
+abbrev pub NoneOf : ℕ → List Timed → Type 0
+NoneOf s [] = Unit {0}
+NoneOf s (t ∷ calls) = (t.session.0 ≡ s → ⊥) × NoneOf s calls
+
+-- a call of the session and the place
+pub record HasPlace (s i : ℕ) (calls : List Timed) : Type 0 where
+  pub call : Timed
+  pub stands : In call calls
+  pub of_session : call.session.0 ≡ s
+  pub at_place : call.place ≡ i
+
+-- at each session's number stands the place of its call, if it has one; and no two calls have one place
+pub record IsKept (places : List (Option ℕ)) (calls : List Timed) : Type 0 where
+  pub each : (t : Timed) → In t calls → slice_get places t.session.0 ≡ Some (Some t.place)
+  pub call : (s i : ℕ) → slice_get places s ≡ Some (Some i) → HasPlace s i calls
+  pub one : (t u : Timed) → In t calls → In u calls → t.place ≡ u.place → t ≡ u
