@@ -1,11 +1,11 @@
-.PHONY: demo build install test rows docs exhaust
+.PHONY: demo build install test rows ways docs exhaust
 
 PREFIX = /usr/local
 
 PROGRAMS = crates/mqserve/out/mqserve crates/mqctl/out/mqctl
 
 # A server on loopback and two clients, over the built programs: under a second. Where they are missing they are proved
-# and built first, which takes about 20 minutes on four cores.
+# and built first, which takes some 40 minutes on four cores.
 demo: $(PROGRAMS)
 	@demo/run.py
 
@@ -17,10 +17,14 @@ build:
 	@cd crates/mqserve && rt run -- --version
 	@cd crates/mqctl && rt run < /dev/null
 
-# Puts the proved programs into $(PREFIX)/bin.
+# Puts the proved programs into $(PREFIX)/bin, and what a service needs beside them: service/README.md goes on.
 install: build
 	install -D -m 755 crates/mqserve/out/mqserve $(DESTDIR)$(PREFIX)/bin/mqserve
 	install -D -m 755 crates/mqctl/out/mqctl $(DESTDIR)$(PREFIX)/bin/mqctl
+	install -D -m 644 service/mqserve.service $(DESTDIR)$(PREFIX)/lib/systemd/system/mqserve.service
+	sed -i 's,/usr/local/,$(PREFIX)/,' $(DESTDIR)$(PREFIX)/lib/systemd/system/mqserve.service
+	install -D -m 644 service/mqserve.sysusers $(DESTDIR)$(PREFIX)/lib/sysusers.d/mqserve.conf
+	install -D -m 600 service/users.example $(DESTDIR)$(PREFIX)/share/mqserve/users.example
 
 # The whole gate, from nothing. Its last line is 'N passed, M failed'. Each proof gets one job: a second one costs more
 # processor time than it saves while other proofs wait.
@@ -30,6 +34,11 @@ test:
 # Runs the programs that the gate or a build left, over inputs whose outcome is known: both streams, and statuses.
 rows:
 	@rows/run.py
+
+# Plays random scripts through a script and through a server, and compares every answer. `make ways SCRIPTS=1000` plays more.
+SCRIPTS = 50
+ways:
+	@rows/two_ways.py $(SCRIPTS)
 
 # Compares the documents with what they speak of.
 docs:
