@@ -1,6 +1,7 @@
-/* A library to preload: it refuses one growth of memory, or disturbs one read or write, and lets all others be.
+/* A library to preload: it refuses one growth of memory, or all from one on, or disturbs one read or write, and lets all
+ * others be.
  *
- * DISTURB_WHAT  allocation (refused), read-fails, read-short, read-interrupted, write-fails, write-short or
+ * DISTURB_WHAT  allocation (refused), allocations (this and all behind it refused), read-fails, read-short, read-interrupted, write-fails, write-short or
  *               write-interrupted
  * DISTURB_AT    which one, counted from 1 over the whole process
  * DISTURB_TOLD  a file descriptor that gets a byte once that one was met
@@ -25,7 +26,7 @@ extern void *__libc_realloc(void *, size_t);
 extern void *__libc_memalign(size_t, size_t);
 
 enum call { ALLOCATION, READ, WRITE, NONE };
-enum way { FAILS, SHORT, INTERRUPTED };
+enum way { FAILS, FAILS_FROM_THERE, SHORT, INTERRUPTED };
 
 static enum call disturbed_call = NONE;
 static enum way disturbed_way;
@@ -39,6 +40,7 @@ static const struct {
     enum way way;
 } WAYS[] = {
     {"allocation", ALLOCATION, FAILS},
+    {"allocations", ALLOCATION, FAILS_FROM_THERE},
     {"read-fails", READ, FAILS},
     {"read-short", READ, SHORT},
     {"read-interrupted", READ, INTERRUPTED},
@@ -64,12 +66,16 @@ __attribute__((constructor)) static void begin(void)
         }
 }
 
-/* Whether this call is the one to disturb. */
+/* Whether this call is the one to disturb, or one behind it where all are. */
 static int is_met(enum call call)
 {
-    if (call != disturbed_call || atomic_fetch_sub(&left, 1) != 1)
+    if (call != disturbed_call)
         return 0;
-    syscall(SYS_write, told, "!", 1);
+    long before = atomic_fetch_sub(&left, 1);
+    if (before > 1 || (before < 1 && disturbed_way != FAILS_FROM_THERE))
+        return 0;
+    if (before == 1)
+        syscall(SYS_write, told, "!", 1);
     return 1;
 }
 

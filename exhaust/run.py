@@ -1,14 +1,16 @@
 #!/usr/bin/env python3
 """Refuses each growth of memory in turn, and disturbs each read and write in turn, in the programs that the gate or a
 build left. A run refuses one growth, the first run the first, and so on until a run meets none any more; likewise a read
-or a write fails, comes short, or is interrupted. Each run is judged by itself:
+or a write fails, comes short, or is interrupted. Where a program ends once memory is refused, all growths from one on are
+refused too. Each run is judged by itself:
 
 - growth_tests makes again what is refused: it prints its `stdout`, with status 0.
 - mqserve and mqctl, over NAME.in, print NAME.out; or, where memory is refused or a read or a write fails, they end with
   the status and the words of that, and what they have printed by then are the first lines of NAME.out.
 - A short or interrupted read or write changes nothing.
 
-Prints a line for each way, one for each run that fails, and the counts; the status is 1 where one failed. The programs
+Prints a line for each way, one for each run that fails, and the counts; the status is 1 where one failed, or where few
+were met. The programs
 are looked for in crates/NAME/out; `--programs FOLDER` gives another folder.
 """
 
@@ -26,12 +28,16 @@ import tempfile
 HERE = pathlib.Path(__file__).resolve().parent
 TOP = HERE.parent
 SECONDS = 60
+# A whole run that meets fewer growths, or fewer reads and writes, shows nothing.
+LEAST = 1_000
 # The most bytes of a read or a write, where these are disturbed: so there are many.
 PIECE = 7
 
 # How each way is said, and the program's word and exit status where it can't go on.
 ALLOCATION = ("allocation", "memory", 5)
+LASTING = ("allocations", "memory", 5)
 FAILING = [("read-fails", "read", 4), ("write-fails", "write", 4)]
+MEMORY = (ALLOCATION[0], LASTING[0])
 HARMLESS = ["read-short", "read-interrupted", "write-short", "write-interrupted"]
 
 
@@ -80,7 +86,7 @@ def run(program, library, what, at):
     """Runs the program with this call disturbed."""
     reader, writer = os.pipe()
     told = {"DISTURB_WHAT": what, "DISTURB_AT": str(at), "DISTURB_TOLD": str(writer)}
-    if what != ALLOCATION[0]:
+    if what not in MEMORY:
         told["DISTURB_PIECE"] = str(PIECE)
     try:
         ended = subprocess.run(
@@ -167,6 +173,7 @@ def ways_of(program):
     """The ways in which calls of the program are disturbed, each with its fault, if it is one."""
     yield ALLOCATION[0], ALLOCATION[1:]
     if not program.again:
+        yield LASTING[0], LASTING[1:]
         yield from ((what, fault) for what, *fault in FAILING)
     yield from ((what, None) for what in HARMLESS)
 
@@ -186,8 +193,11 @@ def main():
             for what, fault in ways_of(program):
                 met, amiss = each_in_turn(pool, asked.jobs, program, library, what, fault)
                 failed += amiss
-                allocations += met if what == ALLOCATION[0] else 0
-                transfers += met if what != ALLOCATION[0] else 0
+                allocations += met if what in MEMORY else 0
+                transfers += met if what not in MEMORY else 0
+    if not asked.names and (allocations < LEAST or transfers < LEAST):
+        print(f"fewer than {LEAST} of a kind were met: the library that refuses them has no effect")
+        failed += 1
     print(f"{transfers} reads and writes disturbed")
     print(f"{allocations} allocations refused, {failed} failed")
     return 1 if failed else 0
