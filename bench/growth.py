@@ -95,6 +95,26 @@ def interrupted_sessions(n):
     return steps
 
 
+# The first deadline of a timed wait.
+SOON = 1_000
+
+
+def timed_waits(n):
+    """So many timed waits that are parked, each with a deadline of its own, in no order."""
+    steps = sessions(n)
+    steps += [(f"s{s} sem-open /s --create", f"s{s} opened {s}") for s in range(n)]
+    return steps + [(f"s{s} sem-timedwait {s} {SOON + late}", None) for s, late in enumerate(shuffled(n))]
+
+
+def ticks_of_nothing(n):
+    return timed_waits(n) + [(f"z tick {number % SOON}", None) for number in range(n)]
+
+
+def ticks_of_one(n):
+    steps, ends = timed_waits(n), {late: s for s, late in enumerate(shuffled(n))}
+    return steps + [(f"z tick {SOON + late}", f"s{ends[late]} refused 32 ETIMEDOUT TimedOut") for late in range(n)]
+
+
 def records(n):
     steps = sessions(1) + [("s0 mq-open /q rw --create", "s0 opened 0")]
     return steps + [("s0 mq-getattr 0", "s0 attrs 0 10 8192 0") for _ in range(n)]
@@ -118,6 +138,8 @@ KINDS = (
     ("messages of 32,768 priorities", many_priorities, None),
     ("sessions started and ended", ended_sessions, None),
     ("waiting sessions interrupted", interrupted_sessions, waiting_sessions),
+    ("ticks that end no timed wait", ticks_of_nothing, timed_waits),
+    ("ticks that end one each", ticks_of_one, timed_waits),
     ("sends and receives behind records", sends_behind_records, records),
 )
 
@@ -147,7 +169,7 @@ def microseconds(n, script, without, runs):
     return best / (len(steps) - len(fewer)) * 1e6
 
 
-COLOURS = ("#1b9e77", "#d95f02", "#7570b3", "#e7298a", "#66a61e", "#e6ab02", "#a6761d", "#666666")
+COLOURS = ("#1b9e77", "#d95f02", "#7570b3", "#e7298a", "#66a61e", "#e6ab02", "#a6761d", "#666666", "#1f78b4", "#b2df8a")
 
 LEFT, TOP, WIDTH, HEIGHT, KEYS = 70, 40, 420, 320, 270
 

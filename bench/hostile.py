@@ -9,7 +9,6 @@ import argparse
 import collections
 import contextlib
 import ctypes
-import multiprocessing
 import os
 import platform
 import random
@@ -48,7 +47,7 @@ from hostile_client import (
     UNKNOWN_KEY,
     USERS,
     Client,
-    Pair,
+    Helper,
     Passed,
     Wrong,
     all_free,
@@ -65,12 +64,15 @@ from hostile_client import (
     malformed_streams,
     opening,
     opening_semaphore,
+    pair_at,
     push,
     received,
     receiving,
     sending,
     umask,
 )
+
+from hostile_parts import flood_of_gives, gives_to_the_ended, timed_calls
 
 PROGRAM = Path(__file__).resolve().parent.parent / "crates" / "mqserve" / "out" / "mqserve"
 
@@ -85,66 +87,6 @@ MOST_SECONDS, MOST_STREAMING = 290, 120
 SPARE = 10
 
 LITTLE_ROOM = 4_096  # the room in the kernel that a client asks for which reads nothing
-
-FORK = multiprocessing.get_context("fork")
-
-
-# ---- helpers: processes beside this one
-
-
-class Helper:
-    """A function in a process of its own. What it sends is told here."""
-
-    def __init__(self, work, *arguments):
-        self.pipe, theirs = FORK.Pipe()
-        self.process = FORK.Process(target=help_by, args=(work, theirs, arguments), daemon=True)
-        self.process.start()
-        theirs.close()
-
-    def __enter__(self):
-        return self
-
-    def __exit__(self, *_):
-        self.process.kill()
-        self.process.join()
-
-    def told(self):
-        """What it sends next."""
-        try:
-            said = self.pipe.recv()
-        except EOFError:
-            raise Wrong("a helper ended") from None
-        if isinstance(said, Wrong):
-            raise said
-        return said
-
-
-def help_by(work, pipe, arguments):
-    try:
-        work(pipe, *arguments)
-    except (Wrong, OSError) as fault:
-        pipe.send(Wrong(f"{work.__name__}: {type(fault).__name__}: {fault}"))
-
-
-def pass_messages(pipe, port):
-    """Passes messages from a word 'pass' to the next word, and ends at any other."""
-    pair = Pair(port)
-    pipe.send("ready")
-    while pipe.recv() == "pass":
-        passed = pair.pass_until(pipe.poll)
-        pipe.recv()
-        pipe.send(passed)
-    pair.end()
-    pipe.send("ended")
-
-
-@contextlib.contextmanager
-def pair_at(port):
-    with Helper(pass_messages, port) as pair:
-        pair.told()
-        yield pair
-        pair.pipe.send("end")
-        pair.told()
 
 
 # ---- the server
@@ -579,7 +521,7 @@ def resets(setup):
                     reset_one(server.port, number)
                 return f"the {FREE - 1} workers were free again in {all_free(server.port, FREE - 1):.3f} s"
 
-            yield measured(server, pair, f"{count:,} are reset, two of three while their call blocks", work)
+            yield measured(server, pair, f"{count:,} are reset, two of three while their call is parked", work)
             keeper.call(sending(queue, b"kept"), SENT)
             keeper.call(frame(SEM_POST, semaphore), DONE)
             if keeper.call(receiving(queue), RECEIVED) != received(b"kept")[1]:
@@ -672,7 +614,7 @@ def post_beside(others, semaphores):
 
 
 def readers_stop(setup):
-    """A client that floods and one whose call blocks stop reading, while others wait for messages and posts."""
+    """A client that floods and one whose call is parked stop reading, while others wait for messages and posts."""
     seconds, count = (0.5, 4_000) if setup.is_short else (10, 20_000)
     with serving(setup, 2 + 4 + SPARE) as server:
         with pair_at(server.port) as pair, contextlib.ExitStack() as stack:
@@ -692,12 +634,38 @@ def readers_stop(setup):
                 if others[0].answer() != received(b"late"):
                     raise Wrong("a message that was read late is another")
                 read_late(flooding, flood[taken:], count)
-                waits = f"two blocked waits of others were served in {posted * 1e3:.0f} ms"
+                waits = f"two parked waits of others were served in {posted * 1e3:.0f} ms"
                 return f"{waits}; later all {2 * count:,} answers came"
 
-            clients = f"one floods and stops reading for {seconds} s, another while its call blocks"
+            clients = f"one floods and stops reading for {seconds} s, another while its call is parked"
             yield measured(server, pair, clients, work)
         serve_to_the_end(server, "stopped")
+
+
+# ---- timed calls and gives
+
+
+def deadlines(setup):
+    count = setup.count(1_000)
+    with serving(setup, 2 + 1 + SPARE) as server:
+        with pair_at(server.port) as pair:
+
+            def work():
+                seconds, longest = timed_calls(server.port, count)
+                return f"all timed out, {seconds / count * 1e3:.1f} ms each, {longest * 1e3:.0f} at most"
+
+            yield measured(server, pair, f"one makes {count:,} timed calls of a millisecond", work)
+        serve_to_the_end(server, "deadlines")
+
+
+def gives(setup):
+    count = setup.count(1_000)
+    with serving(setup, 2 + 3 + count + SPARE) as server:
+        with pair_at(server.port) as pair:
+            yield measured(server, pair, "one is given all that it can hold", lambda: flood_of_gives(server.port))
+            clients = f"{count:,} are given to and break off"
+            yield measured(server, pair, clients, lambda: gives_to_the_ended(server.port, count))
+        serve_to_the_end(server, "gives")
 
 
 # ---- the run
@@ -712,6 +680,8 @@ PARTS = {
     "resets": resets,
     "files": files_used_up,
     "stopped": readers_stop,
+    "deadlines": deadlines,
+    "gives": gives,
 }
 
 

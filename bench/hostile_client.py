@@ -5,6 +5,7 @@ How a stream must be read is written anew here from docs/FRAMES.md, and not take
 
 import collections
 import contextlib
+import multiprocessing
 import random
 import select
 import socket
@@ -18,17 +19,21 @@ HOST = "127.0.0.1"
 # Who waits longer for an answer, or for a hang-up, wasn't served.
 SECONDS = 20
 
+FORK = multiprocessing.get_context("fork")
+
 # The hostile user's key.
 EVE = b"hostile"
 
 HELLO, UMASK, MQ_OPEN, MQ_SEND, MQ_RECEIVE, MQ_GETATTR = 1, 2, 3, 6, 7, 8
-SEM_OPEN, SEM_POST, SEM_WAIT, LIST_NAMES = 11, 14, 15, 18
+SEM_OPEN, SEM_POST, SEM_WAIT, LIST_NAMES, INTERRUPT = 11, 14, 15, 18, 23
+MQ_TIMED_RECEIVE, MQ_GIVE = 27, 30
 STARTED, DONE, OPENED, MASK, ATTRS, SENT, RECEIVED = range(65, 72)
-VALUE, NAMES, STAT, RECORDS, REFUSED = range(72, 77)
+VALUE, NAMES, STAT, RECORDS, REFUSED, INTERRUPTED = range(72, 78)
+TAKEN = 79
 
 READ, BOTH = 1, 3
 CREATE, NONBLOCK = 1, 4
-BAD_KEY = struct.pack(">H", 31)
+DESCR_LIMIT, BAD_KEY, TIMED_OUT, NO_TAKER = (struct.pack(">H", rule) for rule in (24, 31, 32, 33))
 
 # A frame's body.
 LONGEST = 16_777_300
@@ -71,6 +76,15 @@ def sending(queue, message):
 
 def receiving(queue):
     return frame(MQ_RECEIVE, queue + struct.pack(">I", 8_192))
+
+
+def receiving_until(queue, deadline):
+    """A receive that waits until the moment, in milliseconds since 1970."""
+    return frame(MQ_TIMED_RECEIVE, queue + struct.pack(">IQ", 8_192, deadline))
+
+
+def giving(queue, taker):
+    return frame(MQ_GIVE, queue + taker)
 
 
 def listing(count):
@@ -242,7 +256,7 @@ class Pair:
         self.number, self.rounds = 0, 0
 
     def pass_round(self):
-        """Each second round begins with a receive that blocks."""
+        """Each second round begins with a receive that parks."""
         count, first = random.randint(1, 8), self.rounds % 2
         messages = [struct.pack(">Q56x", self.number + one) for one in range(count)]
         self.receiver.send(receiving(self.of) * first)
@@ -269,6 +283,64 @@ class Pair:
         left = struct.unpack(">BIII", self.sender.call(frame(MQ_GETATTR, self.to), ATTRS))[3]
         if left:
             raise Wrong(f"{left} messages are left")
+
+
+# ---- helpers: processes beside this one
+
+
+class Helper:
+    """A function in a process of its own. What it sends is told here."""
+
+    def __init__(self, work, *arguments):
+        self.pipe, theirs = FORK.Pipe()
+        self.process = FORK.Process(target=help_by, args=(work, theirs, arguments), daemon=True)
+        self.process.start()
+        theirs.close()
+
+    def __enter__(self):
+        return self
+
+    def __exit__(self, *_):
+        self.process.kill()
+        self.process.join()
+
+    def told(self):
+        """What it sends next."""
+        try:
+            said = self.pipe.recv()
+        except EOFError:
+            raise Wrong("a helper ended") from None
+        if isinstance(said, Wrong):
+            raise said
+        return said
+
+
+def help_by(work, pipe, arguments):
+    try:
+        work(pipe, *arguments)
+    except (Wrong, OSError) as fault:
+        pipe.send(Wrong(f"{work.__name__}: {type(fault).__name__}: {fault}"))
+
+
+def pass_messages(pipe, port):
+    """Passes messages from a word 'pass' to the next word, and ends at any other."""
+    pair = Pair(port)
+    pipe.send("ready")
+    while pipe.recv() == "pass":
+        passed = pair.pass_until(pipe.poll)
+        pipe.recv()
+        pipe.send(passed)
+    pair.end()
+    pipe.send("ended")
+
+
+@contextlib.contextmanager
+def pair_at(port):
+    with Helper(pass_messages, port) as pair:
+        pair.told()
+        yield pair
+        pair.pipe.send("end")
+        pair.told()
 
 
 # ---- how a stream must be read
@@ -298,6 +370,10 @@ FIELDS = {
     22: "u32 u64",
     23: "",
     24: "u64 u16",
+    26: "u64 u32 u64 rest",
+    27: "u64 u32 u64",
+    28: "u64 u64",
+    30: "u64 u64",
 }
 SIZES = {"u16": 2, "u32": 4, "u64": 8, "attributes": 8}
 ALLOWED = {"access": (1, 2, 3), "flags": range(8), "semaphore-flags": range(4), "bool": (0, 1), "family": (1, 2)}
@@ -316,6 +392,8 @@ ANSWERS = {
     18: NAMES,
     19: STAT,
     24: RECORDS,
+    26: SENT,
+    27: RECEIVED,
 }
 
 UNKNOWN_KEY, NO_FAULT = "none, but an unknown key", "none; the client ends it"
@@ -379,7 +457,7 @@ def are_answers(frames, opcodes, fault):
 
 # ---- malformed streams
 
-# Fields of each opcode that are right. Nobody has the descriptions, so no call blocks.
+# Fields of each opcode that are right. Nobody has the descriptions, so no call parks.
 NOBODYS = b"\xff" * 8
 RIGHT = {
     1: text(EVE),
@@ -397,6 +475,10 @@ RIGHT = {
     22: bytes(12),
     23: b"",
     24: bytes(10),
+    26: NOBODYS + bytes(12) + b"message",
+    27: NOBODYS + bytes(12),
+    28: NOBODYS + bytes(8),
+    30: NOBODYS * 2,
     **dict.fromkeys((5, 13), text(b"/x")),
     **dict.fromkeys((4, 8, 12, 14, 15, 16, 17), NOBODYS),
 }
