@@ -1,4 +1,4 @@
-.PHONY: demo build install test rows ways docs exhaust
+.PHONY: demo build install test rows ways docs exhaust clients clients-test conformance
 
 PREFIX = /usr/local
 
@@ -25,6 +25,19 @@ install: build
 	sed -i 's,/usr/local/,$(PREFIX)/,' $(DESTDIR)$(PREFIX)/lib/systemd/system/mqserve.service
 	install -D -m 644 service/mqserve.sysusers $(DESTDIR)$(PREFIX)/lib/sysusers.d/mqserve.conf
 	install -D -m 600 service/users.example $(DESTDIR)$(PREFIX)/share/mqserve/users.example
+	$(MAKE) -C clients install DESTDIR=$(DESTDIR) PREFIX=$(PREFIX)
+
+# The client libraries in C and Python, and the library that runs programs as they are on a server: a C compiler is enough.
+clients:
+	$(MAKE) -C clients
+
+# Their tests, beside the server that is built, or beside the one that MQSERVED names.
+clients-test:
+	$(MAKE) -C clients test
+
+# Open test suites, on the kernel's queues and on a server. It needs the network, and is no part of the gate.
+conformance:
+	$(MAKE) -C clients conformance
 
 # The whole gate, from nothing. Its last line is 'N passed, M failed'. Each proof gets one job: a second one costs more
 # processor time than it saves while other proofs wait.

@@ -1,0 +1,194 @@
+/* blocking.c: the calls that block. A moment is kept by this side's clock: when it comes, the client interrupts its own call. */
+#include "connection.h"
+
+#include <errno.h>
+#include <poll.h>
+#include <string.h>
+#include <sys/socket.h>
+
+enum { PRIORITIES = 32768 };
+
+/* ---- Starting ---- */
+
+static int start(struct mqs *c, struct request *r, enum request_op op)
+{
+    c->rule = 0;
+    if (c->lost) return mqsi_fail(c->lost);
+    if (c->started) return mqsi_fail(EBUSY);
+    if (mqsi_write(c, r, mqsi_deadline(c)) < 0) return -1;
+    c->started = op;
+    return 0;
+}
+
+int mqs_start_send(struct mqs *c, uint64_t description, const void *data, size_t size, uint32_t priority)
+{
+    struct request r = mqsi_by_description(MQ_SEND, description);
+    mqsi_put(&r, priority, 4);
+    r.data = data;
+    r.size = size;
+    return start(c, &r, MQ_SEND);
+}
+
+int mqs_start_receive(struct mqs *c, uint64_t description, size_t size)
+{
+    struct request r = mqsi_by_description(MQ_RECEIVE, description);
+    mqsi_put(&r, size > UINT32_MAX ? UINT32_MAX : size, 4);
+    if (start(c, &r, MQ_RECEIVE) < 0) return -1;
+    c->asked = size;
+    return 0;
+}
+
+int mqs_start_sem_wait(struct mqs *c, uint64_t description)
+{
+    struct request r = mqsi_by_description(SEM_WAIT, description);
+    return start(c, &r, SEM_WAIT);
+}
+
+/* ---- Waiting ---- */
+
+static int is_moment(const struct timespec *until)
+{
+    return !until || (until->tv_nsec >= 0 && until->tv_nsec < 1000000000);
+}
+
+/* The time until the moment, but a second at most, since the clock may be set meanwhile. 0 where it has come. */
+static struct timespec time_left(const struct timespec *until)
+{
+    struct timespec now;
+    clock_gettime(CLOCK_REALTIME, &now);
+    if (until->tv_sec < now.tv_sec) return (struct timespec){ 0, 0 };
+    if (until->tv_sec > now.tv_sec + 1) return (struct timespec){ 1, 0 };
+    int64_t left = (until->tv_sec - now.tv_sec) * INT64_C(1000000000) + until->tv_nsec - now.tv_nsec;
+    if (left <= 0) return (struct timespec){ 0, 0 };
+    return (struct timespec){ left / 1000000000, left % 1000000000 };
+}
+
+/* Waits until bytes are there. Fails with EINTR or ETIMEDOUT. A recv goes on after a signal whose handler has SA_RESTART, as
+ * the system's own calls do. */
+static int await_bytes(struct mqs *c, const struct timespec *until)
+{
+    if (!until) {
+        uint8_t byte;
+        return recv(c->fd, &byte, 1, MSG_PEEK) < 0 && errno == EINTR ? -1 : 0;
+    }
+    for (;;) {
+        struct timespec left = time_left(until);
+        struct pollfd p = { c->fd, POLLIN, 0 };
+        int n = ppoll(&p, 1, &left, NULL);
+        if (n > 0) return 0;
+        if (n < 0) return errno == EINTR ? -1 : mqsi_lose(c, ECONNRESET);
+        if (left.tv_sec == 0 && left.tv_nsec == 0) return mqsi_fail(ETIMEDOUT);
+    }
+}
+
+int mqs_wait(struct mqs *c, const struct timespec *until)
+{
+    if (c->lost) return mqsi_fail(c->lost);
+    if (!c->started || !is_moment(until)) return mqsi_fail(EINVAL);
+    for (int was_late = 0;;) {
+        int there = mqsi_front(c);
+        if (there) return there < 0 ? -1 : 0;
+        /* What comes unasked doesn't put the end off: a moment that has passed allows one more look. */
+        if (was_late) return mqsi_fail(ETIMEDOUT);
+        if (until) {
+            struct timespec left = time_left(until);
+            was_late = left.tv_sec == 0 && left.tv_nsec == 0;
+        }
+        if (await_bytes(c, until) < 0 || mqsi_fill(c) < 0) return -1;
+    }
+}
+
+int mqs_wait_bound(struct mqs *c)
+{
+    if (c->lost) return mqsi_fail(c->lost);
+    if (!c->started) return mqsi_fail(EINVAL);
+    return mqsi_await_front(c, mqsi_deadline(c));
+}
+
+/* ---- Ending ---- */
+
+int mqs_stop(struct mqs *c)
+{
+    struct request r = mqsi_request(INTERRUPT);
+    struct answer a;
+    if (c->lost) return mqsi_fail(c->lost);
+    if (!c->started || c->stale == STALE_SECOND) return mqsi_fail(EINVAL);
+    c->rule = 0;
+    deadline end = mqsi_deadline(c);
+    if (mqsi_write(c, &r, end) < 0 || mqsi_await_front(c, end) < 0) return -1;
+    if (c->in[c->from + 4] != INTERRUPTED) {
+        c->stale = STALE_SECOND;
+        return 0;
+    }
+    if (mqsi_take(c, &a, INTERRUPTED) < 0 || mqsi_await_front(c, end) < 0) return -1;
+    c->started = 0;
+    return mqsi_take(c, &a, DONE) < 0 ? mqsi_lose(c, EPROTO) : 1;
+}
+
+/* The answer in front as that of the call which was started. */
+static int finish(struct mqs *c, struct answer *a, int is_receive, enum answer_op op)
+{
+    if (c->lost) return mqsi_fail(c->lost);
+    if (!c->started || is_receive != (c->started == MQ_RECEIVE)) return mqsi_fail(EINVAL);
+    c->rule = 0;
+    int there = mqsi_front(c);
+    if (there <= 0) return there < 0 ? -1 : mqsi_fail(EAGAIN);
+    int r = mqsi_take(c, a, op);
+    c->started = 0;
+    return r;
+}
+
+int mqs_finish(struct mqs *c)
+{
+    struct answer a;
+    return finish(c, &a, 0, c->started == MQ_SEND ? SENT : DONE);
+}
+
+ssize_t mqs_finish_receive(struct mqs *c, void *data, size_t size, uint32_t *priority)
+{
+    struct answer a;
+    if (finish(c, &a, 1, RECEIVED) < 0) return -1;
+    uint64_t got = mqsi_get(a.fields, 4);
+    size_t message = a.size - 4;
+    if (got >= PRIORITIES || message > size) return mqsi_lose(c, EPROTO);
+    if (priority) *priority = (uint32_t)got;
+    if (message > 0) memcpy(data, a.fields + 4, message);
+    return (ssize_t)message;
+}
+
+/* ---- Whole calls ---- */
+
+/* 0: the answer is there. -1: it isn't, and the call is over. */
+static int wait_or_stop(struct mqs *c, const struct timespec *until)
+{
+    if (mqs_wait(c, until) == 0) return 0;
+    if (c->lost) return -1;
+    int why = errno, stopped = mqs_stop(c);
+    return stopped == 1 ? mqsi_fail(why) : stopped;
+}
+
+static int check_moment(struct mqs *c, const struct timespec *until)
+{
+    c->rule = 0;
+    return is_moment(until) ? 0 : mqsi_fail(EINVAL);
+}
+
+int mqs_mq_send(struct mqs *c, uint64_t description, const void *data, size_t size, uint32_t priority,
+                const struct timespec *until)
+{
+    if (check_moment(c, until) < 0 || mqs_start_send(c, description, data, size, priority) < 0) return -1;
+    return wait_or_stop(c, until) < 0 ? -1 : mqs_finish(c);
+}
+
+ssize_t mqs_mq_receive(struct mqs *c, uint64_t description, void *data, size_t size, uint32_t *priority,
+                       const struct timespec *until)
+{
+    if (check_moment(c, until) < 0 || mqs_start_receive(c, description, size) < 0) return -1;
+    return wait_or_stop(c, until) < 0 ? -1 : mqs_finish_receive(c, data, size, priority);
+}
+
+int mqs_sem_wait(struct mqs *c, uint64_t description, const struct timespec *until)
+{
+    if (check_moment(c, until) < 0 || mqs_start_sem_wait(c, description) < 0) return -1;
+    return wait_or_stop(c, until) < 0 ? -1 : mqs_finish(c);
+}

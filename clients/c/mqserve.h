@@ -1,0 +1,185 @@
+/* mqserve.h: calls to an mqserve server over one connection. A connection is one session of the server.
+ *
+ * Errors. A call that fails returns -1 (mqs_connect and mqs_attach: NULL) and sets errno. mqs_rule() then tells the number of
+ * the rule that refused it, and 0 where it wasn't the server that refused. docs/MAP.md has the table of rules; mqs_errno() is
+ * the error of a rule. Each call names the rules that it can meet. Besides, any call can fail with
+ *     ECONNRESET    the server ended the connection, or it broke
+ *     ECONNABORTED  the server didn't take the request, or didn't answer it, within the connection's bound
+ *     EPROTO        what came is no answer to this call
+ *     ENOMEM        no memory for the answer
+ *     EBUSY         (rule 0) a call was started and isn't finished
+ * The first four lose the connection: each later call on it fails with the same error. Rules 1 and 2 don't come.
+ *
+ * Ends. A call that doesn't block ends within the connection's bound. A call that blocks ends when it is served, by its moment
+ * or by a signal; the server decides which came first, so a call that fails had no effect. It tells the server, and waits for
+ * the answer to that at most for the connection's bound. Only where the connection is lost is it unknown what a call did.
+ *
+ * Units. `until` is a moment of CLOCK_REALTIME, or NULL for no end. Bounds are in milliseconds; 0 is no bound. Sizes are in bytes.
+ * A description is the number that an open gave. It belongs to the session that opened it.
+ *
+ * Threads. A connection is for one thread at a time. Different connections are independent of each other. The library keeps
+ * nothing besides them, starts no thread, and changes no signal's handling. After fork one process alone may use a connection;
+ * mqs_disconnect in the other closes its copy and leaves the session alone. */
+#ifndef MQSERVE_H
+#define MQSERVE_H
+
+#include <stddef.h>
+#include <stdint.h>
+#include <sys/types.h>
+#include <time.h>
+
+#ifdef __cplusplus
+extern "C" {
+#endif
+#pragma GCC visibility push(default)
+
+#define MQS_VERSION "0.1.0"
+
+struct mqs;
+
+/* ---- Connections ---- */
+
+/* Connects to `address`, HOST:PORT (a name, or an IP address; [HOST]:PORT for IPv6), and starts a session with `key`.
+ * `answer_ms` is the connection's bound, and that of this call but for the look-up of a name.
+ * Errors: EINVAL (address, or a key of more than 65,535 bytes), connect's, EACCES (rule 31: no user has the key),
+ * ETIMEDOUT (no answer to the hello: all workers of the server are busy, or this is no server). */
+struct mqs *mqs_connect(const char *address, const char *key, int answer_ms);
+
+/* The same over a connected stream socket, which then belongs to the connection; where the call fails it is closed. */
+struct mqs *mqs_attach(int fd, const char *key, int answer_ms);
+
+/* Ends the session: the server withdraws its call that blocks and closes all that it had open. NULL does nothing. */
+void mqs_disconnect(struct mqs *c);
+
+/* The socket, for poll: readable when an answer or something unasked may be there. Only for waiting. */
+int mqs_fd(const struct mqs *c);
+
+/* Moves the socket to a number of at least `least`. Errors: EMFILE, EINVAL as fcntl(F_DUPFD_CLOEXEC). */
+int mqs_move_fd(struct mqs *c, int least);
+
+/* Sets the connection's bound. */
+void mqs_set_bound(struct mqs *c, int answer_ms);
+
+/* The session's number, by which others give it descriptions. */
+uint64_t mqs_session(const struct mqs *c);
+
+/* 0, or the error with which the connection was lost. */
+int mqs_lost(const struct mqs *c);
+
+/* The rule that refused the last call on this connection, or 0. */
+int mqs_rule(const struct mqs *c);
+
+/* The error of a rule, and its name; EPROTO and "" for a number that is no rule. */
+int mqs_errno(int rule);
+const char *mqs_rule_name(int rule);
+
+/* ---- Queues ---- */
+
+enum mqs_access { MQS_READ = 1, MQS_WRITE = 2, MQS_BOTH = 3 };
+enum mqs_flags { MQS_CREATE = 1, MQS_EXCLUSIVE = 2, MQS_NONBLOCK = 4 };
+
+struct mqs_attributes { uint32_t messages, message_size; };
+struct mqs_state { int nonblock; uint32_t messages, message_size, messages_now; };
+
+/* Opens a queue. `mode` and `given` matter where it is created; given NULL: the server's 10 messages of 8,192 bytes.
+ * Names may have any length: the server judges them. One of more than 65,535 bytes is ENAMETOOLONG here.
+ * Errors: EINVAL (access, flags), rules 4, 5, 11, 13 to 16, 20, 22 to 24. */
+int mqs_mq_open(struct mqs *c, const char *name, int access, int flags, unsigned mode, const struct mqs_attributes *given,
+                uint64_t *description);
+int mqs_mq_close(struct mqs *c, uint64_t description);                       /* rule 8 */
+int mqs_mq_unlink(struct mqs *c, const char *name);                          /* rules 4, 5, 11, 13, 16, 17 */
+
+/* Sends. Blocks while the queue is full, unless the description has NONBLOCK. Errors: EMSGSIZE (more than 16,777,287 bytes),
+ * EINVAL (until), EINTR, ETIMEDOUT, rules 8, 9, 25, 26, 29. */
+int mqs_mq_send(struct mqs *c, uint64_t description, const void *data, size_t size, uint32_t priority,
+                const struct timespec *until);
+
+/* Receives into `size` bytes, at least the queue's message size, and returns the message's. Blocks while the queue is empty.
+ * priority may be NULL. Errors: EINVAL (until), EINTR, ETIMEDOUT, rules 8, 10, 27, 29. */
+ssize_t mqs_mq_receive(struct mqs *c, uint64_t description, void *data, size_t size, uint32_t *priority,
+                       const struct timespec *until);
+
+int mqs_mq_getattr(struct mqs *c, uint64_t description, struct mqs_state *state);              /* rule 8 */
+int mqs_mq_setattr(struct mqs *c, uint64_t description, int nonblock, struct mqs_state *old);  /* rule 8; old may be NULL */
+
+/* Registers for one notice, or takes that back (`on` 0). Rules 8, 28. */
+int mqs_mq_notify(struct mqs *c, uint64_t description, int on);
+
+/* Gives the description to another live session. Rules 8 (also a semaphore's), 24, 33. */
+int mqs_mq_give(struct mqs *c, uint64_t description, uint64_t session);
+
+/* ---- Semaphores ---- */
+
+/* Opens a semaphore, with MQS_CREATE and MQS_EXCLUSIVE alone. Errors: EINVAL (flags), rules 4, 5, 11, 13 to 16, 21, 24. */
+int mqs_sem_open(struct mqs *c, const char *name, int flags, unsigned mode, uint32_t value, uint64_t *description);
+int mqs_sem_close(struct mqs *c, uint64_t description);                      /* rule 8 */
+int mqs_sem_unlink(struct mqs *c, const char *name);                         /* rules 4, 5, 11, 13, 16, 17 */
+int mqs_sem_post(struct mqs *c, uint64_t description);                       /* rules 8, 30 */
+int mqs_sem_trywait(struct mqs *c, uint64_t description);                    /* rules 8, 29 */
+int mqs_sem_getvalue(struct mqs *c, uint64_t description, uint32_t *value);  /* rule 8 */
+
+/* Blocks while the value is 0. Errors: EINVAL (until), EINTR, ETIMEDOUT, rule 8. */
+int mqs_sem_wait(struct mqs *c, uint64_t description, const struct timespec *until);
+
+/* ---- Names, modes and the trail ---- */
+
+enum mqs_family { MQS_QUEUES = 1, MQS_SEMAPHORES = 2 };
+
+struct mqs_facts { uint32_t owner, group; unsigned mode; };
+struct mqs_record { uint64_t place, session; int call, rule; const char *name; size_t name_size; };
+
+/* The session's mask, octal 022 at first. Returns the mask before. */
+int mqs_umask(struct mqs *c, unsigned mask);
+
+/* Owner, group and mode of a name's object; name NULL: of the family's directory. owner and group -1: as they are.
+ * Errors: EINVAL (family; owner or group out of range), rules 4, 5, 11, 13; of chmod 18, of chown 19. */
+int mqs_stat(struct mqs *c, int family, const char *name, struct mqs_facts *facts);
+int mqs_chmod(struct mqs *c, int family, const char *name, unsigned mode);
+int mqs_chown(struct mqs *c, int family, const char *name, int64_t owner, int64_t group);
+
+/* One page of at most 1,000 names, in the order of creation, from position `start`. Returns how many there were; 0 is the end.
+ * `each` gets each name (no zero byte behind it) until it answers other than 0. It must make no call on this connection.
+ * Errors: EINVAL (family), rules 11 and 12. */
+int mqs_list(struct mqs *c, int family, uint32_t start, int (*each)(const char *name, size_t size, void *arg), void *arg);
+
+/* The bytes that a user's queues may take. Rules 6, 7, 21. */
+int mqs_set_limit(struct mqs *c, uint32_t user, uint64_t bytes);
+
+/* One page of at most 1,000 records of the trail from place `start`, as mqs_list. session is UINT64_MAX for a hello, call
+ * the number of docs/FRAMES.md, rule 0 where accepted. Rule 6. */
+int mqs_audit(struct mqs *c, uint64_t start, int (*each)(const struct mqs_record *record, void *arg), void *arg);
+
+/* ---- What comes unasked ---- */
+
+enum mqs_unasked { MQS_NOTICE = 78, MQS_TAKEN = 79 };
+
+/* The oldest thing that came unasked: 1 with *what, MQS_NOTICE (a message came to the empty queue) or MQS_TAKEN (another
+ * session gave this description), and its description. 0 where there is none; doesn't wait. The newest 1,024 are kept. */
+int mqs_next_unasked(struct mqs *c, int *what, uint64_t *description);
+
+/* ---- Calls that block, in parts ----
+ *
+ * For programs with a loop of their own: start the call; wait, or poll mqs_fd and then wait with a moment that has passed;
+ * and finish. No other call may be made in between but mqs_next_unasked.
+ *
+ * mqs_wait: 0 if the answer is there. -1 if it isn't, with EINTR or ETIMEDOUT; the call then goes on at the server. With `until`
+ *     NULL it goes on after a signal whose handler has SA_RESTART; with a moment it ends with EINTR then too. EINVAL: nothing
+ *     was started, or `until` is no moment.
+ * mqs_wait_bound: the same for a call that can't block, by a description with NONBLOCK: waits for the connection's bound
+ *     whatever signals come, and then the connection is lost.
+ * mqs_stop: withdraws the call. 1: it is withdrawn and over. 0: its answer came first, and finish takes it.
+ * mqs_finish: the call's own outcome; never waits. EAGAIN: the answer isn't there. EINVAL: nothing was started. */
+int mqs_start_send(struct mqs *c, uint64_t description, const void *data, size_t size, uint32_t priority);
+int mqs_start_receive(struct mqs *c, uint64_t description, size_t size);
+int mqs_start_sem_wait(struct mqs *c, uint64_t description);
+int mqs_wait(struct mqs *c, const struct timespec *until);
+int mqs_wait_bound(struct mqs *c);
+int mqs_stop(struct mqs *c);
+int mqs_finish(struct mqs *c);                                                                  /* a send or a semaphore's wait */
+ssize_t mqs_finish_receive(struct mqs *c, void *data, size_t size, uint32_t *priority);         /* size: that of its start */
+
+#pragma GCC visibility pop
+#ifdef __cplusplus
+}
+#endif
+#endif

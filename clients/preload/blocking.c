@@ -1,0 +1,191 @@
+/* blocking.c: sends, receives and waits. First home is asked, where nothing blocks. What would block goes to a side. */
+#include "preload.h"
+
+#include <errno.h>
+#include <sys/timerfd.h>
+#include <unistd.h>
+
+enum { WOULD_BLOCK = 29, FIRST_PAUSE_NS = 1000000, LAST_PAUSE_NS = 64000000 };
+
+/* ---- On home ---- */
+
+static int start(struct mqs *c, uint64_t description, const struct job *j)
+{
+    if (j->operation == SENDS) return mqs_start_send(c, description, j->data, j->size, j->priority);
+    if (j->operation == RECEIVES) return mqs_start_receive(c, description, j->size);
+    return mqs_start_sem_wait(c, description);
+}
+
+static ssize_t finish(struct mqs *c, struct job *j)
+{
+    return j->operation == RECEIVES ? mqs_finish_receive(c, j->data, j->size, &j->priority) : mqs_finish(c);
+}
+
+/* The kernel sends a notice's signal before mq_send returns. The notice of this send stands before the answer of a further call. */
+static void take_own_notice(struct mqs *c, uint64_t description)
+{
+    struct mqs_state state;
+    take_notices();
+    if (registrations && mqs_mq_getattr(c, description, &state) == 0) take_notices();
+}
+
+/* Asks home. would_block says whether the call has to wait. */
+static ssize_t attempt(struct job *j, int *would_block)
+{
+    *would_block = 0;
+    if (bring(j->object, HOME) < 0) return -1;
+    struct mqs *c = sides[HOME].connection;
+    uint64_t description = j->object->at[HOME];
+    ssize_t r = -1;
+    if (j->operation == WAITS) r = mqs_sem_trywait(c, description);
+    else if (start(c, description, j) == 0 && mqs_wait_bound(c) == 0) r = finish(c, j);
+    int error = errno;
+    *would_block = r < 0 && mqs_rule(c) == WOULD_BLOCK;
+    if (registrations && j->operation == SENDS && r == 0) take_own_notice(c, description);
+    errno = error;
+    return r;
+}
+
+/* ---- Cancellation ---- */
+
+struct blocked { struct job *job; int side, timer; };
+
+/* What a call took in the moment in which it was cancelled is put back, a message behind others of its priority. */
+static void put_back(const struct job *j, ssize_t size)
+{
+    if (j->operation == SENDS || bring(j->object, HOME) < 0) return;
+    struct mqs *c = sides[HOME].connection;
+    uint64_t description = j->object->at[HOME];
+    if (j->operation == WAITS) mqs_sem_post(c, description);
+    else if (mqs_start_send(c, description, j->data, (size_t)size, j->priority) == 0 && mqs_wait_bound(c) == 0) mqs_finish(c);
+}
+
+static void on_cancel(void *arg)
+{
+    struct blocked *b = arg;
+    struct entry e;
+    hold(&e);
+    if (b->side != HOME) {
+        struct mqs *c = sides[b->side].connection;
+        if (mqs_stop(c) == 0) {
+            ssize_t size = finish(c, b->job);
+            if (size >= 0) put_back(b->job, size);
+        }
+        free_side(b->side);
+    }
+    if (b->timer >= 0) close(b->timer);
+    drop(b->job->object);
+    leave(&e);
+}
+
+/* ---- On a side ---- */
+
+static int wait_open_to_signals(struct blocked *b, const struct timespec *until, const struct entry *e)
+{
+    int r, error;
+    struct mqs *c = sides[b->side].connection;
+    pthread_cleanup_push(on_cancel, b);
+    let_signals_in(e);
+    r = mqs_wait(c, until);
+    error = errno;
+    keep_signals_out();
+    pthread_cleanup_pop(0);
+    errno = error;
+    return r;
+}
+
+/* The lock isn't held: the side is this call's alone. */
+static ssize_t block_on_side(struct job *j, int side, const struct timespec *until, const struct entry *e)
+{
+    struct mqs *c = sides[side].connection;
+    struct blocked b = { j, side, -1 };
+    if (start(c, j->object->at[side], j) < 0) return -1;
+    if (wait_open_to_signals(&b, until, e) < 0) {
+        int why = errno;
+        if (mqs_lost(c)) return -1;
+        int stopped = mqs_stop(c);
+        if (stopped != 0) return stopped > 0 ? fail(why) : -1;
+    }
+    return finish(c, j);
+}
+
+/* ---- Without a side ---- */
+
+/* Whether the moment has come; else no pause is longer than the time until then. */
+static int is_over(const struct timespec *until, long *pause_ns)
+{
+    struct timespec now;
+    if (!until) return 0;
+    clock_gettime(CLOCK_REALTIME, &now);
+    if (until->tv_sec != now.tv_sec && until->tv_sec != now.tv_sec + 1) return until->tv_sec < now.tv_sec;
+    int64_t left = (until->tv_sec - now.tv_sec) * INT64_C(1000000000) + until->tv_nsec - now.tv_nsec;
+    if (left > 0 && left < *pause_ns) *pause_ns = (long)left;
+    return left <= 0;
+}
+
+/* A read of a timer goes on after a signal as the call itself would, by its handler's SA_RESTART. */
+static int pause_open_to_signals(struct blocked *b, long pause_ns, const struct entry *e)
+{
+    struct itimerspec once = { { 0, 0 }, { 0, pause_ns } };
+    uint64_t times;
+    ssize_t r;
+    int error;
+    timerfd_settime(b->timer, 0, &once, NULL);
+    unlock_home();
+    pthread_cleanup_push(on_cancel, b);
+    let_signals_in(e);
+    r = read(b->timer, &times, sizeof times);
+    error = errno;
+    keep_signals_out();
+    pthread_cleanup_pop(0);
+    lock_home();
+    errno = error;
+    return r < 0 ? -1 : 0;
+}
+
+static ssize_t ask_again(struct job *j, const struct timespec *until, const struct entry *e)
+{
+    struct blocked b = { j, HOME, timerfd_create(CLOCK_MONOTONIC, TFD_CLOEXEC) };
+    if (b.timer < 0) return -1;
+    ssize_t r;
+    int would_block = 1;
+    for (long pause_ns = FIRST_PAUSE_NS; would_block; pause_ns = pause_ns < LAST_PAUSE_NS ? 2 * pause_ns : pause_ns) {
+        long this_pause = pause_ns;
+        if (is_over(until, &this_pause)) r = fail(ETIMEDOUT);
+        else r = pause_open_to_signals(&b, this_pause, e);
+        if (r < 0) break;
+        r = attempt(j, &would_block);
+    }
+    int error = errno;
+    close(b.timer);
+    errno = error;
+    return r;
+}
+
+/* ---- All of it ---- */
+
+ssize_t perform(struct job *j, const struct timespec *until, struct entry *e)
+{
+    struct object *o = j->object;
+    int would_block;
+    long any_pause = LAST_PAUSE_NS;
+    ssize_t r = attempt(j, &would_block);
+    if (!would_block) return r;
+    if (o->nonblock && atomic_load(o->nonblock)) return fail(EAGAIN);
+    if (is_over(until, &any_pause)) return fail(ETIMEDOUT);
+    int side = side_for(o);
+    o->references++;
+    if (side) {
+        sides[side].busy = 1;
+        unlock_home();
+        r = block_on_side(j, side, until, e);
+        int error = errno;
+        lock_home();
+        free_side(side);
+        errno = error;
+    } else {
+        r = ask_again(j, until, e);
+    }
+    drop(o);
+    return r;
+}

@@ -1,0 +1,96 @@
+/* names.c: unlinks. With MQSERVE_KEEP_NAMES=1 the unlink of a name that the process has open is put off to its end, or to its
+ * next creation of that name: children can then open the object by its name. */
+#include "preload.h"
+
+#include <errno.h>
+#include <fcntl.h>
+#include <stdlib.h>
+#include <string.h>
+#include <unistd.h>
+
+struct kept { struct kept *next; int family; pid_t process; char name[NAME_ROOM]; };
+static struct kept *kept;
+
+static struct kept **find_kept(int family, const char *name)
+{
+    struct kept **k = &kept;
+    while (*k && ((*k)->family != family || strcmp((*k)->name, name))) k = &(*k)->next;
+    return k;
+}
+
+/* Whether this process has unlinked the name, and the server doesn't know yet. */
+int is_kept(int family, const char *name)
+{
+    struct kept *k = *find_kept(family, name);
+    return k && k->process == getpid();
+}
+
+static int keep(int family, const char *name)
+{
+    struct kept *k = calloc(1, sizeof *k);
+    if (!k) return -1;
+    *k = (struct kept){ .next = kept, .family = family, .process = getpid() };
+    memccpy(k->name, name, 0, NAME_ROOM - 1);
+    kept = k;
+    return 0;
+}
+
+static int unlink_now(int family, const char *name)
+{
+    struct mqs *c = home();
+    if (!c) return -1;
+    return family == MQS_QUEUES ? mqs_mq_unlink(c, name) : mqs_sem_unlink(c, name);
+}
+
+void end_kept(int family, const char *name)
+{
+    struct kept **k = find_kept(family, name), *one = *k;
+    if (!one) return;
+    *k = one->next;
+    if (one->process == getpid()) unlink_now(family, name);
+    free(one);
+}
+
+void end_all_kept(void)
+{
+    while (kept) end_kept(kept->family, kept->name);
+}
+
+static void count_bound(struct object *o, void *count) { *(int *)count += !o->unlinked; }
+
+static void mark(struct object *o, void *keeps)
+{
+    o->unlinked = 1;
+    o->gone |= !*(int *)keeps;
+}
+
+int unlink_name(int family, const char *name)
+{
+    struct entry e;
+    int bound = 0, r;
+    enter(&e);
+    if (settings.keep_names) for_each_named(family, name, count_bound, &bound);
+    int was_kept = is_kept(family, name), keeps = !was_kept && bound > 0 && keep(family, name) == 0;
+    if (was_kept) r = fail(ENOENT);
+    else r = keeps ? 0 : unlink_now(family, name);
+    if (r == 0) for_each_named(family, name, mark, &keeps);
+    leave(&e);
+    return r;
+}
+
+/* The mode without the bits of the program's mask. No call tells the mask without changing it for other threads too. */
+unsigned mode_under_umask(unsigned mode)
+{
+    char text[4096];
+    int fd = open("/proc/self/status", O_RDONLY | O_CLOEXEC);
+    ssize_t size = fd < 0 ? -1 : read(fd, text, sizeof text - 1);
+    if (fd >= 0) close(fd);
+    text[size < 0 ? 0 : size] = 0;
+    const char *at = strstr(text, "Umask:");
+    return mode & 0777 & ~(at ? (unsigned)strtoul(at + 6, NULL, 8) : 022u);
+}
+
+int open_flags(int oflag)
+{
+    return (oflag & O_CREAT ? MQS_CREATE : 0) | (oflag & O_EXCL ? MQS_EXCLUSIVE : 0);
+}

@@ -1,0 +1,165 @@
+/* notices.c: registrations of mq_notify, which are home's. Who has the lock takes the notices that came among answers. While there
+ * are registrations a thread of the library's own waits for those that come at other times. */
+#include "preload.h"
+
+#include <errno.h>
+#include <fcntl.h>
+#include <poll.h>
+#include <stdlib.h>
+#include <string.h>
+#include <sys/eventfd.h>
+#include <sys/syscall.h>
+#include <unistd.h>
+
+int registrations;
+static int listening, wake = -1;
+
+/* ---- Delivery ---- */
+
+struct call { void (*function)(union sigval); union sigval value; };
+
+static void *run_call(void *arg)
+{
+    struct call call = *(struct call *)arg;
+    sigset_t none;
+    free(arg);
+    sigemptyset(&none);
+    pthread_sigmask(SIG_SETMASK, &none, NULL);
+    call.function(call.value);
+    return NULL;
+}
+
+static void start_thread(const struct object *o)
+{
+    struct call *call = malloc(sizeof *call);
+    pthread_t thread;
+    if (!call) return;
+    *call = (struct call){ o->event.sigev_notify_function, o->event.sigev_value };
+    if (pthread_create(&thread, &o->attributes, run_call, call)) {
+        say("mq_notify", "no thread for a notice");
+        free(call);
+    }
+}
+
+/* The notice doesn't tell who sent the message: si_pid and si_uid are 0. */
+static void send_signal(const struct object *o)
+{
+    siginfo_t info;
+    memset(&info, 0, sizeof info);
+    info.si_signo = o->event.sigev_signo;
+    info.si_code = SI_MESGQ;
+    info.si_value = o->event.sigev_value;
+    syscall(SYS_rt_sigqueueinfo, getpid(), o->event.sigev_signo, &info);
+}
+
+static void deliver(struct object *o)
+{
+    if (o->event.sigev_notify == SIGEV_SIGNAL) send_signal(o);
+    if (o->event.sigev_notify == SIGEV_THREAD) start_thread(o);
+    end_registration(o);
+}
+
+void take_notices(void)
+{
+    int what, error = errno;
+    uint64_t description;
+    while (registrations && sides[HOME].connection && mqs_next_unasked(sides[HOME].connection, &what, &description) == 1)
+        for (int i = 0; what == MQS_NOTICE && i < queues_top; i++)
+            if (queues[i] && queues[i]->registered && queues[i]->at[HOME] == description) {
+                deliver(queues[i]);
+                break;
+            }
+    errno = error;
+}
+
+/* ---- Registrations ---- */
+
+void end_registration(struct object *o)
+{
+    if (!o->registered) return;
+    o->registered = 0;
+    registrations--;
+    if (o->event.sigev_notify == SIGEV_THREAD) pthread_attr_destroy(&o->attributes);
+}
+
+/* POSIX takes the thread's attributes as they are now. Those of a stack of the program's own and of processors aren't copied. */
+static int copy_attributes(pthread_attr_t *to, const pthread_attr_t *from)
+{
+    size_t size;
+    int number;
+    struct sched_param parameters;
+    int error = pthread_attr_init(to);
+    if (error) return error;
+    pthread_attr_setdetachstate(to, PTHREAD_CREATE_DETACHED);
+    if (!from) return 0;
+    if (!pthread_attr_getstacksize(from, &size)) pthread_attr_setstacksize(to, size);
+    if (!pthread_attr_getguardsize(from, &size)) pthread_attr_setguardsize(to, size);
+    if (!pthread_attr_getinheritsched(from, &number)) pthread_attr_setinheritsched(to, number);
+    if (!pthread_attr_getschedpolicy(from, &number)) pthread_attr_setschedpolicy(to, number);
+    if (!pthread_attr_getschedparam(from, &parameters)) pthread_attr_setschedparam(to, &parameters);
+    return 0;
+}
+
+/* Keeps what is to be done, for a registration that the server has accepted. */
+int keep_event(struct object *o, const struct sigevent *event)
+{
+    o->event = *event;
+    if (event->sigev_notify == SIGEV_THREAD) {
+        int error = copy_attributes(&o->attributes, event->sigev_notify_attributes);
+        if (error) return fail(error);
+    }
+    o->registered = 1;
+    registrations++;
+    return 0;
+}
+
+/* ---- The listener ---- */
+
+static int home_fd(void)
+{
+    struct mqs *c = sides[HOME].connection;
+    return registrations && c && !mqs_lost(c) ? mqs_fd(c) : -1;
+}
+
+static void *listen_on(void *arg)
+{
+    struct entry e;
+    uint64_t count;
+    (void)arg;
+    for (;;) {
+        hold(&e);
+        take_notices();
+        struct pollfd p[2] = { { wake, POLLIN, 0 }, { home_fd(), POLLIN, 0 } };
+        leave(&e);
+        poll(p, 2, -1);
+        if (p[0].revents && read(wake, &count, sizeof count) < 0) return NULL;
+    }
+}
+
+/* Starts the listener, or has it look at home again. It inherits the mask, in which all signals are blocked. */
+int start_listening(void)
+{
+    pthread_t thread;
+    uint64_t one = 1;
+    if (listening) return write(wake, &one, sizeof one) < 0 ? -1 : 0;
+    if (wake < 0) {
+        int fd = eventfd(0, EFD_CLOEXEC);
+        if (fd < 0) return -1;
+        wake = fcntl(fd, F_DUPFD_CLOEXEC, FIRST_FD);
+        if (wake < 0) wake = fd;
+        else close(fd);
+    }
+    int error = pthread_create(&thread, NULL, listen_on, NULL);
+    if (error) return fail(error);
+    pthread_detach(thread);
+    listening = 1;
+    return 0;
+}
+
+/* In a child of fork, which has no such thread. */
+void forget_listener(void)
+{
+    if (wake >= 0) close(wake);
+    wake = -1;
+    listening = 0;
+}

@@ -1,0 +1,86 @@
+/* settings.c: reads the environment when the library is loaded, and ends what must end with the process. */
+#include "preload.h"
+
+#include <errno.h>
+#include <fcntl.h>
+#include <limits.h>
+#include <stdio.h>
+#include <stdlib.h>
+#include <string.h>
+#include <unistd.h>
+
+enum { KEY_ROOM = 65536 };
+
+struct settings settings = { .spares = 1, .hello_ms = 5000, .answer_ms = 60000 };
+
+/* One line on standard error, where MQSERVE_DEBUG is set. */
+void say(const char *what, const char *why)
+{
+    int error = errno;
+    if (settings.debug) dprintf(STDERR_FILENO, "mqserve-preload: %s: %s\n", what, why);
+    errno = error;
+}
+
+static void read_number(const char *variable, int least, int most, int *number)
+{
+    const char *text = getenv(variable);
+    if (!text) return;
+    char *end;
+    long value = strtol(text, &end, 10);
+    if (end == text || *end || value < least || value > most) say(variable, "not a number in its range; ignored");
+    else *number = (int)value;
+}
+
+/* The first line of a file, which lasts until the process ends. */
+static char *first_line(const char *path)
+{
+    char *line = malloc(KEY_ROOM);
+    int fd = open(path, O_RDONLY | O_CLOEXEC);
+    ssize_t size = line && fd >= 0 ? read(fd, line, KEY_ROOM - 1) : -1;
+    if (fd >= 0) close(fd);
+    if (size < 0) {
+        free(line);
+        return NULL;
+    }
+    line[size] = 0;
+    line[strcspn(line, "\r\n")] = 0;
+    return line;
+}
+
+static const char *find_key(void)
+{
+    const char *text = getenv("MQSERVE_KEY"), *path = getenv("MQSERVE_KEY_FILE");
+    if (text) return strdup(text);
+    if (!path) {
+        say("MQSERVE_KEY", "not set, nor MQSERVE_KEY_FILE; opens will fail");
+        return NULL;
+    }
+    char *line = first_line(path);
+    if (!line) say(path, "can't be read; opens will fail");
+    return line;
+}
+
+__attribute__((constructor)) static void begin(void)
+{
+    find_libc();
+    const char *address = getenv("MQSERVE");
+    if (!address || !*address) return;
+    settings.debug = getenv("MQSERVE_DEBUG") != NULL;
+    read_number("MQSERVE_SPARES", 0, SIDES - 1, &settings.spares);
+    read_number("MQSERVE_KEEP_NAMES", 0, 1, &settings.keep_names);
+    read_number("MQSERVE_TIMEOUT_MS", 1, INT_MAX, &settings.hello_ms);
+    read_number("MQSERVE_ANSWER_MS", 1, INT_MAX, &settings.answer_ms);
+    settings.key = find_key();
+    owner = getpid();
+    if (watch_forks() == 0) settings.address = strdup(address);
+    if (!settings.address) say("start", "no memory; the system's own calls stay");
+}
+
+__attribute__((destructor)) static void end(void)
+{
+    struct entry e;
+    if (!settings.address || owner != getpid()) return;
+    hold(&e);
+    end_all_kept();
+    leave(&e);
+}

@@ -1,0 +1,345 @@
+"""The tests of mqserve.py, beside a server: MQSERVE and MQSERVE_KEY, as tests/with_server sets them. What posix_ipc's documentation promises,
+and what becomes of a server that lies or falls silent."""
+import os
+import signal
+import socket
+import tempfile
+import threading
+import time
+import unittest
+
+import mqserve as ipc
+
+
+def rule_of(test, call, *words, **named):
+    """The rule that refuses the call."""
+    with test.assertRaises(Exception) as caught:
+        call(*words, **named)
+    return getattr(caught.exception, "rule", 0)
+
+
+def in_child(call):
+    """The status of a child that makes the call: 0 if nothing was raised."""
+    pid = os.fork()
+    if pid == 0:
+        status = 1
+        try:
+            call()
+            status = 0
+        finally:
+            os._exit(status)
+    return os.waitstatus_to_exitcode(os.waitpid(pid, 0)[1]) if hasattr(os, "waitstatus_to_exitcode") else os.waitpid(pid, 0)[1]
+
+
+class Thing(unittest.TestCase):
+    """Removes and closes what a test made."""
+
+    def keep(self, thing):
+        self.addCleanup(self.end, thing)
+        return thing
+
+    @staticmethod
+    def end(thing):
+        for call in (thing.unlink, thing.close):
+            try:
+                call()
+            except (ipc.ExistentialError, ipc.ConnectionLost):
+                pass
+
+
+class Semaphores(Thing):
+    def setUp(self):
+        self.sem = self.keep(ipc.Semaphore(None, ipc.O_CREX, initial_value=1))
+
+    def test_create_twice(self):
+        self.assertRaises(ipc.ExistentialError, ipc.Semaphore, self.sem.name, ipc.O_CREX)
+
+    def test_absent(self):
+        self.assertRaises(ipc.ExistentialError, ipc.Semaphore, "/absent")
+
+    def test_exclusive_needs_create(self):
+        self.assertRaises(ValueError, ipc.Semaphore, "/absent", ipc.O_EXCL)
+
+    def test_open_again(self):
+        other = ipc.Semaphore(self.sem.name)
+        other.acquire()
+        self.assertEqual(self.sem.value, 0)
+        other.close()
+
+    def test_acquire_and_release(self):
+        self.sem.acquire()
+        self.assertEqual(self.sem.value, 0)
+        self.assertRaises(ipc.BusyError, self.sem.acquire, 0)
+        start = time.monotonic()
+        self.assertRaises(ipc.BusyError, self.sem.acquire, 0.2)
+        self.assertGreater(time.monotonic() - start, 0.19)
+        self.sem.release()
+        self.assertEqual(self.sem.value, 1)
+
+    def test_negative_timeout(self):
+        self.assertRaises(ValueError, self.sem.acquire, -1)
+
+    def test_with(self):
+        with self.sem as s:
+            self.assertEqual(s.value, 0)
+        self.assertEqual(self.sem.value, 1)
+
+    def test_threads(self):
+        self.sem.acquire()
+        got = []
+        threads = [threading.Thread(target=lambda: (self.sem.acquire(), got.append(1))) for _ in range(5)]
+        for t in threads:
+            t.start()
+        time.sleep(0.2)
+        self.assertEqual(got, [])
+        for _ in threads:
+            self.sem.release()
+        for t in threads:
+            t.join(5)
+        self.assertEqual(len(got), 5)
+
+    def test_unlinked_still_works(self):
+        self.sem.unlink()
+        self.sem.acquire()
+        self.assertRaises(ipc.BusyError, self.sem.acquire, 0.1)
+        threading.Timer(0.1, self.sem.release).start()
+        self.sem.acquire(5)
+
+    def test_unlinked_by_function(self):
+        ipc.unlink_semaphore(self.sem.name)
+        self.assertRaises(ipc.ExistentialError, ipc.unlink_semaphore, self.sem.name)
+        self.assertRaises(ipc.ExistentialError, ipc.Semaphore, self.sem.name)
+
+    def test_fork(self):
+        self.sem.acquire()
+        self.assertEqual(in_child(self.sem.release), 0)
+        self.sem.acquire(5)
+
+    def test_handler_that_raises(self):
+        def stop(*_):
+            raise KeyboardInterrupt
+        self.sem.acquire()
+        signal.signal(signal.SIGALRM, stop)
+        signal.setitimer(signal.ITIMER_REAL, 0.2)
+        self.assertRaises(KeyboardInterrupt, self.sem.acquire)
+        self.sem.release()
+        self.sem.acquire(5)
+
+    def test_handler_that_returns(self):
+        self.sem.acquire()
+        signal.signal(signal.SIGALRM, lambda *_: self.sem.release())
+        signal.setitimer(signal.ITIMER_REAL, 0.2)
+        self.sem.acquire(5)
+
+    def test_values(self):
+        self.assertEqual(rule_of(self, ipc.Semaphore, None, ipc.O_CREX, 0o600, 2147483648), 21)
+        self.assertRaises(ValueError, ipc.Semaphore, None, ipc.O_CREX, 0o600, -1)
+        full = self.keep(ipc.Semaphore(None, ipc.O_CREX, initial_value=ipc.SEMAPHORE_VALUE_MAX))
+        self.assertEqual(rule_of(self, full.release), 30)
+        self.assertEqual(full.value, ipc.SEMAPHORE_VALUE_MAX)
+
+    def test_closed(self):
+        self.sem.close()
+        for call in (self.sem.close, self.sem.acquire, self.sem.release, lambda: self.sem.value):
+            self.assertRaises(ipc.ExistentialError, call)
+
+    def test_mode(self):
+        old = os.umask(0o777)
+        try:
+            closed = self.keep(ipc.Semaphore(None, ipc.O_CREX, 0o600))
+            self.assertEqual(rule_of(self, ipc.Semaphore, closed.name), 15)
+        finally:
+            os.umask(old)
+
+
+class Queues(Thing):
+    def setUp(self):
+        self.q = self.keep(ipc.MessageQueue(None, ipc.O_CREX, max_messages=3, max_message_size=64))
+
+    def test_priorities(self):
+        for text, prio in (("a", 1), ("b", 5), ("c", 5)):
+            self.q.send(text, priority=prio)
+        self.assertEqual(self.q.current_messages, 3)
+        self.assertRaises(ipc.BusyError, self.q.send, "d", 0.1)
+        self.assertEqual([self.q.receive() for _ in range(3)], [(b"b", 5), (b"c", 5), (b"a", 1)])
+        self.assertRaises(ipc.BusyError, self.q.receive, 0)
+
+    def test_sizes(self):
+        self.assertEqual((self.q.max_messages, self.q.max_message_size), (3, 64))
+        self.assertEqual(rule_of(self, self.q.send, "x" * 65), 26)
+        self.assertRaises(ValueError, self.q.send, "x", priority=32768)
+        self.q.send(b"")
+        self.assertEqual(self.q.receive(), (b"", 0))
+        self.q.send("\u20ac")
+        self.assertEqual(self.q.receive()[0], "\u20ac".encode())
+
+    def test_attributes_out_of_range(self):
+        self.assertEqual(rule_of(self, ipc.MessageQueue, None, ipc.O_CREX, max_messages=0), 20)
+        self.assertEqual(rule_of(self, ipc.MessageQueue, None, ipc.O_CREX, max_message_size=8193), 20)
+        self.assertRaises(ValueError, ipc.MessageQueue, None, ipc.O_CREX, max_messages=-1)
+        self.assertRaises(ValueError, ipc.MessageQueue, None, ipc.O_CREX, read=False, write=False)
+
+    def test_names(self):
+        self.assertEqual(rule_of(self, ipc.MessageQueue, "no slash", ipc.O_CREAT), 4)
+        self.assertEqual(rule_of(self, ipc.MessageQueue, "/" + "n" * 256, ipc.O_CREAT), 5)
+        self.assertRaises(ValueError, ipc.MessageQueue, "/" + "n" * 70000, ipc.O_CREAT)
+
+    def test_limit_of_bytes(self):
+        with self.assertRaises(OSError) as caught:
+            for i in range(30):
+                self.keep(ipc.MessageQueue(f"/limit{i}", ipc.O_CREX))
+        self.assertEqual(caught.exception.rule, 23)
+
+    def test_block(self):
+        self.q.block = False
+        self.assertRaises(ipc.BusyError, self.q.receive)
+        self.assertRaises(ipc.BusyError, self.q.receive, 5)
+
+    def test_blocked_receive(self):
+        threading.Timer(0.2, self.q.send, ("late",)).start()
+        self.assertEqual(self.q.receive(), (b"late", 0))
+
+    def test_blocked_send(self):
+        for _ in range(3):
+            self.q.send("x")
+        threading.Timer(0.2, self.q.receive).start()
+        self.q.send("y", 5)
+        self.assertEqual(self.q.current_messages, 3)
+
+    def test_each_message_once(self):
+        got = []
+        receivers = [threading.Thread(target=lambda: got.extend(self.q.receive(10)[0] for _ in range(25))) for _ in range(4)]
+        senders = [threading.Thread(target=lambda n=n: [self.q.send(f"{n} {i}") for i in range(25)]) for n in range(4)]
+        for t in receivers + senders:
+            t.start()
+        for t in receivers + senders:
+            t.join(30)
+        self.assertEqual(sorted(got), sorted(f"{n} {i}".encode() for n in range(4) for i in range(25)))
+
+    def test_fork(self):
+        self.assertEqual(in_child(lambda: self.q.send("child")), 0)
+        self.assertEqual(self.q.receive(5), (b"child", 0))
+
+    def test_notices(self):
+        came = threading.Event()
+        self.q.request_notification((lambda event: event.set(), came))
+        self.assertEqual(rule_of(self, self.q.request_notification, signal.SIGUSR1), 28)
+        self.q.send("x")
+        self.assertTrue(came.wait(5))
+        hits = []
+        signal.signal(signal.SIGUSR1, lambda *_: hits.append(1))
+        self.q.receive()
+        self.q.request_notification(int(signal.SIGUSR1))
+        self.assertEqual(in_child(lambda: self.q.send("y")), 0)
+        for _ in range(50):
+            time.sleep(0.02)
+        self.assertEqual(hits, [1])
+        self.q.receive()
+        self.q.request_notification(int(signal.SIGUSR1))
+        self.q.request_notification(None)
+        self.q.send("z")
+        time.sleep(0.1)
+        self.assertEqual(hits, [1])
+
+    def test_access(self):
+        reader = ipc.MessageQueue(self.q.name, write=False)
+        writer = ipc.MessageQueue(self.q.name, read=False)
+        self.assertEqual(rule_of(self, reader.send, "x"), 9)
+        self.assertEqual(rule_of(self, writer.receive), 10)
+        reader.close()
+        writer.close()
+        self.assertRaises(ipc.ExistentialError, reader.receive)
+        self.assertGreaterEqual(self.q.mqd, 0)
+
+    def test_texts(self):
+        self.assertIn(self.q.name, repr(self.q))
+        self.assertEqual(ipc.O_CREX, os.O_CREAT | os.O_EXCL)
+
+
+class Liar:
+    """A server that answers a hello and a mask, and then each call with the bytes that it was given; None is silence."""
+
+    def __init__(self, answer):
+        self.answer, self.listener = answer, socket.create_server(("127.0.0.1", 0))
+        self.address = "127.0.0.1:%d" % self.listener.getsockname()[1]
+        threading.Thread(target=self.serve, daemon=True).start()
+
+    def serve(self):
+        connection = self.listener.accept()[0]
+        for answer in (b"\0\0\0\x09A" + bytes(8), b"\0\0\0\x03D\0\x12", self.answer):
+            connection.recv(65536)
+            if answer is None:
+                time.sleep(2)
+            else:
+                connection.sendall(answer)
+        connection.close()
+
+
+class Connections(unittest.TestCase):
+    def ends(self, answer, seconds=0.3):
+        liar = Liar(answer)
+        c = ipc._Connection(liar.address, "key", 5.0)
+        c.bound = seconds
+        start = time.monotonic()
+        self.assertRaises(ipc.ConnectionLost, c.ask, ipc._MQ_CLOSE, bytes(8), ipc._DONE)
+        self.assertLess(time.monotonic() - start, seconds + 1)
+        self.assertTrue(c.lost)
+        self.assertRaises(ipc.ConnectionLost, c.ask, ipc._MQ_CLOSE, bytes(8), ipc._DONE)
+        liar.listener.close()
+
+    def test_lies(self):
+        for answer in (b"", b"\0\0", b"\0\0\0\0\0", b"\xff\xff\xff\xffB", b"\0\0\0\x02BB", b"\0\0\0\x01\0", b"\0\0\0\x01F", b"\0\0\0\x03L\0\0",
+                       b"\0\0\0\x03L\0\x22", b"\0\0\0\x06G\0\0\0\0x", b"\0\0\0\x09C" + bytes(8), b"\0\0\0\x03NN"):
+            with self.subTest(answer=answer):
+                self.ends(answer)
+
+    def test_silence(self):
+        self.ends(None)
+
+    def test_notices_without_end(self):
+        self.ends((b"\0\0\0\x09N" + bytes(8)) * 1000)
+
+    def test_wrong_key(self):
+        self.assertEqual(rule_of(self, ipc._Connection, os.environ["MQSERVE"], "nobody", 5.0), 31)
+
+    def test_no_server(self):
+        with socket.create_server(("127.0.0.1", 0)) as nobody:
+            address = "127.0.0.1:%d" % nobody.getsockname()[1]
+            self.assertRaises(ipc.BusyError, ipc._Connection, address, "ka1", 0.2)
+        self.assertRaises(ConnectionRefusedError, ipc._Connection, address, "ka1", 1.0)
+        self.assertRaises(ValueError, ipc._Connection, "nonsense", "ka1", 1.0)
+
+    def test_lost_home(self):
+        before = ipc._server
+        try:
+            ipc.use(os.environ["MQSERVE"], os.environ["MQSERVE_KEY"])
+            s = ipc.Semaphore(None, ipc.O_CREX)
+            ipc._server.home.socket.shutdown(socket.SHUT_RDWR)
+            self.assertRaises(ipc.ConnectionLost, s.release)
+            self.assertRaises(ipc.ConnectionLost, s.release)
+            again = ipc.Semaphore(s.name)
+            again.release()
+            self.assertRaises(ipc.ConnectionLost, s.release)
+            again.unlink()
+            again.close()
+        finally:
+            ipc._server = before
+
+    def test_key_file(self):
+        before = ipc._server
+        with tempfile.NamedTemporaryFile("w") as file:
+            file.write(os.environ["MQSERVE_KEY"] + "\n")
+            file.flush()
+            key = os.environ.pop("MQSERVE_KEY")
+            try:
+                ipc._server = None
+                self.assertRaises(ipc.PermissionsError, ipc.unlink_semaphore, "/absent")
+                os.environ["MQSERVE_KEY_FILE"] = file.name
+                self.assertRaises(ipc.ExistentialError, ipc.unlink_semaphore, "/absent")
+            finally:
+                os.environ["MQSERVE_KEY"] = key
+                ipc._server = before
+
+
+if __name__ == "__main__":
+    unittest.main()

@@ -1,0 +1,352 @@
+/* hostile.c: the library against servers that lie, stop at any byte, or say nothing. Each call must end as its case says, within its
+ * bound. The server is the other end of a pair of sockets, whose bytes are there before the call, or come as the case says. */
+#include "../c/connection.h"
+
+#include <errno.h>
+#include <poll.h>
+#include <pthread.h>
+#include <stdio.h>
+#include <stdlib.h>
+#include <string.h>
+#include <sys/socket.h>
+#include <unistd.h>
+
+enum { BOUND_MS = 200, LONG_MS = 20000, LATE_S = 10 };   /* LATE_S: how much later a busy machine may be */
+
+static int checks, faults;
+static int server;              /* the server's end */
+
+#define CHECK(condition) do { \
+        checks++; \
+        if (!(condition)) { \
+            faults++; \
+            printf("line %d: not so: %s (errno %s)\n", __LINE__, #condition, strerrorname_np(errno)); \
+        } \
+    } while (0)
+
+static const uint8_t started[] = { 0, 0, 0, 9, STARTED, 0, 0, 0, 0, 0, 0, 0, 5 };
+
+static void put(const void *bytes, size_t size)
+{
+    if (write(server, bytes, size) != (ssize_t)size) abort();
+}
+
+static struct mqs *fresh(void)
+{
+    int ends[2];
+    if (socketpair(AF_UNIX, SOCK_STREAM, 0, ends) < 0) abort();
+    server = ends[1];
+    put(started, sizeof started);
+    struct mqs *c = mqs_attach(ends[0], "key", BOUND_MS);
+    if (!c) abort();
+    return c;
+}
+
+static void end(struct mqs *c)
+{
+    mqs_disconnect(c);
+    close(server);
+}
+
+static double seconds(void)
+{
+    struct timespec t;
+    clock_gettime(CLOCK_MONOTONIC, &t);
+    return (double)t.tv_sec + (double)t.tv_nsec / 1e9;
+}
+
+static struct timespec in_ms(long ms)
+{
+    struct timespec t;
+    clock_gettime(CLOCK_REALTIME, &t);
+    t.tv_nsec += ms * 1000000;
+    t.tv_sec += t.tv_nsec / 1000000000;
+    t.tv_nsec %= 1000000000;
+    return t;
+}
+
+/* ---- One answer to one call ---- */
+
+enum kind { OPEN, CLOSE, ATTRIBUTES, VALUE_OF, STAT_OF, MASKS, LIST, TRAIL, SEND, RECEIVE, WAIT, KINDS };
+
+static int each_name(const char *name, size_t size, void *arg)
+{
+    for (size_t i = 0; i < size; i++) *(int *)arg += name[i];
+    return 0;
+}
+
+static int each_record(const struct mqs_record *record, void *arg) { return each_name(record->name, record->name_size, arg); }
+
+static long call(struct mqs *c, enum kind kind)
+{
+    uint64_t description;
+    uint32_t number;
+    struct mqs_state state;
+    struct mqs_facts facts;
+    char data[8];
+    int sum = 0;
+    struct timespec until = in_ms(100);
+    switch (kind) {
+    case OPEN: return mqs_mq_open(c, "/q", MQS_BOTH, 0, 0, NULL, &description);
+    case CLOSE: return mqs_mq_close(c, 1);
+    case ATTRIBUTES: return mqs_mq_getattr(c, 1, &state);
+    case VALUE_OF: return mqs_sem_getvalue(c, 1, &number);
+    case STAT_OF: return mqs_stat(c, MQS_QUEUES, "/q", &facts);
+    case MASKS: return mqs_umask(c, 0);
+    case LIST: return mqs_list(c, MQS_QUEUES, 0, each_name, &sum);
+    case TRAIL: return mqs_audit(c, 0, each_record, &sum);
+    case SEND: return mqs_mq_send(c, 1, "x", 1, 0, &until);
+    case RECEIVE: return mqs_mq_receive(c, 1, data, sizeof data, NULL, &until);
+    default: return mqs_sem_wait(c, 1, &until);
+    }
+}
+
+/* The frame that each call is glad of. */
+static const struct { uint8_t bytes[64]; size_t size; } honest[KINDS] = {
+    [OPEN] = { { 0, 0, 0, 9, OPENED, 0, 0, 0, 0, 0, 0, 0, 1 }, 13 },
+    [CLOSE] = { { 0, 0, 0, 1, DONE }, 5 },
+    [ATTRIBUTES] = { { 0, 0, 0, 14, ATTRS, 0, 0, 0, 0, 10, 0, 0, 0, 16, 0, 0, 0, 2 }, 18 },
+    [VALUE_OF] = { { 0, 0, 0, 5, VALUE, 0, 0, 0, 7 }, 9 },
+    [STAT_OF] = { { 0, 0, 0, 11, STAT, 0, 0, 3, 232, 0, 0, 3, 232, 1, 128 }, 15 },
+    [MASKS] = { { 0, 0, 0, 3, MASK, 0, 18 }, 7 },
+    [LIST] = { { 0, 0, 0, 11, NAMES, 0, 2, 0, 2, '/', 'a', 0, 2, '/', 'b' }, 15 },
+    [TRAIL] = { { 0, 0, 0, 26, RECORDS, 0, 1, 0, 0, 0, 0, 0, 0, 0, 1, 0, 0, 0, 0, 0, 0, 0, 2, 3, 0, 13, 0, 2, '/', 'a' }, 30 },
+    [SEND] = { { 0, 0, 0, 1, SENT }, 5 },
+    [RECEIVE] = { { 0, 0, 0, 8, RECEIVED, 0, 0, 0, 7, 'a', 'b', 'c' }, 12 },
+    [WAIT] = { { 0, 0, 0, 1, DONE }, 5 },
+};
+
+static void honest_answers(void)
+{
+    for (enum kind k = OPEN; k < KINDS; k++) {
+        struct mqs *c = fresh();
+        put(honest[k].bytes, honest[k].size);
+        CHECK(call(c, k) >= 0 && mqs_lost(c) == 0);
+        end(c);
+    }
+}
+
+/* The stream ends, or says nothing more, behind each byte of the answer. */
+static void cut_at_each_byte(int closes)
+{
+    for (enum kind k = OPEN; k < KINDS; k++)
+        for (size_t size = 0; size < honest[k].size; size++) {
+            if (!closes && size % 5 != 0) continue;   /* silence takes its bound each time */
+            struct mqs *c = fresh();
+            put(honest[k].bytes, size);
+            if (closes) shutdown(server, SHUT_WR);
+            double start = seconds();
+            CHECK(call(c, k) == -1 && mqs_rule(c) == 0);
+            CHECK(errno == (closes ? ECONNRESET : ECONNABORTED) && mqs_lost(c) == errno);
+            CHECK(seconds() - start < BOUND_MS / 1e3 + LATE_S);
+            CHECK(call(c, k) == -1 && errno == mqs_lost(c));
+            end(c);
+        }
+}
+
+/* An answer that is another call's. */
+static void wrong_answers(void)
+{
+    for (enum kind asked = OPEN; asked < KINDS; asked++)
+        for (enum kind came = OPEN; came < KINDS; came++) {
+            if (honest[asked].bytes[4] == honest[came].bytes[4]) continue;
+            struct mqs *c = fresh();
+            put(honest[came].bytes, honest[came].size);
+            CHECK(call(c, asked) == -1 && errno == EPROTO && mqs_lost(c) == EPROTO);
+            end(c);
+        }
+}
+
+static void one_wrong(enum kind kind, const uint8_t *bytes, size_t size)
+{
+    struct mqs *c = fresh();
+    put(bytes, size);
+    CHECK(call(c, kind) == -1 && errno == EPROTO && mqs_lost(c) == EPROTO);
+    end(c);
+}
+#define WRONG(kind, ...) do { uint8_t bytes[] = { __VA_ARGS__ }; one_wrong(kind, bytes, sizeof bytes); } while (0)
+
+/* Lengths and values that no answer has. Most of these frames never come whole: their heads are enough. */
+static void lies(void)
+{
+    WRONG(CLOSE, 0, 0, 0, 0);
+    WRONG(CLOSE, 1, 0, 0, 0x55, DONE);
+    WRONG(CLOSE, 0xff, 0xff, 0xff, 0xff);
+    WRONG(CLOSE, 0, 0, 0, 2, DONE, 0);
+    WRONG(CLOSE, 0, 0, 0, 1, 0);
+    WRONG(CLOSE, 0, 0, 0, 1, 255);
+    WRONG(CLOSE, 0, 0, 0, 1, SENT);
+    WRONG(CLOSE, 0, 0, 0, 1, INTERRUPTED);
+    WRONG(CLOSE, 0, 0, 0, 3, REFUSED, 0, 0);
+    WRONG(CLOSE, 0, 0, 0, 3, REFUSED, 0, 34);
+    WRONG(CLOSE, 0, 0, 0, 3, REFUSED, 255, 255);
+    WRONG(CLOSE, 0, 0, 0, 9, STARTED, 0, 0, 0, 0, 0, 0, 0, 5);
+    WRONG(CLOSE, 0, 0, 0, 10, NOTICE);
+    WRONG(CLOSE, 0, 0, 0, 8, TAKEN);
+    WRONG(OPEN, 0, 0, 0, 8, OPENED);
+    WRONG(ATTRIBUTES, 0, 0, 0, 14, ATTRS, 2, 0, 0, 0, 10, 0, 0, 0, 16, 0, 0, 0, 2);
+    WRONG(VALUE_OF, 0, 0, 0, 5, VALUE, 0x80, 0, 0, 0);
+    WRONG(MASKS, 0, 0, 0, 3, MASK, 2, 0);
+    WRONG(LIST, 0, 0, 0, 2, NAMES);
+    WRONG(LIST, 0, 0, 0, 3, NAMES, 0, 1);
+    WRONG(LIST, 0, 0, 0, 3, NAMES, 255, 255);
+    WRONG(LIST, 0, 0, 0, 7, NAMES, 0, 1, 0, 9, '/', 'a');
+    WRONG(LIST, 0, 0, 0, 8, NAMES, 0, 1, 0, 2, '/', 'a', 'b');
+    WRONG(LIST, 0, 0, 0, 7, NAMES, 0, 2, 0, 2, '/', 'a');
+    WRONG(LIST, 0, 4, 0, 0, NAMES);
+    WRONG(TRAIL, 0, 0, 0, 7, RECORDS, 0, 1, 0, 0, 0, 0);
+    WRONG(TRAIL, 0, 0, 0, 26, RECORDS, 0, 1, 0, 0, 0, 0, 0, 0, 0, 1, 0, 0, 0, 0, 0, 0, 0, 2, 3, 0, 13, 1, 2, '/', 'a');
+    WRONG(SEND, 0, 0, 0, 1, DONE);
+    WRONG(RECEIVE, 0, 0, 0, 4, RECEIVED);
+    WRONG(RECEIVE, 0, 0, 0, 14, RECEIVED, 0, 0, 0, 1, '1', '2', '3', '4', '5', '6', '7', '8', '9');
+    WRONG(RECEIVE, 1, 0, 0, 5, RECEIVED);
+    WRONG(RECEIVE, 0, 0, 0, 5, RECEIVED, 0, 0, 128, 0);
+    WRONG(WAIT, 0, 0, 0, 1, INTERRUPTED);
+}
+
+/* ---- A server that goes on ---- */
+
+struct flood { const void *bytes; size_t size; int pause_us; };
+static volatile int flood_ends;
+
+static void *flood_on(void *arg)
+{
+    const struct flood *f = arg;
+    while (!flood_ends && send(server, f->bytes, f->size, MSG_NOSIGNAL | MSG_DONTWAIT) != -2) usleep((useconds_t)f->pause_us);
+    return NULL;
+}
+
+/* Things that come unasked without end, in place of the answer; and one byte of it at a time. */
+static void endless(enum kind kind, const void *bytes, size_t size, int pause_us)
+{
+    struct flood f = { bytes, size, pause_us };
+    pthread_t thread;
+    struct mqs *c = fresh();
+    flood_ends = 0;
+    pthread_create(&thread, NULL, flood_on, &f);
+    double start = seconds();
+    CHECK(call(c, kind) == -1 && errno == ECONNABORTED);
+    CHECK(seconds() - start < BOUND_MS / 1e3 + LATE_S);
+    flood_ends = 1;
+    pthread_join(thread, NULL);
+    end(c);
+}
+
+static void floods(void)
+{
+    static const uint8_t notice[] = { 0, 0, 0, 9, NOTICE, 0, 0, 0, 0, 0, 0, 0, 7 };
+    endless(CLOSE, notice, sizeof notice, 1);
+    endless(RECEIVE, notice, sizeof notice, 1);
+    endless(CLOSE, notice, 13, 30000);
+    struct mqs *c = fresh();
+    int what;
+    uint64_t description;
+    int count = 0;
+    static uint8_t many[3000 * sizeof notice];
+    for (size_t i = 0; i < sizeof many; i++) many[i] = notice[i % sizeof notice];
+    put(many, sizeof many);
+    put(honest[CLOSE].bytes, honest[CLOSE].size);
+    CHECK(call(c, CLOSE) == 0);
+    while (mqs_next_unasked(c, &what, &description) == 1) count += what == MQS_NOTICE && description == 7;
+    CHECK(count == UNASKED);
+    end(c);
+}
+
+/* A server that reads nothing: a request that doesn't fit into the socket ends within the bound. */
+static void unread(void)
+{
+    static char big[4000000];
+    struct mqs *c = fresh();
+    double start = seconds();
+    CHECK(mqs_mq_send(c, 1, big, sizeof big, 0, NULL) == -1 && errno == ECONNABORTED);
+    CHECK(seconds() - start < LATE_S);
+    CHECK(mqs_mq_send(c, 1, big, sizeof big, 0, NULL) == -1 && errno == ECONNABORTED);
+    end(c);
+    c = fresh();
+    CHECK(mqs_mq_send(c, 1, big, 16777288, 0, NULL) == -1 && errno == EMSGSIZE && mqs_lost(c) == 0);
+    end(c);
+}
+
+/* ---- Interrupts ---- */
+
+static const uint8_t interrupted[] = { 0, 0, 0, 1, INTERRUPTED, 0, 0, 0, 1, DONE }, refused_3[] = { 0, 0, 0, 3, REFUSED, 0, 3 };
+
+static void *answer_later(void *arg)
+{
+    const struct flood *f = arg;
+    usleep((useconds_t)f->pause_us);
+    put(f->bytes, f->size);
+    return NULL;
+}
+
+static long late_call(const void *bytes, size_t size, int bound_ms, int *error)
+{
+    struct flood f = { bytes, size, 300000 };
+    pthread_t thread;
+    struct mqs *c = fresh();
+    mqs_set_bound(c, bound_ms);
+    pthread_create(&thread, NULL, answer_later, &f);
+    long r = call(c, RECEIVE);
+    *error = errno;
+    pthread_join(thread, NULL);
+    end(c);
+    return r;
+}
+
+static void interrupts(void)
+{
+    int error;
+    uint8_t both[64];
+    CHECK(late_call(interrupted, sizeof interrupted, LONG_MS, &error) == -1 && error == ETIMEDOUT);
+    CHECK(late_call(honest[RECEIVE].bytes, honest[RECEIVE].size, LONG_MS, &error) == 3);
+    CHECK(late_call(interrupted, 5, 1000, &error) == -1 && error == ECONNABORTED);
+    CHECK(late_call(refused_3, sizeof refused_3, LONG_MS, &error) == -1 && error == EINVAL);
+    memcpy(both, interrupted, 5);
+    memcpy(both + 5, honest[OPEN].bytes, honest[OPEN].size);
+    CHECK(late_call(both, 5 + honest[OPEN].size, LONG_MS, &error) == -1 && error == EPROTO);
+    memcpy(both + 5, refused_3, sizeof refused_3);
+    CHECK(late_call(both, 5 + sizeof refused_3, LONG_MS, &error) == -1 && error == EPROTO);
+
+    /* The answer came first, and another frame than the refusal of the interrupt stands behind it. */
+    struct mqs *c = fresh();
+    struct timespec past = { 0, 0 };
+    char data[8];
+    CHECK(mqs_start_receive(c, 1, sizeof data) == 0 && mqs_wait(c, &past) == -1 && errno == ETIMEDOUT);
+    put(honest[RECEIVE].bytes, honest[RECEIVE].size);
+    put(honest[CLOSE].bytes, honest[CLOSE].size);
+    CHECK(mqs_stop(c) == 0 && mqs_finish_receive(c, data, sizeof data, NULL) == 3);
+    CHECK(call(c, CLOSE) == -1 && errno == EPROTO);
+    end(c);
+}
+
+static void hellos(void)
+{
+    static const struct { uint8_t bytes[16]; size_t size; int error; } answers[] = {
+        { { 0 }, 0, ETIMEDOUT }, { { 0, 0, 0, 3, REFUSED, 0, 31 }, 7, EACCES }, { { 'S', 'S', 'H', '-', '2', '.', '0' }, 7, EPROTO },
+        { { 'H', 'T', 'T', 'P', '/', '1' }, 6, EPROTO }, { { 0, 0, 0, 1, DONE }, 5, EPROTO },
+    };
+    for (size_t i = 0; i < sizeof answers / sizeof *answers; i++) {
+        int ends[2];
+        if (socketpair(AF_UNIX, SOCK_STREAM, 0, ends) < 0) abort();
+        server = ends[1];
+        put(answers[i].bytes, answers[i].size);
+        CHECK(!mqs_attach(ends[0], "key", BOUND_MS) && errno == answers[i].error);
+        close(server);
+    }
+}
+
+int main(void)
+{
+    setvbuf(stdout, NULL, _IOLBF, 0);
+    honest_answers();
+    cut_at_each_byte(1);
+    cut_at_each_byte(0);
+    wrong_answers();
+    lies();
+    floods();
+    unread();
+    interrupts();
+    hellos();
+    printf("hostile: %d checks, %d failed\n", checks, faults);
+    return faults != 0;
+}
