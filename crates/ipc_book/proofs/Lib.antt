@@ -1,4 +1,5 @@
 pub mod LastReceipts
+pub mod Listing
 pub mod Counts
 pub mod Collected
 pub mod Starting

@@ -58,3 +58,15 @@ abbrev pub CloseFaultSays : BookView → List SeatView → CloseFault → Type 0
 CloseFaultSays b seats (SeatOut n) = (0 < n) × (length seats + n ≡ b.seats)
 CloseFaultSays b seats (Missing p) = (b.seats ≤ length seats) × FirstMissing b.core.history (all_kept seats) p
 CloseFaultSays b seats NoMemory = b.seats ≤ length seats
+
+-- a receipt of this place is in the list
+abbrev pub IsListed : ℕ → List Entry → Type 0
+IsListed p [] = ⊥
+IsListed p (x ∷ xs) = (x.receipt.place ≡ p) ⊎ IsListed p xs
+
+-- what a fault says of the seats that were handed in, whatever the book was: one or more are out; or they keep a receipt of each place
+-- below the missing one
+abbrev pub FaultSaysOf : List SeatView → CloseFault → Type 0
+FaultSaysOf seats (SeatOut n) = 0 < n
+FaultSaysOf seats (Missing p) = (q : ℕ) → q < p → IsListed q (all_kept seats)
+FaultSaysOf seats NoMemory = ⊤

@@ -8,7 +8,7 @@ ghost use Rattle.ipc_policy.specs.Verdict.{Legal};
 ghost use Rattle.ipc_state.specs.Ranges.{first_bad};
 ghost use Rattle.ipc_book.specs.Seats.{BookView, session_of, without_full};
 ghost use Rattle.ipc_book.specs.Locked.{ReceiptSays, DueSays, AnswersSay, StaleSays};
-ghost use Rattle.ipc_book.specs.Closing.{AreTheTrail, CloseFaultSays};
+ghost use Rattle.ipc_book.specs.Closing.{AreTheTrail, CloseFaultSays, FaultSaysOf};
 
 use crate::bell::{AWAKE_TURNS, Bell, Bells};
 use crate::book::Book;
@@ -248,6 +248,7 @@ impl<L: Ledger> Shared<L> {
         ensures ok { IfOk result (λ b. AreTheTrail b.core.history seats.items) }
         ensures all { IfOk result (λ b. b.seats ≤ length seats.items) }
         ensures fault { IfErr result (λ t. (b : BookView) × Legal b.core.config b.core.history × CloseFaultSays b seats.items t.0) }
+        ensures seats { IfErr result (λ t. FaultSaysOf seats.items t.0) }
         ensures back { IfErr result (λ t. t.2 ≡ seats) }
     {
         let Shared { book, bells } = self;
