@@ -11,6 +11,7 @@
 #include <stdlib.h>
 #include <string.h>
 #include <sys/socket.h>
+#include <sys/un.h>
 #include <unistd.h>
 
 /* ---- The address ---- */
@@ -83,16 +84,53 @@ static int connect_to(const struct addrinfo *one, int bound_ms, const struct tim
     return -1;
 }
 
-static int dial(const char *address, int bound_ms)
+static struct timespec end_of(int bound_ms)
 {
-    struct place place;
-    if (split(address, &place) < 0) return -1;
-    struct addrinfo hints = { .ai_socktype = SOCK_STREAM }, *all;
-    if (getaddrinfo(place.host, place.port, &hints, &all) != 0) return mqsi_fail(EINVAL);
     struct timespec end;
     clock_gettime(CLOCK_MONOTONIC, &end);
     end.tv_sec += bound_ms / 1000;
     end.tv_nsec += bound_ms % 1000 * 1000000L;
+    return end;
+}
+
+/* Where many connections wait already, a connect to a path waits as long as a send may. */
+static int connect_within(int fd, const struct sockaddr_un *at, int bound_ms)
+{
+    struct timespec end = end_of(bound_ms);
+    struct timeval unbounded = { 0, 0 };
+    for (;;) {
+        int64_t left = bound_ms > 0 ? ms_left(&end) : 0;
+        if (bound_ms > 0 && left <= 0) return mqsi_fail(ETIMEDOUT);
+        struct timeval bound = { left / 1000, left % 1000 * 1000 };
+        setsockopt(fd, SOL_SOCKET, SO_SNDTIMEO, &bound, sizeof bound);
+        if (connect(fd, (const struct sockaddr *)at, sizeof *at) == 0)
+            return setsockopt(fd, SOL_SOCKET, SO_SNDTIMEO, &unbounded, sizeof unbounded);
+        if (errno == EAGAIN) return mqsi_fail(ETIMEDOUT);
+        if (errno == ENOENT) return mqsi_fail(ECONNREFUSED);   /* an open's own ENOENT speaks of a name */
+        if (errno != EINTR) return -1;
+    }
+}
+
+static int dial_path(const char *path, int bound_ms)
+{
+    struct sockaddr_un at = { .sun_family = AF_UNIX };
+    size_t size = strlen(path);
+    if (size == 0 || size >= sizeof at.sun_path) return mqsi_fail(EINVAL);
+    memcpy(at.sun_path, path, size);
+    int fd = socket(AF_UNIX, SOCK_STREAM | SOCK_CLOEXEC, 0);
+    if (fd < 0 || connect_within(fd, &at, bound_ms) == 0) return fd;
+    close_quietly(fd);
+    return -1;
+}
+
+static int dial(const char *address, int bound_ms)
+{
+    struct place place;
+    if (!strncmp(address, "unix:", 5)) return dial_path(address + 5, bound_ms);
+    if (split(address, &place) < 0) return -1;
+    struct addrinfo hints = { .ai_socktype = SOCK_STREAM }, *all;
+    if (getaddrinfo(place.host, place.port, &hints, &all) != 0) return mqsi_fail(EINVAL);
+    struct timespec end = end_of(bound_ms);
     int fd = -1;
     for (struct addrinfo *one = all; one && fd < 0; one = one->ai_next) fd = connect_to(one, bound_ms, &end);
     int error = errno;

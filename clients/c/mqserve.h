@@ -39,9 +39,11 @@ struct mqs;
 
 /* ---- Connections ---- */
 
-/* Connects to `address`, HOST:PORT (a name, or an IP address; [HOST]:PORT for IPv6), and starts a session with `key`.
- * `answer_ms` is the connection's bound, and that of this call but for the look-up of a name.
- * Errors: EINVAL (address, or a key of more than 65,535 bytes), connect's, EACCES (rule 31: no user has the key),
+/* Connects to `address` and starts a session with `key`. The address is HOST:PORT (a name, or an IP address; [HOST]:PORT for
+ * IPv6), or unix:PATH (a socket's path of 1 to 107 bytes). `answer_ms` is the connection's bound, and that of this call but for
+ * the look-up of a name.
+ * Errors: EINVAL (address, or a key of more than 65,535 bytes), connect's (ECONNREFUSED also where PATH isn't there),
+ * EACCES (rule 31: no user has the key),
  * ETIMEDOUT (no answer to the hello: all workers of the server are busy, or this is no server). */
 struct mqs *mqs_connect(const char *address, const char *key, int answer_ms);
 

@@ -50,6 +50,7 @@ _NOT_IN_CALL, _WOULD_BLOCK = 3, 29
 _HELLO_S, _SIDE_S, _ANSWER_S = 5.0, 1.0, 60.0
 _SIDES = 16
 _FIRST_PAUSE_S, _LAST_PAUSE_S = 0.001, 0.064
+_NO_WORKER = "the server has no free worker, or doesn't answer"
 
 
 class Error(Exception):
@@ -107,15 +108,38 @@ def _text(name: Union[str, bytes]) -> bytes:
     return struct.pack(">H", len(data)) + data
 
 
+def _dial(address: str, seconds: float) -> socket.socket:
+    if address.startswith("unix:"):
+        return _dial_path(address[5:], seconds)
+    host, colon, port = address.rpartition(":")
+    if not colon or not port.isdigit():
+        raise ValueError("the address must be HOST:PORT or unix:PATH")
+    dialled = socket.create_connection((host.strip("[]"), int(port)), seconds)
+    dialled.setsockopt(socket.IPPROTO_TCP, socket.TCP_NODELAY, 1)
+    return dialled
+
+
+def _dial_path(path: str, seconds: float) -> socket.socket:
+    """Where many connections wait already, a connect to a path waits as long as a send may."""
+    dialled = socket.socket(socket.AF_UNIX)
+    try:
+        dialled.setsockopt(socket.SOL_SOCKET, socket.SO_SNDTIMEO, struct.pack("ll", int(seconds), int(seconds % 1 * 1e6)))
+        dialled.connect(path)
+        dialled.setsockopt(socket.SOL_SOCKET, socket.SO_SNDTIMEO, bytes(struct.calcsize("ll")))
+    except BlockingIOError:
+        dialled.close()
+        raise BusyError(_NO_WORKER) from None
+    except BaseException:
+        dialled.close()
+        raise
+    return dialled
+
+
 class _Connection:
     """One connection, one session, for one thread at a time."""
 
     def __init__(self, address: str, key: str, seconds: float) -> None:
-        host, colon, port = address.rpartition(":")
-        if not colon or not port.isdigit():
-            raise ValueError("the address must be HOST:PORT")
-        self.socket = socket.create_connection((host.strip("[]"), int(port)), seconds)
-        self.socket.setsockopt(socket.IPPROTO_TCP, socket.TCP_NODELAY, 1)
+        self.socket = _dial(address, seconds)
         self.data = bytearray()
         self.notices: List[int] = []
         self.stale = 0          # 2: a late refusal of an interrupt stands behind the next answer; 1: it comes next
@@ -130,7 +154,7 @@ class _Connection:
         except BaseException as error:
             self.close()
             if isinstance(error.__cause__, TimeoutError):
-                raise BusyError("the server has no free worker, or doesn't answer") from None
+                raise BusyError(_NO_WORKER) from None
             raise
 
     def close(self) -> None:
@@ -432,7 +456,7 @@ _server: Optional[_Server] = None
 
 
 def use(address: str, key: str, spares: int = 1) -> None:
-    """The server and the key for all that is opened from now on. spares: connections that are kept open for calls that will block;
+    """The server, HOST:PORT or unix:PATH, and the key for all that is opened from now on. spares: connections that are kept open for calls that will block;
     each takes a worker of the server."""
     global _server
     _server = _Server(address, key, spares)

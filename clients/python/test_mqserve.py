@@ -309,6 +309,18 @@ class Connections(unittest.TestCase):
         self.assertRaises(ConnectionRefusedError, ipc._Connection, address, "ka1", 1.0)
         self.assertRaises(ValueError, ipc._Connection, "nonsense", "ka1", 1.0)
 
+    def test_paths(self):
+        with tempfile.TemporaryDirectory() as room, socket.socket(socket.AF_UNIX) as listener:
+            address = f"unix:{room}/socket"
+            self.assertRaises(FileNotFoundError, ipc._Connection, address, "ka1", 1.0)
+            listener.bind(address[5:])
+            self.assertRaises(ConnectionRefusedError, ipc._Connection, address, "ka1", 1.0)
+            listener.listen(0)
+            with socket.socket(socket.AF_UNIX) as waiting:
+                waiting.connect(address[5:])
+                self.assertRaises(ipc.BusyError, ipc._Connection, address, "ka1", 0.2)
+        self.assertRaises(OSError, ipc._Connection, "unix:" + 200 * "x", "ka1", 1.0)
+
     def test_lost_home(self):
         before = ipc._server
         try:
@@ -323,6 +335,7 @@ class Connections(unittest.TestCase):
             again.unlink()
             again.close()
         finally:
+            ipc._server.forget()
             ipc._server = before
 
     def test_key_file(self):
@@ -338,6 +351,8 @@ class Connections(unittest.TestCase):
                 self.assertRaises(ipc.ExistentialError, ipc.unlink_semaphore, "/absent")
             finally:
                 os.environ["MQSERVE_KEY"] = key
+                if ipc._server is not None:
+                    ipc._server.forget()
                 ipc._server = before
 
 

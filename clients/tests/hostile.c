@@ -9,6 +9,7 @@
 #include <stdlib.h>
 #include <string.h>
 #include <sys/socket.h>
+#include <sys/un.h>
 #include <unistd.h>
 
 enum { BOUND_MS = 200, LONG_MS = 20000, LATE_S = 10 };   /* LATE_S: how much later a busy machine may be */
@@ -335,6 +336,50 @@ static void hellos(void)
     }
 }
 
+/* ---- Paths ---- */
+
+static int refuses(const char *address, int error)
+{
+    errno = 0;
+    return !mqs_connect(address, "key", BOUND_MS) && errno == error;
+}
+
+/* A socket on which nobody accepts: connections wait there until there are too many. */
+static void crowd(const char *address, const struct sockaddr_un *at)
+{
+    int listener = socket(AF_UNIX, SOCK_STREAM, 0), waiting[4];
+    double start = seconds();
+    CHECK(bind(listener, (const struct sockaddr *)at, sizeof *at) == 0 && refuses(address, ECONNREFUSED));
+    CHECK(listen(listener, 1) == 0);
+    for (int i = 0; i < 4; i++) {
+        waiting[i] = socket(AF_UNIX, SOCK_STREAM | SOCK_NONBLOCK, 0);
+        connect(waiting[i], (const struct sockaddr *)at, sizeof *at);
+    }
+    CHECK(refuses(address, ETIMEDOUT) && seconds() - start < BOUND_MS / 1e3 + LATE_S);
+    for (int i = 0; i < 4; i++) close(waiting[i]);
+    close(listener);
+    CHECK(refuses(address, ECONNREFUSED));
+    unlink(at->sun_path);
+}
+
+static void paths(void)
+{
+    char address[200];
+    struct sockaddr_un at = { .sun_family = AF_UNIX };
+    snprintf(at.sun_path, sizeof at.sun_path, "/tmp/mqserve-hostile-%ld", (long)getpid());
+    snprintf(address, sizeof address, "unix:%s", at.sun_path);
+    CHECK(refuses(address, ECONNREFUSED));
+    crowd(address, &at);
+    CHECK(refuses("unix:", EINVAL));
+    CHECK(refuses("unix:/", ECONNREFUSED));
+    memset(address + 5, 'x', 107);
+    address[112] = 0;
+    CHECK(refuses(address, ECONNREFUSED));
+    address[112] = 'x';
+    address[113] = 0;
+    CHECK(refuses(address, EINVAL));
+}
+
 int main(void)
 {
     setvbuf(stdout, NULL, _IOLBF, 0);
@@ -347,6 +392,7 @@ int main(void)
     unread();
     interrupts();
     hellos();
+    paths();
     printf("hostile: %d checks, %d failed\n", checks, faults);
     return faults != 0;
 }

@@ -1,5 +1,5 @@
 #!/usr/bin/env python3
-"""mock.py serve USERS HOST:PORT [--workers N]: answers as docs/POLICY.md says, for tests where no server is built. Not the product:
+"""mock.py serve USERS ADDRESS [--workers N], where ADDRESS is HOST:PORT or unix:PATH: answers as docs/POLICY.md says, for tests where no server is built. Not the product:
 nothing here is proved, and calls 26 to 28, set-limit and audit are left out."""
 import socket
 import struct
@@ -417,11 +417,20 @@ def read_users(path):
     return users
 
 
+def listen(address):
+    if address.startswith("unix:"):
+        listener = socket.socket(socket.AF_UNIX)
+        listener.bind(address[5:])
+        listener.listen(128)
+        return listener
+    host, port = address.rsplit(":", 1)
+    return socket.create_server((host, int(port)), backlog=128)
+
+
 def main():
     users = read_users(sys.argv[2])
-    host, port = sys.argv[3].rsplit(":", 1)
     workers = threading.Semaphore(int(sys.argv[5]) if len(sys.argv) > 5 else 4)
-    listener = socket.create_server((host, int(port)), backlog=128)
+    listener = listen(sys.argv[3])
     print("serving", sys.argv[3], flush=True)
 
     def work(connection):
@@ -433,7 +442,8 @@ def main():
         workers.release()
     while True:
         connection, _ = listener.accept()
-        connection.setsockopt(socket.IPPROTO_TCP, socket.TCP_NODELAY, 1)
+        if connection.family != socket.AF_UNIX:
+            connection.setsockopt(socket.IPPROTO_TCP, socket.TCP_NODELAY, 1)
         workers.acquire()
         threading.Thread(target=work, args=(connection,), daemon=True).start()
 
