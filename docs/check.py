@@ -4,7 +4,8 @@
 - MAP.md's table of rules: each rule's number, error, name, definition, function, row and edit
 - the wrong bodies that PROOFS.md names, and the files that WORKING.md names
 - the numbers of rules, calls and laws, wherever a document states how many there are
-- FRAMES.md's opcodes, and SCRIPTS.md's commands with what stands behind each
+- FRAMES.md's opcodes, their fields, the greatest body and the frames of its exchange; SCRIPTS.md's commands with what stands
+  behind each
 - the version, in the program, its row and CHANGELOG.md
 
 Prints what differs, and how many things were compared. That README.md names another kit than `rt version` is said, and is no
@@ -15,6 +16,9 @@ import shutil
 import subprocess
 import sys
 from pathlib import Path
+
+sys.dont_write_bytecode = True
+import check_frames  # noqa: E402
 
 ROOT = Path(__file__).resolve().parent.parent
 CRATES = ROOT / "crates"
@@ -159,6 +163,7 @@ def compare_frames(it):
             it.same(f"opcode {number} in FRAMES.md", table.get(number), named.get(number))
     for word, name in (("hang-up", "hang_up"), ("tick", "tick")):
         it.same(f"number of a {word} in FRAMES.md", re.findall(rf"(\d+) for a {word}", frames), [others[name]])
+    check_frames.compare(it, frames, blocks)
     greatest = max(variants("Rule", "crates/ipc_terms/src/rule.rt").values())
     it.same("greatest rule in FRAMES.md", re.findall(r"rule u16, 1 to (\d+)", frames), [str(greatest)])
 
