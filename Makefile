@@ -1,4 +1,4 @@
-.PHONY: demo build install test rows ways docs exhaust clients clients-test conformance
+.PHONY: demo build install uninstall test rows ways docs exhaust clients clients-test conformance
 
 PREFIX = /usr/local
 
@@ -26,6 +26,12 @@ install: build
 	install -D -m 644 service/mqserve.sysusers $(DESTDIR)$(PREFIX)/lib/sysusers.d/mqserve.conf
 	install -D -m 600 service/users.example $(DESTDIR)$(PREFIX)/share/mqserve/users.example
 	$(MAKE) -C clients install DESTDIR=$(DESTDIR) PREFIX=$(PREFIX)
+
+# Takes back what make install put below $(PREFIX).
+uninstall:
+	rm -f $(DESTDIR)$(PREFIX)/bin/mqserve $(DESTDIR)$(PREFIX)/bin/mqctl $(DESTDIR)$(PREFIX)/lib/systemd/system/mqserve.service \
+		$(DESTDIR)$(PREFIX)/lib/sysusers.d/mqserve.conf $(DESTDIR)$(PREFIX)/share/mqserve/users.example
+	$(MAKE) -C clients uninstall DESTDIR=$(DESTDIR) PREFIX=$(PREFIX)
 
 # The client libraries in C and Python, and the library that runs programs as they are on a server: a C compiler is enough.
 clients:
