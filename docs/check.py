@@ -6,6 +6,7 @@
 - the numbers of rules, calls and laws, wherever a document states how many there are
 - FRAMES.md's opcodes, their fields, the greatest body and the frames of its exchange; SCRIPTS.md's commands with what stands
   behind each
+- the rules and opcodes that the clients in C and Python have
 - the version, in the program, its row and CHANGELOG.md
 
 Prints what differs, and how many things were compared. That README.md names another kit than `rt version` is said, and is no
@@ -168,6 +169,29 @@ def compare_frames(it):
     it.same("greatest rule in FRAMES.md", re.findall(r"rule u16, 1 to (\d+)", frames), [str(greatest)])
 
 
+def enumerated(enum):
+    """The numbers of an enumeration of C, by its names without underscores and in lower case."""
+    [body] = re.findall(rf"enum {enum} {{(.*?)}}", text("clients/c/connection.h"), re.S)
+    found, number = {}, 0
+    for name, given in re.findall(r"([A-Z]\w+)(?: = (\d+))?", body):
+        number = int(given) if given else number + 1
+        found[name.replace("_", "").lower()] = number
+    return found
+
+
+def compare_clients(it):
+    """The rules and opcodes that the libraries in C and Python have."""
+    number, error, name = variants("Rule", "crates/ipc_terms/src/rule.rt"), arms("errno"), arms("name")
+    wanted = [(error.get(rule), name.get(rule)) for rule in sorted(number, key=number.get)]
+    it.same("rules of clients/c/rules.c", re.findall(r'{ (E\w+), "(\w+)" }', text("clients/c/rules.c")), wanted)
+    [names] = re.findall(r"(?s)_NAMES = \((.*?)\)\.split", text("clients/python/mqserve.py"))
+    it.same("rules of clients/python/mqserve.py", re.findall(r"\w+", names), [word for _, word in wanted])
+    for enum, op in (("request_op", "CallOp"), ("answer_op", "AnswerOp")):
+        code = {word.lower(): value for word, value in variants(op, "crates/ipc_terms/src/op.rt").items()}
+        for word, value in enumerated(enum).items():
+            it.same(f"opcode {word} of clients/c/connection.h", value, 1 if word == "hello" else code.get(word))
+
+
 def ordered(arguments):
     """Values in their order, and then flags and options with a value, which may stand anywhere."""
     return sorted(arguments, key=lambda it: (it[0], it[1]) if it[0] in ("Flag", "Valued") else ("", ""))
@@ -230,7 +254,7 @@ def main():
     edits = {path.stem for path in CRATES.glob("*/must-fail/*.edit")}
     compare_rules(it, edits)
     compare_wrong_bodies(it, edits)
-    for compare in (compare_files, compare_counts, compare_frames, compare_commands, compare_versions):
+    for compare in (compare_files, compare_counts, compare_frames, compare_clients, compare_commands, compare_versions):
         compare(it)
     say_kit()
     for line in it.wrong:
