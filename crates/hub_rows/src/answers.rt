@@ -7,11 +7,15 @@ use std::alloc::{AllocError, Global};
 #[derive(Clone, Copy)]
 pub enum Call<'a> {
     Feed(&'a [u8]),
+    /// As long as fewer answers are untaken.
+    FeedSome(&'a [u8], usize),
     HangUp,
     /// A tick of this moment.
     Tick(u64),
     /// What is taken is shown as hexadecimal digits.
     Take,
+    /// Whether the connection is over, how many answers are untaken, and how many bytes are kept.
+    Look,
 }
 
 pub fn line_of(alloc: Global, hub: &mut Hub, conn: Conn, call: Call) -> Result<String, AllocError> {
@@ -19,6 +23,10 @@ pub fn line_of(alloc: Global, hub: &mut Hub, conn: Conn, call: Call) -> Result<S
         Call::Feed(piece) => {
             let answer = hub.feed(alloc, conn, piece);
             format!(in alloc; "feed {answer:?}\n")
+        }
+        Call::FeedSome(piece, most) => {
+            let answer = hub.feed_some(alloc, conn, piece, most);
+            format!(in alloc; "feed_some {answer:?}\n")
         }
         Call::HangUp => {
             let answer = hub.hang_up(alloc, conn);
@@ -32,6 +40,10 @@ pub fn line_of(alloc: Global, hub: &mut Hub, conn: Conn, call: Call) -> Result<S
             Ok(bytes) => format!(in alloc; "take Ok({})\n", hex::encode(alloc, bytes)?),
             Err(fault) => format!(in alloc; "take Err({fault:?})\n"),
         },
+        Call::Look => {
+            let (is_over, untaken, kept) = (hub.is_over(conn), hub.untaken(conn), hub.kept(conn));
+            format!(in alloc; "look {is_over:?} {untaken:?} {kept:?}\n")
+        }
     }
 }
 

@@ -15,13 +15,38 @@ fn open_line(alloc: Global, hub: &mut Hub) -> Result<String, AllocError> {
     }
 }
 
-/// The answer to a line: `open`, or `feed`, `hang_up` or `take` with a connection's number, and the digits of
-/// what is fed, or `tick` with a moment.
+fn next_line(alloc: Global, hub: &mut Hub) -> Result<String, AllocError> {
+    match hub.next_answered() {
+        Some(conn) => format!(in alloc; "next {}\n", conn.0),
+        None => String::from_str(alloc, "next none\n"),
+    }
+}
+
+/// The frames that are taken behind two bytes, which stay where there is no such connection.
+fn taken_behind(alloc: Global, hub: &mut Hub, conn: Conn) -> Result<String> {
+    let mut bytes = Vec::from_slice(alloc, b"\xab\xcd")?;
+    let answer = hub.take_into(conn, &mut bytes);
+    Ok(format!(in alloc; "take_into {answer:?} {}\n", hex::encode(alloc, bytes)?)?)
+}
+
+/// What is fed as long as fewer answers are untaken than the words in front say.
+fn fed_some(alloc: Global, hub: &mut Hub, conn: Conn, words: &str) -> Result<String> {
+    let (most, digits) = words.split_once(' ').unwrap_or((words, ""));
+    let piece = bytes_of(alloc, digits)?;
+    let call = Call::FeedSome(&piece, most.parse::<usize>()?);
+    Ok(line_of(alloc, hub, conn, call)?)
+}
+
+/// The answer to a line: `open`, `next`, or `feed`, `feed_some`, `hang_up`, `take`, `take_into` or `look` with a
+/// connection's number, and the digits of what is fed, or `tick` or `due` with a moment.
 fn answer_to(alloc: Global, hub: &mut Hub, line: &str) -> Result<String> {
     let (call, rest) = line.split_once(' ').unwrap_or((line, ""));
     let (number, digits) = rest.split_once(' ').unwrap_or((rest, ""));
     if call == "open" {
         return Ok(open_line(alloc, hub)?);
+    }
+    if call == "next" {
+        return Ok(next_line(alloc, hub)?);
     }
     let number = number.parse::<u64>()?;
     let conn = Conn(number);
@@ -30,6 +55,10 @@ fn answer_to(alloc: Global, hub: &mut Hub, line: &str) -> Result<String> {
             let piece = bytes_of(alloc, digits)?;
             line_of(alloc, hub, conn, Call::Feed(&piece))
         }
+        "feed_some" => return fed_some(alloc, hub, conn, digits),
+        "take_into" => return taken_behind(alloc, hub, conn),
+        "look" => line_of(alloc, hub, conn, Call::Look),
+        "due" => format!(in alloc; "due {}\n", hub.due(number)),
         "hang_up" => line_of(alloc, hub, conn, Call::HangUp),
         "tick" => line_of(alloc, hub, conn, Call::Tick(number)),
         "take" => line_of(alloc, hub, conn, Call::Take),

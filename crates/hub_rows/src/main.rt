@@ -37,8 +37,9 @@ const STREAMS: [&str; 18] = [
 ];
 
 /// The calls on several connections.
-const CALLS: [&str; 5] = [
+const CALLS: [&str; 6] = [
     "receive_served_by_another_connection",
+    "answered_connections_are_named",
     "timed_receive_ends_at_its_deadline",
     "frame_cut_off_by_the_hang_up",
     "trail_of_each_end",

@@ -33,7 +33,7 @@ use Rattle.ipc_hub.specs.Hub.{Connection, Hub, new_connection, untaken_of, untak
 use Rattle.ipc_hub.specs.Hub.{session_or_next, event_of, is_hello_refused, hang_up_of, IsOutcome}
 use Rattle.ipc_hub.specs.Sessions.{IsSessionOf, EachHasItsOwn}
 use Rattle.ipc_terms.specs.Sizes.{IsSmall}
-use Rattle.ipc_hub.specs.Hub.{Feeds, HangsUp, Takes, core_after_take, fault_of_change}
+use Rattle.ipc_hub.specs.Hub.{core_after_take, fault_of_change}
 use Rattle.ipc_hub.proofs.SessionLemmas.{calls_no_hello, ChangesSessions, IsOpen, none_kept, hangs_up, fed_changes, changed_all, opened_all}
 use Rattle.ipc_policy.proofs.Outcomes.AnswerSizes.{outbox_small}
 use Rattle.ipc_policy.specs.declared.config.TheConstants.{HARD_MSGSIZE_MAX}
@@ -46,7 +46,7 @@ none_is None k = refl
 none_is (Some rule) k = absurd cc
 
 -- an accepted hello is answered to the session that it starts
-hello_starts : (a : CoreView) (found : Option Uid) → is_some (verdict a.config a.history (Hello found)) ≡ false → session_at 0 (answers a.config a.history (Hello found)) ≡ Some (record { 0 = hellos a.history })
+pub hello_starts : (a : CoreView) (found : Option Uid) → is_some (verdict a.config a.history (Hello found)) ≡ false → session_at 0 (answers a.config a.history (Hello found)) ≡ Some (record { 0 = hellos a.history })
 unfolding answers
 hello_starts a found accepted = ap (λ r. session_at 0 (answers_at r a.config a.history (Hello found))) (none_is _ accepted)
 
@@ -63,7 +63,7 @@ hello_ends a None w q key is may e = e ∙ ap (λ p. cond (is_hello_refused a No
 hello_ends a (Some sid) w q key is may e = absurd (let k : false ≡ true = ap (λ p. same (is_hello_request p) false) (sym is) ∙ may in cc)
 
 -- only a connection with a session makes a call
-has_session : (q : Request) (c : Call) (s : Option Sid) → q ≡ request.Do c → same (is_hello_request q) (is_none s) ≡ true → (sid : Sid) × (s ≡ Some sid)
+pub has_session : (q : Request) (c : Call) (s : Option Sid) → q ≡ request.Do c → same (is_hello_request q) (is_none s) ≡ true → (sid : Sid) × (s ≡ Some sid)
 has_session q c (Some sid) is may = (sid, refl)
 has_session q c None is may = absurd (let k : false ≡ true = ap (λ b. same b true) (sym (ap is_hello_request is ∙ calls_no_hello c)) ∙ may in cc)
 
@@ -158,14 +158,3 @@ found_there hub xs i x same lt is = stands_there xs i x (subst (λ (ys : List Co
 pub found_open : (hub : Hub) (xs : List Connection) (i n : ℕ) (x : Connection) → xs ≡ hub.connections → i ≡ n → slice_get xs i ≡ Some x → fault_of_change (slice_get hub.connections n) ≡ None → x.is_over ≡ false
 found_open hub xs i n x same at there none =
     is_open xs i x there (ap (λ (ys : List Connection). fault_of_change (slice_get ys i)) same ∙ ap (λ (k : ℕ). fault_of_change (slice_get hub.connections k)) at ∙ none)
-
--- ---- the calls, where the hub is seen as its parts
-
-pub fed_is : (old : Hub) (a b : CoreView) (xs : List Connection) (i n : ℕ) (x y : Connection) (piece : List ℕ) (fed : Fed) → record { core = a; connections = xs } ≡ old → i ≡ n → slice_get xs i ≡ Some x → x.is_over ≡ false → IsOutcome fed a x (cut (is_none x.session) (x.kept ++ piece)) b y → Feeds old n piece fed (record { core = b; connections = set xs i y })
-fed_is old a b xs i n x y piece fed is at there open' h = subst (λ (k : ℕ). Feeds old k piece fed (record { core = b; connections = set xs i y })) at (subst (λ (o : Hub). Feeds o i piece fed (record { core = b; connections = set xs i y })) is (record { before = x; later = y; changes = record { was = there; others = refl }; open_before = open'; outcome = h }))
-
-pub hung_up_is : (old : Hub) (a b : CoreView) (xs : List Connection) (i n : ℕ) (x y : Connection) → record { core = a; connections = xs } ≡ old → i ≡ n → slice_get xs i ≡ Some x → x.is_over ≡ false → b ≡ after_steps (hang_up_of x.session) a → y ≡ record x { kept = []; is_over = true } → HangsUp old n (record { core = b; connections = set xs i y })
-hung_up_is old a b xs i n x y is at there open' now e = subst (λ (k : ℕ). HangsUp old k (record { core = b; connections = set xs i y })) at (subst (λ (o : Hub). HangsUp o i (record { core = b; connections = set xs i y })) is (record { before = x; changes = record { was = there; others = ap (set xs i) e }; open_before = open'; core = now }))
-
-pub taken_is : (old : Hub) (a b : CoreView) (xs : List Connection) (i n : ℕ) (x y : Connection) (bytes : List ℕ) → record { core = a; connections = xs } ≡ old → i ≡ n → slice_get xs i ≡ Some x → b ≡ core_after_take a x.session → y ≡ record x { has_refusal = false } → spell_answers (untaken a x) ≡ Some bytes → Takes old n bytes (record { core = b; connections = set xs i y })
-taken_is old a b xs i n x y bytes is at there now e given = subst (λ (k : ℕ). Takes old k bytes (record { core = b; connections = set xs i y })) at (subst (λ (o : Hub). Takes o i bytes (record { core = b; connections = set xs i y })) is (record { before = x; changes = record { was = there; others = ap (set xs i) e }; given = given; core = now }))

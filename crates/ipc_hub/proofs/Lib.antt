@@ -1,8 +1,13 @@
+pub mod MarkLemmas
+pub mod MarkedLemmas
+pub mod FrameMarks
 pub mod SessionSteps
 pub mod Ticking
 pub mod StepLemmas
 pub mod SessionLemmas
 pub mod HubLemmas
+pub mod HubMarks
+pub mod HubCalls
 pub mod FrameLists
 pub mod CallLists
 pub mod LawLemmas

@@ -21,11 +21,11 @@ use Rattle.ipc_fields.specs.Field.{◌⊕◌}
 use Rattle.ipc_fields.proofs.Joins.{join_assoc}
 use Rattle.ipc_wire.specs.Streams.{Cut, cut, spell_answer}
 use Rattle.ipc_hub.specs.declared.fed.Fed.{Fed}
-use Rattle.ipc_hub.specs.declared.fed.Fed.TheVariants.{Done, Short, Over}
+use Rattle.ipc_hub.specs.declared.fed.Fed.TheVariants.{Done, Short, Full, Over}
 use Rattle.ipc_hub.specs.declared.fed.End.TheVariants.{Wire, BadKey}
-use Rattle.ipc_hub.specs.Hub.{Connection, Hub, new_hub, with_connection, untaken_of, untaken, spell_answers, events_of, hang_up_of, IsOutcome, core_after_take, ChangesOnly, Feeds, HangsUp, Takes, Ticks}
+use Rattle.ipc_hub.specs.Hub.{Connection, Hub, new_hub, with_connection, untaken_of, untaken, spell_answers, events_of, hang_up_of, IsOutcome, core_after_take, ChangesOnly, Feeds, HangsUp, Takes, Names, Ticks}
 use Rattle.ipc_hub.specs.Sessions.{EachHasItsOwn}
-use Rattle.ipc_hub.specs.Laws.{Call, Opened, TookPiece, HungUp, Gave, Ticked, Makes, output_of, GivesOutbox, EachOutputIsTheOutbox}
+use Rattle.ipc_hub.specs.Laws.{Call, Opened, TookPiece, HungUp, Gave, Named, Ticked, Makes, output_of, GivesOutbox, EachOutputIsTheOutbox}
 use Rattle.ipc_core.proofs.LawLemmas.{all_is_kept}
 use Rattle.ipc_hub.proofs.StepLemmas.{config_kept}
 use Rattle.ipc_hub.proofs.SessionLemmas.{ChangesSessions, Which, Own, Other, AfterOpening, Fresh, Stood, which_now, after_opening, none_before, fresh_has_none, get_set, none_kept, hangs_up, fed_changes, changed_all, opened_all, none_at_all}
@@ -252,6 +252,13 @@ opened_accounted old new i given is h = subst (λ (z : Hub). IsAccounted z i giv
 pub opened_well : (old new : Hub) → new ≡ with_connection old → IsWell old → IsWell new
 opened_well old new is w = subst IsWell (sym is) (record { legal = w.legal; agree = w.agree; sessions = opened_all old.core old.connections w.sessions; in_range = w.in_range })
 
+-- a connection that is named
+pub named_well : (old new : Hub) (j : ℕ) → Names old j new → IsWell old → IsWell new
+named_well old new j f w = subst IsWell (sym f.now) (record { legal = w.legal; agree = w.agree; sessions = w.sessions; in_range = w.in_range })
+
+named_accounted : (old new : Hub) (j i : ℕ) (given : List ℕ) → Names old j new → IsAccounted old i given → IsAccounted new i given
+named_accounted old new j i given f h = subst (λ (z : Hub). IsAccounted z i given) (sym f.now) (record { absent = h.absent; silent = h.silent; spoken = h.spoken })
+
 -- a tick
 pub ticked_well : (old new : Hub) (moment : ℕ) → Ticks old moment new → IsWell old → IsWell new
 ticked_well old new moment t w = stays_well old new (Tick moment ∷ []) w t.core (subst (λ (zs : List Connection). EachHasItsOwn new.core zs) (sym t.connections) (ticked_sessions old.core new.core old.connections moment t.core w.sessions))
@@ -275,6 +282,7 @@ steps_append (e ∷ es) ds a = steps_append es ds (after_step e a)
 outcome_events : (fed : Fed) (a b : CoreView) (x y : Connection) (c : Cut) → IsOutcome fed a x c b y → (es : List Event) × (b ≡ after_steps es a)
 outcome_events Done a b x y c h = (events_of a x.session c.requests, h.steps.core)
 outcome_events Short a b x y c h = (events_of a x.session h.done, h.steps.core)
+outcome_events Full a b x y c h = (events_of a x.session h.done, h.steps.core)
 outcome_events (Over (Wire fault)) a b x y c h = (events_of a x.session c.requests ++ hang_up_of y.session, h.hung_up ∙ ap (after_steps (hang_up_of y.session)) h.steps.core ∙ sym (steps_append (events_of a x.session c.requests) (hang_up_of y.session) a))
 outcome_events (Over BadKey) a b x y c h = (take 1 (events_of a x.session c.requests), h.core)
 
@@ -342,6 +350,7 @@ output_is : (i : ℕ) (call : Call) (calls : List Call) → output_of i (call �
 output_is i Opened calls = refl
 output_is i (TookPiece j piece fed) calls = refl
 output_is i (HungUp j) calls = refl
+output_is i (Named j) calls = refl
 output_is i (Ticked moment) calls = refl
 output_is i (Gave j bytes) calls = at (eqb j i) where
   at : (b : Bool) → cond b (bytes ++ output_of i calls) (output_of i calls) ≡ cond b bytes [] ++ output_of i calls
@@ -352,6 +361,7 @@ call_kept : (i : ℕ) (call : Call) (old new : Hub) (given : List ℕ) → Makes
 call_kept i Opened old new given made k = nothing_more (λ (z : Hub) (bytes : List ℕ). IsKept z i bytes) new given (record { well = opened_well old new made k.well; accounted = opened_accounted old new i given made k.accounted })
 call_kept i (TookPiece j piece fed) old new given made k = nothing_more (λ (z : Hub) (bytes : List ℕ). IsKept z i bytes) new given (fed_kept old new j piece fed i given made k)
 call_kept i (HungUp j) old new given made k = nothing_more (λ (z : Hub) (bytes : List ℕ). IsKept z i bytes) new given (hung_up_kept old new j i given made k)
+call_kept i (Named j) old new given made k = nothing_more (λ (z : Hub) (bytes : List ℕ). IsKept z i bytes) new given (record { well = named_well old new j made k.well; accounted = named_accounted old new j i given made k.accounted })
 call_kept i (Ticked moment) old new given made k = nothing_more (λ (z : Hub) (bytes : List ℕ). IsKept z i bytes) new given (record { well = ticked_well old new moment made k.well; accounted = ticked_accounted old new moment i given made k.well k.accounted })
 call_kept i (Gave j bytes) old new given made k = taken_kept old new j bytes i given made k
 

@@ -20,7 +20,7 @@ use Rattle.ipc_wire.specs.Requests.{is_hello_request, same, request_with}
 use Rattle.ipc_wire.specs.Streams.{Cut, cut, after, is_in_order}
 use Rattle.ipc_wire.proofs.OrderLemmas.{one_hello}
 use Rattle.ipc_hub.specs.declared.fed.Fed.{Fed}
-use Rattle.ipc_hub.specs.declared.fed.Fed.TheVariants.{Done, Short, Over}
+use Rattle.ipc_hub.specs.declared.fed.Fed.TheVariants.{Done, Short, Full, Over}
 use Rattle.ipc_hub.specs.declared.fed.End.TheVariants.{Wire, BadKey}
 use Rattle.ipc_hub.specs.Hub.{Connection, Hub, ChangesOnly, new_connection}
 use Rattle.ipc_hub.specs.Hub.{event_of, events_of, is_hello_refused, session_after, hang_up_of, Steps, IsOutcome}
@@ -227,6 +227,7 @@ changed_to a b x y z e h = subst (λ (v : Connection). ChangesSessions a x b v) 
 pub fed_changes : (fed : Fed) (a b : CoreView) (x y : Connection) (w : List ℕ) → IsOpen a x → IsOutcome fed a x (cut (is_none x.session) w) b y → ChangesSessions a x b y
 fed_changes Done a b x y w o h = changed_to a b x y _ h.connection (goes_on a b x y.session _ o (kept_by a b x.session y.session _ h.steps (one_hello (is_none x.session) w)))
 fed_changes Short a b x y w o h = changed_to a b x y _ h.connection (goes_on a b x y.session y.kept o (stepped_kept a b x w y.session h.done _ h.steps h.others))
+fed_changes Full a b x y w o h = changed_to a b x y _ h.connection (goes_on a b x y.session y.kept o (stepped_kept a b x w y.session h.done _ h.steps h.others))
 fed_changes (Over (Wire fault)) a b x y w o h = changed_to a b x y _ h.connection (hangs_up a h.middle b x y.session [] o (kept_by a h.middle x.session y.session _ h.steps (one_hello (is_none x.session) w)) h.hung_up)
 fed_changes (Over BadKey) a b x y w o h = changed_to a b x y _ h.connection (refuses a b x _ o x.session refl h.refused h.core)
 

@@ -14,7 +14,8 @@ use Rattle.ipc_wire.specs.Requests.{request_at}
 use Rattle.ipc_wire.specs.Streams.{front, Cut, cut, cut_by, after}
 use Rattle.ipc_wire.proofs.CutLemmas.{cut_is, goes_on}
 use Rattle.ipc_hub.specs.declared.fed.Fed.{Fed}
-use Rattle.ipc_hub.specs.declared.fed.Fed.TheVariants.{Done, Short, Over}
+use Rattle.ipc_hub.specs.declared.fed.Fed.TheVariants.{Done, Short, Full, Over}
+use Rattle.ipc_hub.specs.declared.fed.End.{End}
 use Rattle.ipc_hub.specs.declared.fed.End.TheVariants.{Wire, BadKey}
 use Rattle.ipc_hub.specs.Hub.{Connection}
 use Rattle.ipc_hub.specs.Hub.{session_or_next, event_of, events_of, is_hello_refused, Steps, IsOutcome}
@@ -150,6 +151,7 @@ outcome_is Done a b x w t rest (frames, none) =
       connection = ap (λ k. record x { kept = k; session = t }) (sym (ap (λ (z : Cut). z.rest) e));
     }
 outcome_is Short a b x w t rest frames = record { done = frames.done; steps = frames.steps; others = frames.others; connection = refl }
+outcome_is Full a b x w t rest frames = record { done = frames.done; steps = frames.steps; others = frames.others; connection = refl }
 outcome_is (Over (Wire fault)) a b x w t rest over =
     let frames = over.frames in
     let e = all_cut w x.session t rest frames.done (Some fault) frames.others over.fault_is in
@@ -168,3 +170,25 @@ at_front None true w x e f = f
 at_front None false w x e f = absurd (let k : false ≡ true = e in cc)
 at_front (Some sid) true w x e f = absurd (let k : true ≡ false = e in cc)
 at_front (Some sid) false w x e f = f
+
+-- ---- a connection that is over
+
+-- no session is left where the hello was refused
+pub end_session : (end : End) (a b : CoreView) (s t : Option Sid) (w rest : List ℕ) → StepsFrames (Over end) a s w b t rest → end ≡ BadKey → t ≡ None
+end_session (Wire fault) a b s t w rest h e = absurd cc
+end_session BadKey a b s t w rest h e = at s refl where
+  at : (v : Option Sid) → s ≡ v → t ≡ None
+  at None is = h.session ∙ is
+  at (Some sid) is = absurd (let wrong : false ≡ true = sym (ap (λ v. is_hello_refused a v (cut (is_none s) w).requests) is) ∙ h.refused in cc)
+
+-- nothing is kept of it
+pub end_alike : (end : End) (x y : Connection) → y.session ≡ x.session → y.has_refusal ≡ x.has_refusal → connection_after (Over end) y ≡ connection_after (Over end) x
+end_alike (Wire fault) x y same refusal = ap (λ s. record { kept = []; session = s; has_refusal = y.has_refusal; is_over = true }) same ∙ ap (λ r. record { kept = []; session = x.session; has_refusal = r; is_over = true }) refusal
+end_alike BadKey x y same refusal = ap (λ s. record { kept = []; session = s; has_refusal = true; is_over = true }) same
+
+pub session_kept : (fed : Fed) (x : Connection) → (connection_after fed x).session ≡ x.session
+session_kept Done x = refl
+session_kept Short x = refl
+session_kept Full x = refl
+session_kept (Over (Wire fault)) x = refl
+session_kept (Over BadKey) x = refl

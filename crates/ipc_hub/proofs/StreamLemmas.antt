@@ -1,5 +1,5 @@
 -- Whatever calls a hub makes, the trail has of a session the calls of its connection's stream.
-use Rattle.std.proofs.Common.{◌≡◌, ℕ, ◌<◌, ◌≤◌, Bool, true, false, ◌&&◌, eqb, cond, List, [], ◌∷◌, ◌++◌, map, take, slice_get, Option, Some, None, refl, sym, ap, subst, ◌∙◌, append_assoc, arith}
+use Rattle.std.proofs.Common.{◌≡◌, ℕ, ◌<◌, ◌≤◌, Bool, true, false, ◌&&◌, eqb, cond, List, [], ◌∷◌, ◌++◌, map, take, set, slice_get, Option, Some, None, refl, sym, ap, subst, ◌∙◌, append_assoc, arith}
 use Rattle.std.specs.Prelude.{is_none}
 use Rattle.std.proofs.lemmas.Bool.{eq-eqb, ne_eqb}
 use Rattle.std.proofs.lemmas.List.{append-nil}
@@ -19,16 +19,16 @@ use Rattle.ipc_wire.specs.Streams.{Cut, cut, after, still_first, is_in_order}
 use Rattle.ipc_wire.proofs.CutLemmas.{cuts_alike}
 use Rattle.ipc_wire.proofs.OrderLemmas.{one_hello}
 use Rattle.ipc_hub.specs.declared.fed.Fed.{Fed}
-use Rattle.ipc_hub.specs.declared.fed.Fed.TheVariants.{Done, Short, Over}
+use Rattle.ipc_hub.specs.declared.fed.Fed.TheVariants.{Done, Short, Full, Over}
 use Rattle.ipc_hub.specs.declared.fed.End.TheVariants.{Wire, BadKey}
-use Rattle.ipc_hub.specs.Hub.{Connection, Hub, new_hub, with_connection, session_or_next, event_of, events_of, hang_up_of, is_hello_refused, session_after, IsOutcome, ChangesOnly, Feeds, HangsUp, Takes, Ticks}
-use Rattle.ipc_hub.specs.Laws.{Call, Opened, TookPiece, HungUp, Gave, Ticked, Makes, stream_of, call_in, calls_of, IsStepped, EachStreamIsStepped}
+use Rattle.ipc_hub.specs.Hub.{Connection, Hub, new_hub, with_connection, session_or_next, event_of, events_of, hang_up_of, is_hello_refused, session_after, IsOutcome, ChangesOnly, Feeds, HangsUp, Takes, Names, Ticks}
+use Rattle.ipc_hub.specs.Laws.{Call, Opened, TookPiece, HungUp, Gave, Named, Ticked, Makes, stream_of, call_in, calls_of, IsStepped, EachStreamIsStepped}
 use Rattle.ipc_hub.proofs.LawLemmas.{cut_any_way, after_both}
 use Rattle.ipc_hub.proofs.SessionSteps.{hellos_later}
 use Rattle.ipc_hub.proofs.SessionLemmas.{ChangesSessions, Which, Own, Other, AfterOpening, Fresh, Stood, which_now, after_opening, none_before, fresh_has_none, get_set, calls_no_hello, cut_order}
 use Rattle.ipc_hub.proofs.HubLemmas.{same_history}
 use Rattle.ipc_hub.proofs.CallLists.{nothing_more, along_calls}
-use Rattle.ipc_hub.proofs.RunLemmas.{IsWell, fed_change, hung_up_change, taken_change, opened_well, fed_well, hung_up_well, take_well, ticked_well, new_well}
+use Rattle.ipc_hub.proofs.RunLemmas.{IsWell, fed_change, hung_up_change, taken_change, opened_well, fed_well, hung_up_well, take_well, named_well, ticked_well, new_well}
 
 -- ---- the calls of a session among events
 
@@ -160,6 +160,7 @@ hello_refused a b x y w h = at x.session refl (cut (is_none x.session) w).reques
 split : (fed : Fed) (a b : CoreView) (x y : Connection) (w : List ℕ) → IsOutcome fed a x (cut (is_none x.session) w) b y → Split a x w b y
 split Done a b x y w h = Goes (all_done a b x y w h)
 split Short a b x y w h = Goes (some_done a b x y w h)
+split Full a b x y w h = Goes (some_done a b x y w h)
 split (Over (Wire fault)) a b x y w h = Goes (fault_done fault a b x y w h)
 split (Over BadKey) a b x y w h = Ends (hello_refused a b x y w h)
 
@@ -342,6 +343,10 @@ opened_streamed old new i stream is h = subst (λ (z : Hub). IsStreamed z i stre
   at_spoken x sid own (Fresh past is') = absurd (fresh_has_none x sid is' own)
   at_spoken x sid own (Stood e) = h.spoken x sid e own
 
+-- a connection that is named
+named_streamed : (old new : Hub) (j i : ℕ) (stream : List ℕ) → Names old j new → IsStreamed old i stream → IsStreamed new i stream
+named_streamed old new j i stream f h = subst (λ (z : Hub). IsStreamed z i stream) (sym f.now) (record { well = named_well old (record old { marked = set old.marked j false }) j (record { was = f.was; now = refl }) h.well; unstarted = h.unstarted; absent = h.absent; silent = h.silent; spoken = h.spoken })
+
 -- a tick, which is no call of any session
 ticked_streamed : (old new : Hub) (moment i : ℕ) (stream : List ℕ) → Ticks old moment new → IsStreamed old i stream → IsStreamed new i stream
 ticked_streamed old new moment i stream t h = record {
@@ -395,6 +400,7 @@ stream_is : (i : ℕ) (call : Call) (calls : List Call) → stream_of i (call �
 stream_is i Opened calls = refl
 stream_is i (HungUp j) calls = refl
 stream_is i (Gave j bytes) calls = refl
+stream_is i (Named j) calls = refl
 stream_is i (Ticked moment) calls = refl
 stream_is i (TookPiece j piece fed) calls = at (eqb j i) where
   at : (b : Bool) → cond b (piece ++ stream_of i calls) (stream_of i calls) ≡ cond b piece [] ++ stream_of i calls
@@ -406,6 +412,7 @@ call_streamed i Opened old new stream made h = nothing_more (λ (z : Hub) (bytes
 call_streamed i (TookPiece j piece fed) old new stream made h = fed_streamed old new j piece fed i stream made h
 call_streamed i (HungUp j) old new stream made h = nothing_more (λ (z : Hub) (bytes : List ℕ). IsStreamed z i bytes) new stream (hung_up_streamed old new j i stream made h)
 call_streamed i (Gave j bytes) old new stream made h = nothing_more (λ (z : Hub) (bytes : List ℕ). IsStreamed z i bytes) new stream (taken_streamed old new j bytes i stream made h)
+call_streamed i (Named j) old new stream made h = nothing_more (λ (z : Hub) (bytes : List ℕ). IsStreamed z i bytes) new stream (named_streamed old new j i stream made h)
 call_streamed i (Ticked moment) old new stream made h = nothing_more (λ (z : Hub) (bytes : List ℕ). IsStreamed z i bytes) new stream (ticked_streamed old new moment i stream made h)
 
 new_streamed : (c : Config) (i : ℕ) → first_bad c.limits ≡ None → IsStreamed (new_hub c) i []

@@ -17,7 +17,7 @@ use Rattle.ipc_core.specs.CoreView.{CoreView}
 use Rattle.ipc_core.specs.Boxes.{box_at}
 use Rattle.ipc_core.specs.Outboxes.{BoxesAgree, added, after_step}
 use Rattle.ipc_core.proofs.LawLemmas.{each_is_added}
-use Rattle.ipc_hub.specs.Hub.{Connection, Hub, Ticks}
+use Rattle.ipc_hub.specs.Hub.{Connection, Hub, Marks, Ticks}
 use Rattle.ipc_hub.specs.Sessions.{EachHasItsOwn}
 use Rattle.ipc_hub.proofs.SessionSteps.{hellos_later, live_later}
 
@@ -49,12 +49,13 @@ tick_added c h moment s legal =
 
 -- ---- what a hub is after it
 
-pub tick_is : (old : Hub) (a b : CoreView) (xs : List Connection) (moment : ℕ) → record { core = a; connections = xs } ≡ old → Legal a.config a.history → BoxesAgree a.config a.history a.untaken → b ≡ after_step (Tick moment) a → Ticks old moment (record { core = b; connections = xs })
-tick_is old a b xs moment is legal agree now = subst (λ (o : Hub). Ticks o moment (record { core = b; connections = xs })) is (record {
+pub tick_is : (old : Hub) (a b : CoreView) (xs : List Connection) (p q : List Bool) (moment : ℕ) → record { core = a; connections = xs; marked = p } ≡ old → Legal a.config a.history → BoxesAgree a.config a.history a.untaken → b ≡ after_step (Tick moment) a → Marks (record { core = a; connections = xs; marked = p }) (record { core = b; connections = xs; marked = q }) → Ticks old moment (record { core = b; connections = xs; marked = q })
+tick_is old a b xs p q moment is legal agree now marks = subst (λ (o : Hub). Ticks o moment (record { core = b; connections = xs; marked = q })) is (record {
   core = now;
   trail = ap (λ (z : CoreView). z.history) now ∙ ap (λ (rule : Option Rule). record { event = Tick moment; rule = rule } ∷ a.history) (ticks_answered a.config a.history moment).accepted;
   answered = λ s. ap (λ (z : CoreView). box_at z.untaken s) now ∙ each_is_added a.config a.history (Tick moment) a.untaken s agree ∙ ap (λ (more : List Answer). box_at a.untaken s ++ more) (tick_added a.config a.history moment s legal);
   connections = refl;
+  marks = marks;
 })
 
 -- each session stays its connection's

@@ -1,6 +1,7 @@
 -- A hub: many connections over one core. What is seen of it, and what each of its calls makes of it, in the words of
 -- frames (`cut`, `spell_answer`) and of the core (`after_steps`).
 use Rattle.std.specs.Prelude.{◌≡◌, Bool, true, false, ℕ, List, [], ◌∷◌, ◌++◌, map, take, slice_get, slice_set, Option, Some, None, is_none, is_some, unwrap_or, if◌then◌else◌, MatchOption}
+use Rattle.std.specs.Option.{option_map}
 use Rattle.ipc_terms.specs.Lists.{changed}
 use Rattle.ipc_terms.specs.declared.ids.Sid.{Sid}
 use Rattle.ipc_terms.specs.declared.call.Answer.{Answer}
@@ -21,8 +22,9 @@ use Rattle.ipc_fields.specs.declared.fault.WireFault.{WireFault}
 use Rattle.ipc_wire.specs.declared.request.Request.{Request}
 use Rattle.ipc_wire.specs.declared.request.Request.TheVariants as request
 use Rattle.ipc_wire.specs.Streams.{Cut, cut, after, spell_answer}
+use Rattle.ipc_hub.specs.Marking.{is_set}
 use Rattle.ipc_hub.specs.declared.fed.Fed.{Fed}
-use Rattle.ipc_hub.specs.declared.fed.Fed.TheVariants.{Done, Short, Over}
+use Rattle.ipc_hub.specs.declared.fed.Fed.TheVariants.{Done, Short, Full, Over}
 use Rattle.ipc_hub.specs.declared.fed.End.TheVariants.{Wire, BadKey}
 use Rattle.ipc_hub.specs.declared.fed.HubFault.{HubFault}
 use Rattle.ipc_hub.specs.declared.fed.HubFault.TheVariants.{NoSuchConn, Ended, NoMemory}
@@ -38,10 +40,11 @@ pub record Connection : Type 0 where
   pub has_refusal : Bool
   pub is_over : Bool
 
--- the connections stand by their numbers
+-- the connections stand by their numbers. marked: whether each was answered since it was last named
 pub record Hub : Type 0 where
   pub core : CoreView
   pub connections : List Connection
+  pub marked : List Bool
 
 -- a connection of which nothing has come
 abbrev pub new_connection : Connection
@@ -49,11 +52,11 @@ new_connection = record { kept = []; session = None; has_refusal = false; is_ove
 
 -- a hub with nothing in its trail and no connection
 abbrev pub new_hub : Config → Hub
-new_hub c = record { core = record { config = c; history = []; untaken = [] }; connections = [] }
+new_hub c = record { core = record { config = c; history = []; untaken = [] }; connections = []; marked = [] }
 
--- one more connection
+-- one more connection, without a mark
 abbrev pub with_connection : Hub → Hub
-with_connection hub = record hub { connections = hub.connections ++ new_connection ∷ [] }
+with_connection hub = record hub { connections = hub.connections ++ new_connection ∷ []; marked = hub.marked ++ false ∷ [] }
 
 -- ---- its answers
 
@@ -65,6 +68,23 @@ untaken_of a (Some sid) = box_at a.untaken sid.0
 -- what a connection was answered and has not taken: its refusal alone, or what its session was answered
 abbrev pub untaken : CoreView → Connection → List Answer
 untaken a x = if x.has_refusal then Refused rule.BadKey ∷ [] else untaken_of a x.session
+
+-- what connection i was answered and has not taken; nothing, where there is none
+abbrev pub untaken_at : Hub → ℕ → List Answer
+untaken_at hub i = unwrap_or (option_map (untaken hub.core) (slice_get hub.connections i)) []
+
+-- ---- who was answered
+
+-- whether connection i was answered since it was last named
+abbrev pub is_marked : Hub → ℕ → Bool
+is_marked hub i = is_set hub.marked i
+
+-- no mark goes, and who has no mark has the untaken answers that it had
+pub record Marks (old new : Hub) : Type 0 where
+  pub kept : (i : ℕ) → is_marked old i ≡ true → is_marked new i ≡ true
+  pub silent : (i : ℕ) → is_marked new i ≡ false → untaken_at new i ≡ untaken_at old i
+
+-- ---- spellings
 
 -- the spellings of answers, one after another; none, where an answer has none
 abbrev pub spell_answers : List Answer → Option (List ℕ)
@@ -139,6 +159,7 @@ pub record EndsAtHello (a : CoreView) (x : Connection) (c : Cut) (b : CoreView) 
 abbrev pub IsOutcome : Fed → CoreView → Connection → Cut → CoreView → Connection → Type 0
 IsOutcome Done a x c b y = StepsAll a x c b y
 IsOutcome Short a x c b y = StepsSome a x c b y
+IsOutcome Full a x c b y = StepsSome a x c b y
 IsOutcome (Over (Wire fault)) a x c b y = EndsAtFault fault a x c b y
 IsOutcome (Over BadKey) a x c b y = EndsAtHello a x c b y
 
@@ -156,6 +177,7 @@ pub record Feeds (old : Hub) (i : ℕ) (piece : List ℕ) (fed : Fed) (new : Hub
   pub changes : ChangesOnly old new i before later
   pub open_before : before.is_over ≡ false
   pub outcome : IsOutcome fed old.core before (cut (is_none before.session) (before.kept ++ piece)) new.core later
+  pub marks : Marks old new
 
 -- connection i, which was not over, is; its session is hung up, if there is one, and what was not stepped is dropped
 pub record HangsUp (old : Hub) (i : ℕ) (new : Hub) : Type 0 where
@@ -163,6 +185,7 @@ pub record HangsUp (old : Hub) (i : ℕ) (new : Hub) : Type 0 where
   pub changes : ChangesOnly old new i before (record before { kept = []; is_over = true })
   pub open_before : before.is_over ≡ false
   pub core : new.core ≡ after_steps (hang_up_of before.session) old.core
+  pub marks : Marks old new
 
 -- the core once all that a session had not taken is taken
 abbrev pub core_after_take : CoreView → Option Sid → CoreView
@@ -175,6 +198,12 @@ pub record Takes (old : Hub) (i : ℕ) (bytes : List ℕ) (new : Hub) : Type 0 w
   pub changes : ChangesOnly old new i before (record before { has_refusal = false })
   pub given : spell_answers (untaken old.core before) ≡ Some bytes
   pub core : new.core ≡ core_after_take old.core before.session
+  pub marked : new.marked ≡ old.marked
+
+-- connection i was marked and is no longer, and nothing else changes
+pub record Names (old : Hub) (i : ℕ) (new : Hub) : Type 0 where
+  pub was : is_marked old i ≡ true
+  pub now : new ≡ record old { marked = slice_set old.marked i false }
 
 -- what a tick of this moment answers session s: that its deadline is past, if its call is the one that is due
 abbrev pub ticked : CoreView → ℕ → ℕ → List Answer
@@ -186,6 +215,7 @@ pub record Ticks (old : Hub) (moment : ℕ) (new : Hub) : Type 0 where
   pub trail : new.core.history ≡ record { event = event.Tick moment; rule = None } ∷ old.core.history
   pub answered : (s : ℕ) → box_at new.core.untaken s ≡ box_at old.core.untaken s ++ ticked old.core moment s
   pub connections : new.connections ≡ old.connections
+  pub marks : Marks old new
 
 -- ---- their faults
 

@@ -12,7 +12,7 @@ use Rattle.ipc_wire.specs.declared.request.Request.{Request}
 use Rattle.ipc_wire.specs.declared.request.Request.TheVariants as request
 use Rattle.ipc_wire.specs.Streams.{Cut, cut, after, still_first}
 use Rattle.ipc_hub.specs.declared.fed.Fed.{Fed}
-use Rattle.ipc_hub.specs.Hub.{Connection, Hub, new_hub, with_connection, untaken, spell_answers, Feeds, HangsUp, Takes, Ticks}
+use Rattle.ipc_hub.specs.Hub.{Connection, Hub, new_hub, with_connection, untaken, spell_answers, Feeds, HangsUp, Takes, Names, Ticks}
 
 -- where these requests of a stream were stepped and these bytes of it are kept, the stream goes on as if it had come in
 -- one piece
@@ -22,13 +22,14 @@ CutAnyWay =
     cut first stream ≡ after stepped (cut (still_first first stepped) kept) →
     cut first (stream ++ more) ≡ after stepped (cut (still_first first stepped) (kept ++ more))
 
--- what a hub did: it opened a connection, took a piece of connection i's stream, hung it up, gave these bytes of it, or made
--- a tick. A call that ended by a fault changed nothing
+-- what a hub did: it opened a connection, took a piece of connection i's stream, hung it up, gave these bytes of it, named
+-- it as one that was answered, or made a tick. A call that ended by a fault changed nothing
 pub data Call : Type 0 where
   Opened : Call
   TookPiece : ℕ → List ℕ → Fed → Call
   HungUp : ℕ → Call
   Gave : ℕ → List ℕ → Call
+  Named : ℕ → Call
   Ticked : ℕ → Call
 
 abbrev pub Makes : Call → Hub → Hub → Type 0
@@ -36,6 +37,7 @@ Makes Opened old new = new ≡ with_connection old
 Makes (TookPiece i piece fed) old new = Feeds old i piece fed new
 Makes (HungUp i) old new = HangsUp old i new
 Makes (Gave i bytes) old new = Takes old i bytes new
+Makes (Named i) old new = Names old i new
 Makes (Ticked moment) old new = Ticks old moment new
 
 -- one after another

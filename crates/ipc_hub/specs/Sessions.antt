@@ -1,9 +1,10 @@
 -- Whose sessions are whose.
-use Rattle.std.specs.Prelude.{◌≡◌, true, not, ℕ, ◌<◌, List, Some, None, slice_get}
+use Rattle.std.specs.Prelude.{◌≡◌, true, not, ℕ, ◌<◌, List, Some, None, length, slice_get}
 use Rattle.ipc_terms.specs.declared.ids.Sid.{Sid}
 use Rattle.ipc_policy.specs.Sessions.{hellos, live}
 use Rattle.ipc_core.specs.CoreView.{CoreView}
 use Rattle.ipc_hub.specs.Hub.{Connection}
+use Rattle.ipc_hub.specs.MarkedCore.{MarkedView}
 
 -- the session was started, and is live exactly as long as the connection is not over
 pub record IsSessionOf (a : CoreView) (x : Connection) (sid : Sid) : Type 0 where
@@ -15,3 +16,9 @@ pub record EachHasItsOwn (a : CoreView) (xs : List Connection) : Type 0 where
   pub own : (i : ℕ) (x : Connection) (sid : Sid) → slice_get xs i ≡ Some x → x.session ≡ Some sid → IsSessionOf a x sid
   pub apart : (i j : ℕ) (x y : Connection) (sid : Sid) → slice_get xs i ≡ Some x → slice_get xs j ≡ Some y → x.session ≡ Some sid → y.session ≡ Some sid → i ≡ j
   pub refused : (i : ℕ) (x : Connection) → slice_get xs i ≡ Some x → x.has_refusal ≡ true → (x.session ≡ None) × (x.is_over ≡ true)
+
+-- and each connection has a flag for its mark, and owns its session
+pub record Stands (m : MarkedView) (xs : List Connection) : Type 0 where
+  pub sessions : EachHasItsOwn m.core xs
+  pub count : length m.marked ≡ length xs
+  pub owned : (i : ℕ) (x : Connection) (sid : Sid) → slice_get xs i ≡ Some x → x.session ≡ Some sid → slice_get m.owners sid.0 ≡ Some i

@@ -1,131 +1,263 @@
 //! What a hub keeps of a connection.
 
-ghost use Rattle.std.specs.Prelude.{◌≡◌, ◌++◌, [], false, true, length, ◌≤◌, drop, is_none, Some, IsSome, IfOk, OnOk, OnErr};
+ghost use Rattle.std.specs.Prelude.{◌≡◌, ◌++◌, ◌<◌, ◌≤◌, [], false, true, drop, is_none, length, None, Some, IsSome, IfOk, OnOk, OnErr, vec_len};
 ghost use Rattle.ipc_core.specs.Outboxes.{after_steps};
+ghost use Rattle.ipc_fields.specs.Field.{◌⊕◌};
 ghost use Rattle.ipc_wire.specs.Streams.{cut};
-ghost use Rattle.ipc_hub.specs.Hub.{new_connection, untaken, spell_answers, hang_up_of, IsOutcome, core_after_take};
-ghost use Rattle.ipc_hub.specs.Stepping.{connection_after};
+ghost use Rattle.ipc_hub.specs.Hub.{new_connection, untaken_of, untaken, spell_answers, hang_up_of, IsOutcome, core_after_take};
+ghost use Rattle.ipc_hub.specs.MarkedCore.{Follows};
+ghost use Rattle.ipc_hub.specs.Connections.{seen};
+ghost use Rattle.ipc_hub.specs.Stepping.{StepsFrames, Ends, connection_after};
+ghost use Rattle.ipc_hub.specs.declared.fed.Fed.TheVariants.{Over};
+ghost use Rattle.ipc_hub.specs.declared.fed.End.TheVariants.{BadKey};
 
 use crate::fed::{End, Fed};
-use crate::spelling::spell_answers;
-use crate::stepping::{hang_up, step_frames};
+use crate::marked_core::MarkedCore;
+use crate::spelling::put_answers;
+use crate::stepping::{hang_up, step_frames, untaken_of};
 use ipc_core::Core;
 use ipc_terms::{Answer, NoMemory, Rule, Sid};
 use ipc_wire::remove_front;
 use std::alloc::Global;
+use std::boxed::Box;
 use std::marker::Model;
 use std::slice;
 
-/// A connection. A request that is not stepped yet is kept as the bytes of its frame, which is read again.
+/// The most memory that a connection keeps while nothing waits in it: 4 KiB.
+const KEPT_ROOM: usize = 4096;
+
+/// A connection that is not over. A request that is not stepped yet is kept as the bytes of its frame, which is read
+/// again.
 #[derive(Drop)]
-pub struct Connection {
+struct Stream {
     kept: Vec<u8>,
     session: Option<Sid>,
-    has_refusal: bool,
-    is_over: bool,
+}
+
+impl Model for Stream {
+    ghost use Rattle.ipc_hub.specs.Stepping.{Stream};
+
+    ghost Value = { Stream };
+
+    ghost view = { λ x. record { kept = x.kept.items; session = x.session } };
+}
+
+impl Stream {
+    /// Takes a piece, and steps the requests of the frames that are whole now. An `Err` changes nothing.
+    fn feed(
+        &mut self,
+        core: &mut MarkedCore,
+        alloc: Global,
+        own: u64,
+        most: Option<usize>,
+        piece: &[u8],
+    ) -> Result<Fed, NoMemory>
+        requires { own < length core.old.marked }
+        ensures ok { IfOk result (λ fed. StepsFrames fed core.old.core self.old.session (self.old.kept ++ piece.now) core.new.core self.new.session self.new.kept) }
+        ensures marks { IfOk result (λ fed. Ends fed own most core.old self.old.session core.new self.new.session) }
+        ensures err { OnErr result (self.new ≡ self.old) }
+        ensures core { OnErr result (core.new ≡ core.old) }
+    {
+        self.kept.extend_from_slice(piece)?;
+        let (fed, rest) = step_frames(core, alloc, own, most, &mut self.session, &self.kept);
+        let stepped = self.kept.len() - rest.len();
+        drop_front(alloc, &mut self.kept, stepped);
+        Ok(fed)
+    }
+}
+
+/// Takes the first bytes away, and gives a large buffer back once it is empty.
+fn drop_front(alloc: Global, bytes: &mut Vec<u8>, n: usize)
+    requires { n ≤ vec_len bytes.old }
+    ensures { bytes.new.items ≡ drop n bytes.old.items }
+{
+    remove_front(alloc, bytes, n);
+    if bytes.is_empty() && bytes.capacity() > KEPT_ROOM {
+        *bytes = Vec::new(alloc);
+    }
+}
+
+/// What is kept of a connection.
+#[derive(Drop)]
+enum Stage {
+    Open(Box<Stream>),
+    /// Over; its session's answers can be taken.
+    Ended(Sid),
+    /// Over; its hello was refused, and the refusal was not taken yet.
+    Refused,
+    /// Over, and nothing can be taken.
+    Closed,
+}
+
+/// A connection. One that is over keeps no memory of its own.
+#[derive(Drop)]
+pub struct Connection {
+    stage: Stage,
 }
 
 impl Model for Connection {
     ghost use Rattle.ipc_hub.specs.Hub.{Connection};
+    ghost use Rattle.ipc_hub.specs.Connections.{seen};
 
     ghost Value = { Connection };
 
-    ghost view = { λ x. record { kept = x.kept.items; session = x.session; has_refusal = x.has_refusal; is_over = x.is_over } };
+    ghost view = { λ x. seen x.stage };
+}
+
+/// What is kept of a connection that is over, and had this session.
+fn stage_behind(session: Option<Sid>) -> Stage
+    ensures { seen result ≡ record { kept = []; session = session; has_refusal = false; is_over = true } }
+{
+    match session {
+        Some(sid) => Stage::Ended(sid),
+        None => Stage::Closed,
+    }
+}
+
+/// The same at this end.
+fn stage_after(end: End, session: Option<Sid>) -> Stage
+    ensures { (end ≡ BadKey → session ≡ None) → seen result ≡ connection_after (Over end) (record { kept = []; session = session; has_refusal = false; is_over = false }) }
+{
+    match end {
+        End::BadKey => Stage::Refused,
+        End::Wire(_) => stage_behind(session),
+    }
+}
+
+/// Puts the spellings of the session's untaken answers at the end of a buffer, and leaves none. An `Err` changes nothing,
+/// and leaves what stood in the buffer.
+fn take_answers(
+    core: &mut MarkedCore,
+    session: Option<Sid>,
+    out: &mut Vec<u8>,
+) -> Result<(), NoMemory>
+    requires { IsSome (spell_answers (untaken_of core.old.core session)) }
+    ensures put { OnOk result ((Some out.old.items ⊕ spell_answers (untaken_of core.old.core session)) ≡ Some out.new.items) }
+    ensures core { OnOk result (core.new ≡ record core.old { core = core_after_take core.old.core session }) }
+    ensures err { OnErr result (core.new ≡ core.old) }
+    ensures kept { OnErr result (out.new.items ≡ out.old.items) }
+{
+    let Some(sid) = session else {
+        put_answers(out, &[])?;
+        return Ok(());
+    };
+    put_answers(out, core.core().answers(sid))?;
+    core.clear(sid);
+    Ok(())
 }
 
 impl Connection {
     /// A connection of which nothing has come.
-    pub fn new(alloc: Global) -> Connection
-        ensures { result ≡ new_connection }
+    pub fn new(alloc: Global) -> Result<Connection, NoMemory>
+        ensures { IfOk result (λ x. x ≡ new_connection) }
     {
-        Connection {
+        let stream = Stream {
             kept: Vec::new(alloc),
             session: None,
-            has_refusal: false,
-            is_over: false,
-        }
+        };
+        let stage = Stage::Open(Box::new(alloc, stream)?);
+        Ok(Connection { stage })
     }
 
     pub fn is_over(&self) -> bool
         ensures { result ≡ self.now.is_over }
     {
-        self.is_over
+        match &self.stage {
+            Stage::Open(_) => false,
+            Stage::Ended(_) | Stage::Refused | Stage::Closed => true,
+        }
     }
 
-    /// Takes a piece of the stream, and steps the requests of the frames that are whole now. An `Err` changes
-    /// nothing.
-    pub fn feed(&mut self, core: &mut Core, alloc: Global, piece: &[u8]) -> Result<Fed, NoMemory>
-        ensures ok { IfOk result (λ fed. IsOutcome fed core.old self.old (cut (is_none self.old.session) (self.old.kept ++ piece.now)) core.new self.new) }
+    /// How many bytes are kept, which were not stepped.
+    pub fn kept(&self) -> usize
+        ensures { result ≡ length self.now.kept }
+    {
+        match &self.stage {
+            Stage::Open(stream) => stream.kept.len(),
+            Stage::Ended(_) | Stage::Refused | Stage::Closed => 0,
+        }
+    }
+
+    /// How many answers the connection has not taken.
+    pub fn untaken(&self, core: &Core) -> usize
+        ensures { result ≡ length (untaken core.now self.now) }
+    {
+        match &self.stage {
+            Stage::Open(stream) => untaken_of(core, stream.session),
+            Stage::Ended(sid) => core.waiting(*sid),
+            Stage::Refused => 1,
+            Stage::Closed => 0,
+        }
+    }
+
+    /// Takes a piece of the stream of the connection with this number, and steps the requests of the frames that are
+    /// whole now, as long as fewer answers are untaken than are allowed. An `Err` changes nothing.
+    pub fn feed(
+        &mut self,
+        core: &mut MarkedCore,
+        alloc: Global,
+        own: u64,
+        most: Option<usize>,
+        piece: &[u8],
+    ) -> Result<Fed, NoMemory>
+        requires open { self.old.is_over ≡ false }
+        requires own { own < length core.old.marked }
+        ensures ok { IfOk result (λ fed. IsOutcome fed core.old.core self.old (cut (is_none self.old.session) (self.old.kept ++ piece.now)) core.new.core self.new) }
+        ensures marks { IfOk result (λ fed. Ends fed own most core.old self.old.session core.new self.new.session) }
         ensures err { OnErr result (self.new ≡ self.old) }
         ensures core { OnErr result (core.new ≡ core.old) }
     {
-        self.kept.extend_from_slice(piece)?;
-        let (fed, rest) = step_frames(core, alloc, &mut self.session, &self.kept);
-        let stepped = self.kept.len() - rest.len();
-        self.keep_behind(alloc, fed, stepped);
-        Ok(fed)
-    }
-
-    /// Keeps what stands behind so many bytes; nothing, not even their memory, where the connection is over.
-    fn keep_behind(&mut self, alloc: Global, fed: Fed, stepped: usize)
-        requires { stepped ≤ length self.old.kept }
-        ensures { self.new ≡ connection_after fed (record self.old { kept = drop stepped self.old.kept }) }
-    {
-        let Fed::Over(end) = fed else {
-            remove_front(alloc, &mut self.kept, stepped);
-            return;
+        let Stage::Open(stream) = &mut self.stage else {
+            unreachable!();
         };
-        self.kept = Vec::new(alloc);
-        self.is_over = true;
-        if let End::BadKey = end {
-            self.has_refusal = true;
+        let fed = stream.feed(core, alloc, own, most, piece)?;
+        if let Fed::Over(end) = fed {
+            let session = stream.session;
+            self.stage = stage_after(end, session);
         }
+        Ok(fed)
     }
 
     /// Ends the connection, and hangs its session up, if there is one. What was not stepped is dropped. An
     /// `Err` changes nothing.
-    pub fn hang_up(&mut self, core: &mut Core, alloc: Global) -> Result<(), NoMemory>
+    pub fn hang_up(&mut self, core: &mut MarkedCore, alloc: Global) -> Result<(), NoMemory>
+        requires { self.old.is_over ≡ false }
         ensures ok { OnOk result (self.new ≡ record self.old { kept = []; is_over = true }) }
-        ensures core { OnOk result (core.new ≡ after_steps (hang_up_of self.old.session) core.old) }
+        ensures core { OnOk result (core.new.core ≡ after_steps (hang_up_of self.old.session) core.old.core) }
+        ensures marks { OnOk result (Follows core.old core.new) }
         ensures err { OnErr result (self.new ≡ self.old) }
         ensures same { OnErr result (core.new ≡ core.old) }
     {
-        hang_up(core, alloc, self.session)?;
-        self.kept = Vec::new(alloc);
-        self.is_over = true;
+        let Stage::Open(stream) = &self.stage else {
+            unreachable!();
+        };
+        let session = stream.session;
+        hang_up(core, alloc, session)?;
+        self.stage = stage_behind(session);
         Ok(())
     }
 
-    /// The spellings of what the connection was answered and has not taken.
-    fn spell_untaken(&self, core: &Core, alloc: Global) -> Result<Vec<u8>, NoMemory>
-        requires { IsSome (spell_answers (untaken core.now self.now)) }
-        ensures { IfOk result (λ bytes. spell_answers (untaken core.now self.now) ≡ Some bytes.items) }
-    {
-        if self.has_refusal {
-            let refusal = Answer::Refused(Rule::BadKey);
-            return Ok(spell_answers(alloc, slice::from_ref(&refusal))?);
-        }
-        let Some(sid) = self.session else {
-            return Ok(spell_answers(alloc, &[])?);
-        };
-        Ok(spell_answers(alloc, core.answers(sid))?)
-    }
-
-    /// Gives the spellings of what the connection was answered and has not taken, and leaves none. An `Err`
-    /// changes nothing.
-    pub fn take(&mut self, core: &mut Core, alloc: Global) -> Result<Vec<u8>, NoMemory>
-        requires { IsSome (spell_answers (untaken core.old self.old)) }
-        ensures given { IfOk result (λ bytes. spell_answers (untaken core.old self.old) ≡ Some bytes.items) }
+    /// Puts the spellings of what the connection was answered and has not taken at the end of a buffer, and leaves
+    /// none. An `Err` changes nothing, and leaves what stood in the buffer.
+    pub fn take_into(&mut self, core: &mut MarkedCore, out: &mut Vec<u8>) -> Result<(), NoMemory>
+        requires { IsSome (spell_answers (untaken core.old.core self.old)) }
+        ensures put { OnOk result ((Some out.old.items ⊕ spell_answers (untaken core.old.core self.old)) ≡ Some out.new.items) }
         ensures ok { OnOk result (self.new ≡ record self.old { has_refusal = false }) }
-        ensures core { OnOk result (core.new ≡ core_after_take core.old self.old.session) }
+        ensures core { OnOk result (core.new ≡ record core.old { core = core_after_take core.old.core self.old.session }) }
         ensures err { OnErr result (self.new ≡ self.old) }
         ensures same { OnErr result (core.new ≡ core.old) }
+        ensures kept { OnErr result (out.new.items ≡ out.old.items) }
     {
-        let bytes = self.spell_untaken(core, alloc)?;
-        self.has_refusal = false;
-        if let Some(sid) = self.session {
-            core.clear(sid);
+        match &self.stage {
+            Stage::Open(stream) => take_answers(core, stream.session, out),
+            Stage::Ended(sid) => take_answers(core, Some(*sid), out),
+            Stage::Refused => {
+                let refusal = Answer::Refused(Rule::BadKey);
+                put_answers(out, slice::from_ref(&refusal))?;
+                self.stage = Stage::Closed;
+                Ok(())
+            }
+            Stage::Closed => take_answers(core, None, out),
         }
-        Ok(bytes)
     }
 }

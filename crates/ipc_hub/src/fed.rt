@@ -15,6 +15,9 @@ pub enum Fed {
     Done,
     /// A step ran out of memory. A later feed, also of nothing, goes on with that step.
     Short,
+    /// As many answers of the connection as were allowed are untaken, or more. A later feed, also of nothing, goes
+    /// on with the next step.
+    Full,
     /// The connection is over.
     Over(End),
 }

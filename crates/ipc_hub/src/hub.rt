@@ -1,16 +1,20 @@
 //! The hub.
 
-ghost use Rattle.std.specs.Prelude.{◌≡◌, ◌<◌, slice_get, None, Some, length, IfOk, IfErr, OnOk, OnErr, MatchOption};
+ghost use Rattle.std.specs.Prelude.{◌≡◌, ◌<◌, ◌≤◌, ◌+◌, ◌++◌, ℕ, List, false, true, is_some, slice_get, None, Some, length, max, option_map, IfOk, IfErr, IfSome, IfNone, OnOk, OnErr, MatchOption};
 ghost use Rattle.ipc_state.specs.Ranges.{first_bad};
+ghost use Rattle.ipc_policy.specs.Bodies.{due};
 ghost use Rattle.ipc_policy.specs.Verdict.{Legal};
 ghost use Rattle.ipc_core.specs.Outboxes.{BoxesAgree};
-ghost use Rattle.ipc_hub.specs.Hub.{new_hub, with_connection, fault_of_change, fault_of_take, IsFaultOr, Feeds, HangsUp, Takes, Ticks};
+ghost use Rattle.ipc_hub.specs.Hub.{new_hub, with_connection, untaken_at, is_marked, fault_of_change, fault_of_take, IsFaultOr, Feeds, HangsUp, Takes, Names, Ticks};
 ghost use Rattle.ipc_hub.specs.Sessions.{EachHasItsOwn};
+ghost use Rattle.ipc_hub.specs.Stepping.{is_full, IsWithin};
+ghost use Rattle.ipc_hub.specs.declared.fed.Fed.TheVariants.{Full};
 ghost use Rattle.ipc_hub.specs.declared.fed.HubFault.TheVariants.{NoMemory as Refused};
 
 use crate::connection::Connection;
 use crate::fed::{Fed, HubFault};
-use ipc_core::{Config, Core, CoreFault};
+use crate::marked_core::MarkedCore;
+use ipc_core::{Config, CoreFault};
 use ipc_terms::Event;
 use std::alloc::Global;
 use std::marker::Model;
@@ -23,20 +27,19 @@ pub struct Conn(pub u64);
 /// calls' frames, and a stream of bytes out, which are the frames of all that its session is answered.
 #[derive(Drop)]
 pub struct Hub {
-    core: Core,
+    core: MarkedCore,
     connections: Vec<Connection>,
 }
 
 impl Model for Hub {
     ghost use Rattle.ipc_hub.specs.Hub.{Hub};
+    ghost use Rattle.ipc_hub.specs.Sessions.{Stands};
 
     ghost Value = { Hub };
 
-    ghost use Rattle.ipc_hub.specs.Sessions.{EachHasItsOwn};
+    ghost view = { λ h. record { core = h.core.core; connections = h.connections.items; marked = h.core.marked } };
 
-    ghost view = { λ h. record { core = h.core; connections = h.connections.items } };
-
-    ghost invariant = { λ h. EachHasItsOwn h.core h.connections.items };
+    ghost invariant = { λ h. Stands h.core h.connections.items };
 }
 
 impl Hub {
@@ -47,7 +50,7 @@ impl Hub {
         ensures in_range { OnOk result (first_bad config.limits ≡ None) }
         ensures bad { IfErr result (λ fault. MatchOption (first_bad config.limits) (fault ≡ CoreFault.NoMemory) (λ field. fault ≡ CoreFault.BadConfig field)) }
     {
-        let core = Core::new(alloc, config)?;
+        let core = MarkedCore::new(alloc, config)?;
         Ok(Hub {
             core,
             connections: Vec::new(alloc),
@@ -55,15 +58,16 @@ impl Hub {
     }
 
     /// The trail is legal, what is untaken is the last of what each session was answered while it was live, no
-    /// two connections have one session, and a session is live exactly as long as its connection is not over.
-    /// Does nothing; facts of every hub.
+    /// two connections have one session, a session is live exactly as long as its connection is not over, and each
+    /// connection has a flag for its mark. Does nothing; facts of every hub.
     pub fn is_sound(&self)
         ensures legal { Legal self.now.core.config self.now.core.history }
         ensures last { BoxesAgree self.now.core.config self.now.core.history self.now.core.untaken }
         ensures sessions { EachHasItsOwn self.now.core self.now.connections }
+        ensures marks { length self.now.marked ≡ length self.now.connections }
     {
-        self.core.is_legal();
-        self.core.keeps_the_last();
+        self.core.core().is_legal();
+        self.core.core().keeps_the_last();
     }
 
     /// A new connection. An `Err` changes nothing.
@@ -74,7 +78,10 @@ impl Hub {
         ensures fault { IfErr result (λ fault. fault ≡ Refused) }
     {
         let conn = Conn(self.connections.len() as u64);
-        self.connections.push(Connection::new(alloc))?;
+        let connection = Connection::new(alloc)?;
+        self.connections.reserve(1)?;
+        self.core.push_connection()?;
+        self.connections.push_reserved(connection);
         Ok(conn)
     }
 
@@ -104,16 +111,52 @@ impl Hub {
         Ok(i)
     }
 
-    /// Takes a piece of the connection's stream, and steps the requests of the frames that are whole now. How far
-    /// a `Short` went is not said. An `Err` takes nothing of the piece and changes nothing.
-    pub fn feed(&mut self, alloc: Global, conn: Conn, piece: &[u8]) -> Result<Fed, HubFault>
+    /// Feeds the connection as long as fewer of its answers are untaken than are allowed, if there is a bound.
+    fn feed_within(
+        &mut self,
+        alloc: Global,
+        conn: Conn,
+        piece: &[u8],
+        most: Option<usize>,
+    ) -> Result<Fed, HubFault>
         ensures ok { IfOk result (λ fed. Feeds self.old conn.0 piece.now fed self.new) }
+        ensures full { IfOk result (λ fed. fed ≡ Full → is_full most (length (untaken_at self.new conn.0)) ≡ true) }
+        ensures within { OnOk result (IsWithin most (length (untaken_at self.old conn.0)) (length (untaken_at self.new conn.0))) }
         ensures err { OnErr result (self.new ≡ self.old) }
         ensures fault { IfErr result (λ fault. IsFaultOr (fault_of_change (slice_get self.old.connections conn.0)) fault) }
     {
         let i = self.open_place_of(conn)?;
         let connection = &mut self.connections[i];
-        Ok(connection.feed(&mut self.core, alloc, piece)?)
+        Ok(connection.feed(&mut self.core, alloc, conn.0, most, piece)?)
+    }
+
+    /// Takes a piece of the connection's stream, and steps the requests of the frames that are whole now. How far
+    /// a `Short` went is not said. An `Err` takes nothing of the piece and changes nothing.
+    pub fn feed(&mut self, alloc: Global, conn: Conn, piece: &[u8]) -> Result<Fed, HubFault>
+        ensures ok { IfOk result (λ fed. Feeds self.old conn.0 piece.now fed self.new) }
+        ensures never_full { IfOk result (λ fed. fed ≡ Full → ⊥) }
+        ensures err { OnErr result (self.new ≡ self.old) }
+        ensures fault { IfErr result (λ fault. IsFaultOr (fault_of_change (slice_get self.old.connections conn.0)) fault) }
+    {
+        self.feed_within(alloc, conn, piece, None)
+    }
+
+    /// The same, but stops before the next step once so many answers of the connection are untaken, or more: `Full`.
+    /// An `Err` takes nothing of the piece and changes nothing.
+    pub fn feed_some(
+        &mut self,
+        alloc: Global,
+        conn: Conn,
+        piece: &[u8],
+        most: usize,
+    ) -> Result<Fed, HubFault>
+        ensures ok { IfOk result (λ fed. Feeds self.old conn.0 piece.now fed self.new) }
+        ensures full { IfOk result (λ fed. fed ≡ Full → most ≤ length (untaken_at self.new conn.0)) }
+        ensures bound { OnOk result (length (untaken_at self.new conn.0) ≤ max (length (untaken_at self.old conn.0)) (most + 1)) }
+        ensures err { OnErr result (self.new ≡ self.old) }
+        ensures fault { IfErr result (λ fault. IsFaultOr (fault_of_change (slice_get self.old.connections conn.0)) fault) }
+    {
+        self.feed_within(alloc, conn, piece, Some(most))
     }
 
     /// Ends the connection and hangs its session up, if there is one. What was fed and not stepped is dropped;
@@ -128,18 +171,75 @@ impl Hub {
         Ok(connection.hang_up(&mut self.core, alloc)?)
     }
 
-    /// Gives the frames of all that the connection was answered and has not taken, and leaves none; also of a
-    /// connection that is over. An `Err` changes nothing.
+    /// A connection that was answered since it was last named here, or opened, if there is one. Each is named once.
+    /// Takes no memory.
+    pub fn next_answered(&mut self) -> Option<Conn>
+        ensures some { IfSome result (λ conn. Names self.old conn.0 self.new) }
+        ensures none { IfNone result ((i : ℕ) → is_marked self.old i ≡ false) }
+        ensures same { IfNone result (self.new ≡ self.old) }
+    {
+        Some(Conn(self.core.next_answered()?))
+    }
+
+    /// Puts the frames of all that the connection was answered and has not taken at the end of a buffer, and leaves
+    /// none; also of a connection that is over. An `Err` changes nothing, and leaves what stood in the buffer.
+    pub fn take_into(&mut self, conn: Conn, out: &mut Vec<u8>) -> Result<(), HubFault>
+        ensures ok { OnOk result ((bytes : List ℕ) × (out.new.items ≡ out.old.items ++ bytes) × Takes self.old conn.0 bytes self.new) }
+        ensures err { OnErr result (self.new ≡ self.old) }
+        ensures kept { OnErr result (out.new.items ≡ out.old.items) }
+        ensures fault { IfErr result (λ fault. IsFaultOr (fault_of_take (slice_get self.old.connections conn.0)) fault) }
+    {
+        let i = self.place_of(conn)?;
+        self.core.core().is_legal();
+        self.core.core().keeps_the_last();
+        let connection = &mut self.connections[i];
+        Ok(connection.take_into(&mut self.core, out)?)
+    }
+
+    /// The frames that `take_into` would put into an empty buffer. An `Err` changes nothing.
     pub fn take(&mut self, alloc: Global, conn: Conn) -> Result<Vec<u8>, HubFault>
         ensures ok { IfOk result (λ bytes. Takes self.old conn.0 bytes.items self.new) }
         ensures err { OnErr result (self.new ≡ self.old) }
         ensures fault { IfErr result (λ fault. IsFaultOr (fault_of_take (slice_get self.old.connections conn.0)) fault) }
     {
+        let mut bytes = Vec::new(alloc);
+        self.take_into(conn, &mut bytes)?;
+        Ok(bytes)
+    }
+
+    /// Whether the connection is over.
+    pub fn is_over(&self, conn: Conn) -> Result<bool, HubFault>
+        ensures ok { IfOk result (λ b. option_map (λ x. x.is_over) (slice_get self.now.connections conn.0) ≡ Some b) }
+        ensures fault { IfErr result (λ fault. fault_of_take (slice_get self.now.connections conn.0) ≡ Some fault) }
+    {
         let i = self.place_of(conn)?;
-        self.core.is_legal();
-        self.core.keeps_the_last();
-        let connection = &mut self.connections[i];
-        Ok(connection.take(&mut self.core, alloc)?)
+        Ok(self.connections[i].is_over())
+    }
+
+    /// How many answers the connection has not taken.
+    pub fn untaken(&self, conn: Conn) -> Result<usize, HubFault>
+        ensures ok { IfOk result (λ n. n ≡ length (untaken_at self.now conn.0)) }
+        ensures fault { IfErr result (λ fault. fault_of_take (slice_get self.now.connections conn.0) ≡ Some fault) }
+        ensures there { OnOk result (fault_of_take (slice_get self.now.connections conn.0) ≡ None) }
+    {
+        let i = self.place_of(conn)?;
+        Ok(self.connections[i].untaken(self.core.core()))
+    }
+
+    /// How many bytes of the connection's stream are kept, which were not stepped.
+    pub fn kept(&self, conn: Conn) -> Result<usize, HubFault>
+        ensures ok { IfOk result (λ n. option_map (λ x. length x.kept) (slice_get self.now.connections conn.0) ≡ Some n) }
+        ensures fault { IfErr result (λ fault. fault_of_take (slice_get self.now.connections conn.0) ≡ Some fault) }
+    {
+        let i = self.place_of(conn)?;
+        Ok(self.connections[i].kept())
+    }
+
+    /// Whether a tick of this moment would end a call. Takes no memory.
+    pub fn due(&self, moment: u64) -> bool
+        ensures { result ≡ is_some (due self.now.core.config self.now.core.history moment) }
+    {
+        self.core.core().due(moment).is_some()
     }
 
     /// Makes a tick of this moment, which ends the earliest parked timed call whose deadline is past, if there is
@@ -149,8 +249,8 @@ impl Hub {
         ensures err { OnErr result (self.new ≡ self.old) }
         ensures fault { IfErr result (λ fault. fault ≡ Refused) }
     {
-        self.core.is_legal();
-        self.core.keeps_the_last();
+        self.core.core().is_legal();
+        self.core.core().keeps_the_last();
         self.core.post(alloc, Event::Tick { moment })?;
         Ok(())
     }

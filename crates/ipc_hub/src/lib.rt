@@ -6,6 +6,8 @@ mod connection;
 mod fed;
 mod hub;
 pub mod laws;
+mod marked_core;
+mod marks;
 mod spelling;
 mod stepping;
 

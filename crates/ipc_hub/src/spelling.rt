@@ -1,11 +1,12 @@
 //! The spellings of answers, one after another.
 
-ghost use Rattle.std.specs.Prelude.{◌≡◌, Some, None, IfOk, IsErrOf, IsSome};
+ghost use Rattle.std.specs.Prelude.{◌≡◌, Some, None, IsErrOf, IsSome, OnOk, OnErr};
+ghost use Rattle.ipc_fields.specs.Field.{◌⊕◌};
+ghost use Rattle.ipc_fields.specs.Given.{Begins};
 ghost use Rattle.ipc_hub.specs.Hub.{spell_answers};
 
 use ipc_terms::{Answer, NoMemory};
 use ipc_wire::{WriteFault, put_answer};
-use std::alloc::Global;
 
 /// The bytes of a frame for which room is made at first, beside those of a message; most answers have fewer.
 const USUAL_FRAME: usize = 32;
@@ -21,26 +22,32 @@ fn usual_room(answers: &[Answer]) -> usize {
     room
 }
 
-/// The spellings of the answers. `TooLong` where one has none.
-fn write_answers(alloc: Global, answers: &[Answer]) -> Result<Vec<u8>, WriteFault>
-    ensures spelled { IfOk result (λ bytes. spell_answers answers.now ≡ Some bytes.items) }
+/// Puts the spellings of the answers at the end of a buffer. `TooLong` where one has none. An `Err` leaves some.
+fn write_answers(out: &mut Vec<u8>, answers: &[Answer]) -> Result<(), WriteFault>
+    ensures put { OnOk result ((Some out.old.items ⊕ spell_answers answers.now) ≡ Some out.new.items) }
     ensures too_long { IsErrOf result WriteFault.TooLong → spell_answers answers.now ≡ None }
+    ensures begins { Begins out.old.items out.new.items }
 {
-    let mut out = Vec::with_capacity(alloc, usual_room(answers))?;
+    out.reserve(usual_room(answers))?;
     for answer in answers {
-        put_answer(&mut out, answer)?;
+        put_answer(out, answer)?;
     }
-    Ok(out)
+    Ok(())
 }
 
-/// The spellings of answers that each have one.
-pub fn spell_answers(alloc: Global, answers: &[Answer]) -> Result<Vec<u8>, NoMemory>
+/// Puts the spellings of answers that each have one at the end of a buffer. An `Err` leaves what stood there.
+pub fn put_answers(out: &mut Vec<u8>, answers: &[Answer]) -> Result<(), NoMemory>
     requires { IsSome (spell_answers answers.now) }
-    ensures { IfOk result (λ bytes. spell_answers answers.now ≡ Some bytes.items) }
+    ensures put { OnOk result ((Some out.old.items ⊕ spell_answers answers.now) ≡ Some out.new.items) }
+    ensures err { OnErr result (out.new.items ≡ out.old.items) }
 {
-    match write_answers(alloc, answers) {
-        Ok(bytes) => Ok(bytes),
-        Err(WriteFault::NoMemory) => Err(NoMemory),
+    let before = out.len();
+    match write_answers(out, answers) {
+        Ok(()) => Ok(()),
+        Err(WriteFault::NoMemory) => {
+            out.truncate(before);
+            Err(NoMemory)
+        }
         Err(WriteFault::TooLong) => unreachable!(),
     }
 }

@@ -1,51 +1,41 @@
 //! Stepping the requests in front of a connection's bytes.
 
-ghost use Rattle.std.specs.Prelude.{◌≡◌, ◌∷◌, [], Bool, true, Some, None, is_none, is_some, IfOk, OnOk, OnErr, if◌then◌else◌};
-ghost use Rattle.ipc_terms.specs.declared.record.Event.TheVariants.{Hello};
-ghost use Rattle.ipc_access.specs.Users.{user_of_key};
-ghost use Rattle.ipc_policy.specs.Sessions.{hellos};
-ghost use Rattle.ipc_policy.specs.Verdict.{verdict};
+ghost use Rattle.std.specs.Prelude.{◌≡◌, ◌∷◌, ◌≤◌, ◌<◌, ◌+◌, [], Bool, true, Some, None, is_none, length, IfOk, OnOk, OnErr, if◌then◌else◌};
 ghost use Rattle.ipc_core.specs.Outboxes.{after_step, after_steps};
 ghost use Rattle.ipc_wire.specs.Requests.{is_hello_request, same};
-ghost use Rattle.ipc_hub.specs.Hub.{session_or_next, event_of, is_hello_refused, hang_up_of};
-ghost use Rattle.ipc_hub.specs.Stepping.{StepsFrames, IsEnd};
+ghost use Rattle.ipc_hub.specs.Hub.{session_or_next, event_of, is_hello_refused, hang_up_of, untaken_of};
+ghost use Rattle.ipc_hub.specs.Marking.{is_set};
+ghost use Rattle.ipc_hub.specs.MarkedCore.{Follows, GainsAtMostTwo};
+ghost use Rattle.ipc_hub.specs.Stepping.{StepsFrames, IsEnd, Starts, Ends, is_full, count_of};
 
 use crate::fed::{End, Fed};
+use crate::marked_core::MarkedCore;
 use ipc_core::Core;
-use ipc_terms::{Bytes, Event, NoMemory, Sid};
+use ipc_terms::{Event, NoMemory, Sid};
 use ipc_wire::{ReadFault, Request, read_request};
 use std::alloc::Global;
-
-/// Steps the hello that brings this key, and gives the session that starts; none where it is refused. An
-/// `Err` changes nothing.
-fn step_hello(core: &mut Core, alloc: Global, key: &Bytes) -> Result<Option<Sid>, NoMemory>
-    ensures session { IfOk result (λ session. session ≡ (if is_some (verdict core.old.config core.old.history (Hello (user_of_key core.old.config.users key.now))) then None else Some (record { 0 = hellos core.old.history }))) }
-    ensures ok { OnOk result (core.new ≡ after_step (Hello (user_of_key core.old.config.users key.now)) core.old) }
-    ensures err { OnErr result (core.new ≡ core.old) }
-{
-    let found = core.config().users.find(key.as_slice());
-    let posted = core.post(alloc, Event::Hello { found })?;
-    if posted.verdict.is_some() {
-        return Ok(None);
-    }
-    Ok(posted.caller)
-}
 
 /// Steps a request of the connection with this session, and gives the session that it has then; none where its
 /// hello is refused. An `Err` changes nothing.
 fn step_request(
-    core: &mut Core,
+    core: &mut MarkedCore,
     alloc: Global,
+    own: u64,
     session: Option<Sid>,
     request: Request,
 ) -> Result<Option<Sid>, NoMemory>
-    requires { same (is_hello_request request) (is_none session) ≡ true }
-    ensures session { IfOk result (λ later. later ≡ (if is_hello_refused core.old session (request ∷ []) then None else Some (session_or_next core.old session))) }
-    ensures ok { OnOk result (core.new ≡ after_step (event_of core.old.config (session_or_next core.old session) request) core.old) }
+    requires order { same (is_hello_request request) (is_none session) ≡ true }
+    requires own { own < length core.old.marked }
+    ensures session { IfOk result (λ later. later ≡ (if is_hello_refused core.old.core session (request ∷ []) then None else Some (session_or_next core.old.core session))) }
+    ensures ok { OnOk result (core.new.core ≡ after_step (event_of core.old.core.config (session_or_next core.old.core session) request) core.old.core) }
+    ensures marks { OnOk result (Follows core.old core.new) }
+    ensures starts { IfOk result (λ later. Starts core.new own session later) }
+    ensures refused { IfOk result (λ later. later ≡ None → is_set core.new.marked own ≡ true) }
+    ensures few { IfOk result (λ later. count_of core.new later ≤ count_of core.old session + 2) }
     ensures err { OnErr result (core.new ≡ core.old) }
 {
     match request {
-        Request::Hello(key) => Ok(step_hello(core, alloc, &key)?),
+        Request::Hello(key) => Ok(core.hello(alloc, own, &key)?),
         Request::Do(call) => {
             let sid = session.unwrap_or(Sid::NOBODY);
             core.post(alloc, Event::Do { sid, call })?;
@@ -55,8 +45,10 @@ fn step_request(
 }
 
 /// Hangs the session up, if there is one. An `Err` changes nothing.
-pub fn hang_up(core: &mut Core, alloc: Global, session: Option<Sid>) -> Result<(), NoMemory>
-    ensures ok { OnOk result (core.new ≡ after_steps (hang_up_of session) core.old) }
+pub fn hang_up(core: &mut MarkedCore, alloc: Global, session: Option<Sid>) -> Result<(), NoMemory>
+    ensures ok { OnOk result (core.new.core ≡ after_steps (hang_up_of session) core.old.core) }
+    ensures marks { OnOk result (Follows core.old core.new) }
+    ensures few { OnOk result (GainsAtMostTwo core.old.core core.new.core) }
     ensures err { OnErr result (core.new ≡ core.old) }
 {
     if let Some(sid) = session {
@@ -65,28 +57,58 @@ pub fn hang_up(core: &mut Core, alloc: Global, session: Option<Sid>) -> Result<(
     Ok(())
 }
 
-/// Steps the requests of the whole frames in front, up to a fault, a refused hello or the first step that runs out
-/// of memory, and gives the bytes that were not stepped. At a fault the session is hung up.
+/// How many answers the session has not taken; none, where there is no session.
+pub fn untaken_of(core: &Core, session: Option<Sid>) -> usize
+    ensures { result ≡ length (untaken_of core.now session) }
+{
+    match session {
+        Some(sid) => core.waiting(sid),
+        None => 0,
+    }
+}
+
+/// Whether as many answers of the session are untaken as are allowed.
+fn is_full(core: &Core, session: Option<Sid>, most: Option<usize>) -> bool
+    ensures { result ≡ is_full most (length (untaken_of core.now session)) }
+{
+    match most {
+        Some(most) => most <= untaken_of(core, session),
+        None => false,
+    }
+}
+
+/// Steps the requests of the whole frames in front, up to a fault, a refused hello, the first step that runs out of
+/// memory, or as many untaken answers as are allowed, and gives the bytes that were not stepped. At a fault the
+/// session is hung up.
 pub fn step_frames<'a>(
-    core: &mut Core,
+    core: &mut MarkedCore,
     alloc: Global,
+    own: u64,
+    most: Option<usize>,
     session: &mut Option<Sid>,
     bytes: &'a [u8],
 ) -> (Fed, &'a [u8])
-    ensures steps { StepsFrames result.0 core.old session.old bytes.now core.new session.new result.1.now }
+    requires { own < length core.old.marked }
+    ensures steps { StepsFrames result.0 core.old.core session.old bytes.now core.new.core session.new result.1.now }
     ensures rest { IsEnd result.1.now bytes.now }
+    ensures marks { Ends result.0 own most core.old session.old core.new session.new }
 {
     let mut rest = bytes;
     'frames: loop {
+        if is_full(core.core(), *session, most) {
+            return (Fed::Full, rest);
+        }
         match read_request(alloc, session.is_none(), rest) {
-            Ok(Some((request, behind))) => match step_request(core, alloc, *session, request) {
-                Ok(Some(sid)) => {
-                    *session = Some(sid);
-                    rest = behind;
+            Ok(Some((request, behind))) => {
+                match step_request(core, alloc, own, *session, request) {
+                    Ok(Some(sid)) => {
+                        *session = Some(sid);
+                        rest = behind;
+                    }
+                    Ok(None) => return (Fed::Over(End::BadKey), rest),
+                    Err(NoMemory) => return (Fed::Short, rest),
                 }
-                Ok(None) => return (Fed::Over(End::BadKey), rest),
-                Err(NoMemory) => return (Fed::Short, rest),
-            },
+            }
             Ok(None) => return (Fed::Done, rest),
             Err(ReadFault::Wire(fault)) => {
                 return match hang_up(core, alloc, *session) {

@@ -1,0 +1,143 @@
+//! A core, and the marks of whom it answers.
+
+ghost use Rattle.std.specs.Prelude.{◌≡◌, ◌<◌, ◌≤◌, ◌+◌, ◌++◌, ◌∷◌, [], ℕ, Option, true, false, None, Some, is_some, length, slice_get, slice_set, IfOk, IfErr, IfSome, IfNone, OnOk, OnErr, MatchOption, if◌then◌else◌};
+ghost use Rattle.ipc_terms.specs.Lists.{changed};
+ghost use Rattle.ipc_terms.specs.declared.record.Event.TheVariants.{Hello};
+ghost use Rattle.ipc_access.specs.Users.{user_of_key};
+ghost use Rattle.ipc_policy.specs.Sessions.{hellos};
+ghost use Rattle.ipc_policy.specs.Verdict.{verdict, answers};
+ghost use Rattle.ipc_state.specs.Ranges.{first_bad};
+ghost use Rattle.ipc_core.specs.Boxes.{taken};
+ghost use Rattle.ipc_core.specs.Outboxes.{starts, session_at, after_step};
+ghost use Rattle.ipc_hub.specs.Hub.{untaken_of};
+ghost use Rattle.ipc_hub.specs.Marking.{is_set};
+ghost use Rattle.ipc_hub.specs.MarkedCore.{Follows, MarksAnswered, GainsAtMostTwo};
+
+use crate::marks::Marks;
+use ipc_core::{Config, Core, CoreFault, Posted};
+use ipc_terms::{Bytes, Event, NoMemory, Sid};
+use std::alloc::Global;
+use std::marker::Model;
+
+/// A core whose every session is a connection's, and the connections that were answered.
+#[derive(Drop)]
+pub struct MarkedCore {
+    core: Core,
+    marks: Marks,
+}
+
+impl Model for MarkedCore {
+    ghost use Rattle.std.specs.Prelude.{◌≡◌, length};
+    ghost use Rattle.ipc_policy.specs.Sessions.{hellos};
+    ghost use Rattle.ipc_hub.specs.MarkedCore.{MarkedView};
+
+    ghost Value = { MarkedView };
+
+    ghost view = { λ m. record { core = m.core; owners = m.marks.owners; marked = m.marks.marked } };
+
+    ghost invariant = { λ m. length m.marks.owners ≡ hellos m.core.history };
+}
+
+/// Steps an event, and marks the connections of those that it answers. An `Err` changes nothing.
+fn post_marked(
+    core: &mut Core,
+    marks: &mut Marks,
+    alloc: Global,
+    event: Event,
+) -> Result<Posted, NoMemory>
+    ensures verdict { IfOk result (λ posted. posted.verdict ≡ verdict core.old.config core.old.history event) }
+    ensures caller { IfOk result (λ posted. posted.caller ≡ session_at 0 (answers core.old.config core.old.history event)) }
+    ensures ok { OnOk result (core.new ≡ after_step event core.old) }
+    ensures marks { OnOk result (MarksAnswered core.old marks.old core.new marks.new) }
+    ensures few { OnOk result (GainsAtMostTwo core.old core.new) }
+    ensures err { OnErr result (core.new ≡ core.old) }
+    ensures same { OnErr result (marks.new ≡ marks.old) }
+{
+    core.keeps_the_last();
+    let posted = core.post(alloc, event)?;
+    marks.mark_session(posted.caller);
+    marks.mark_session(posted.other);
+    Ok(posted)
+}
+
+impl MarkedCore {
+    /// A core with an empty trail and no connection, or the first limit that is out of its range, as of `Core::new`.
+    pub fn new(alloc: Global, config: Config) -> Result<MarkedCore, CoreFault>
+        ensures ok { IfOk result (λ core. core ≡ record { core = record { config = config; history = []; untaken = [] }; owners = []; marked = [] }) }
+        ensures in_range { OnOk result (first_bad config.limits ≡ None) }
+        ensures bad { IfErr result (λ fault. MatchOption (first_bad config.limits) (fault ≡ CoreFault.NoMemory) (λ field. fault ≡ CoreFault.BadConfig field)) }
+    {
+        let core = Core::new(alloc, config)?;
+        Ok(MarkedCore {
+            core,
+            marks: Marks::new(alloc),
+        })
+    }
+
+    pub fn core(&self) -> &Core
+        ensures { result.now ≡ self.now.core }
+    {
+        &self.core
+    }
+
+    /// One more connection, which has no mark. An `Err` changes nothing.
+    pub fn push_connection(&mut self) -> Result<(), NoMemory>
+        ensures ok { OnOk result (self.new ≡ record self.old { marked = self.old.marked ++ false ∷ [] }) }
+        ensures err { OnErr result (self.new ≡ self.old) }
+    {
+        self.marks.push_connection()
+    }
+
+    /// Steps an event that is no hello. An `Err` changes nothing.
+    pub fn post(&mut self, alloc: Global, event: Event) -> Result<(), NoMemory>
+        requires { starts None event ≡ false }
+        ensures ok { OnOk result (self.new.core ≡ after_step event self.old.core) }
+        ensures marks { OnOk result (Follows self.old self.new) }
+        ensures few { OnOk result (GainsAtMostTwo self.old.core self.new.core) }
+        ensures err { OnErr result (self.new ≡ self.old) }
+    {
+        post_marked(&mut self.core, &mut self.marks, alloc, event)?;
+        Ok(())
+    }
+
+    /// Steps the hello of a connection, which brings this key, and gives the session that starts; none where it is
+    /// refused. The connection is marked. An `Err` changes nothing.
+    pub fn hello(&mut self, alloc: Global, own: u64, key: &Bytes) -> Result<Option<Sid>, NoMemory>
+        requires { own < length self.old.marked }
+        ensures session { IfOk result (λ session. session ≡ (if is_some (verdict self.old.core.config self.old.core.history (Hello (user_of_key self.old.core.config.users key.now))) then None else Some (record { 0 = hellos self.old.core.history }))) }
+        ensures ok { OnOk result (self.new.core ≡ after_step (Hello (user_of_key self.old.core.config.users key.now)) self.old.core) }
+        ensures marks { OnOk result (Follows self.old self.new) }
+        ensures marked { OnOk result (is_set self.new.marked own ≡ true) }
+        ensures owner { IfOk result (λ session. (sid : Sid) → session ≡ Some sid → slice_get self.new.owners sid.0 ≡ Some own) }
+        ensures few { IfOk result (λ session. length (untaken_of self.new.core session) ≤ 2) }
+        ensures err { OnErr result (self.new ≡ self.old) }
+    {
+        self.core.keeps_the_last();
+        self.marks.reserve_session()?;
+        let found = self.core.config().users.find(key.as_slice());
+        let hello = Event::Hello { found };
+        let posted = post_marked(&mut self.core, &mut self.marks, alloc, hello)?;
+        self.marks.mark(own);
+        if posted.verdict.is_some() {
+            return Ok(None);
+        }
+        self.marks.push_session(own);
+        Ok(posted.caller)
+    }
+
+    /// Leaves no untaken answers of the session. Takes no memory.
+    pub fn clear(&mut self, sid: Sid)
+        ensures { self.new ≡ record self.old { core = record self.old.core { untaken = changed taken self.old.core.untaken sid.0 } } }
+    {
+        self.core.clear(sid);
+    }
+
+    /// A connection that is marked, which is marked no longer. Takes no memory.
+    pub fn next_answered(&mut self) -> Option<u64>
+        ensures some { IfSome result (λ i. (is_set self.old.marked i ≡ true) × (self.new ≡ record self.old { marked = slice_set self.old.marked i false })) }
+        ensures none { IfNone result ((i : ℕ) → is_set self.old.marked i ≡ false) }
+        ensures same { IfNone result (self.new ≡ self.old) }
+    {
+        self.marks.next()
+    }
+}
