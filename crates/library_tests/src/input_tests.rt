@@ -2,6 +2,9 @@
 
 use ipc_lines::{LineFault, Lines, Output, words_of};
 use std::alloc::Global;
+use std::cell::Cell;
+use std::io;
+use std::io::Read;
 use std::test::Fail;
 
 /// Lines, and their words.
@@ -60,6 +63,46 @@ fn lines_are_read_one_by_one(rt: HostRuntime) -> Result<(), Fail> {
     for (row, shown) in INPUTS.iter().enumerate() {
         if has_lines(rt.alloc(), shown) != Ok(true) {
             return Err(Fail::new(format_args!("row {row} has other lines")));
+        }
+    }
+    Ok(())
+}
+
+/// Counts how often it is read at its end: a terminal asks a person each time.
+#[derive(Drop)]
+struct Counting<'a> {
+    rest: &'a [u8],
+    ends: &'a Cell<usize>,
+}
+
+impl Read for Counting<'_> {
+    fn read(&mut self, buffer: &mut [u8]) -> io::Result<usize> {
+        if self.rest.is_empty() {
+            self.ends.set(self.ends.get().saturating_add(1));
+        }
+        self.rest.read(buffer)
+    }
+}
+
+/// How often the end is read where more lines are asked for than these bytes have.
+fn reads_at_the_end(alloc: Global, input: &[u8]) -> Result<usize, LineFault> {
+    let ends = Cell::new(0);
+    let reader = Counting {
+        rest: input,
+        ends: &ends,
+    };
+    let mut lines = Lines::new(alloc, reader)?;
+    for _ in 0..4 {
+        lines.next_line()?;
+    }
+    Ok(ends.get())
+}
+
+#[test]
+fn the_end_is_read_once(rt: HostRuntime) -> Result<(), Fail> {
+    for input in [b"".as_slice(), b"a\n", b"a\nb"] {
+        if reads_at_the_end(rt.alloc(), input) != Ok(1) {
+            return Err(Fail::new(format_args!("of {} bytes", input.len())));
         }
     }
     Ok(())
