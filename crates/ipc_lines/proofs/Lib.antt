@@ -1,1 +1,3 @@
+mod LineLemmas
+mod OutputLemmas
 pub mod WordLemmas

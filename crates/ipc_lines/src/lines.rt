@@ -1,18 +1,21 @@
 //! The lines of an input, over a bounded number of reads.
 
-ghost use Rattle.std.specs.Prelude.{◌≡◌, ◌+◌, ◌-◌, ◌^◌, ◌≤◌, min, OnOk, IfErr, IfOk, IfSome, IsErr, if◌then◌else◌, true, length};
+ghost use Rattle.std.specs.Prelude.{◌≡◌, ◌+◌, ◌-◌, ◌^◌, ◌≤◌, min, Some, None, OnOk, IfErr, IfOk, IfSome, IsErr, if◌then◌else◌, true, length};
+ghost use Rattle.std.specs.Io.KnownBytes.{Keeps};
+ghost use Rattle.std.specs.String.{string_bytes};
 ghost use Rattle.ipc_lines.specs.Faults.{BlamesOnly};
-ghost use Rattle.ipc_lines.specs.Lines.{lines_read, reads_left};
+ghost use Rattle.ipc_lines.specs.Lines.{lines_read, reads_left, unread, unread_input, written};
+ghost use Rattle.ipc_lines.specs.Reading.{IsNextLine, ReadsLine, ReadsPiece};
 
 use crate::fault::LineFault;
 use crate::output::Output;
 use memchr::memchr;
 use std::alloc::Global;
-use std::io::{BufRead, BufReader, ErrorKind, Read, Take, Write};
+use std::io::{BufRead, BufReader, ErrorKind, Read, Write};
 use std::{io, str};
 
 /// The longest line that is read, in bytes without its line feed.
-const LONGEST_LINE: u64 = 1_048_576;
+const LONGEST_LINE: usize = 1_048_576;
 
 /// How many reads of its reader a run makes at most.
 const MOST_READS: u64 = 1_000_000_000;
@@ -27,6 +30,7 @@ pub struct Counted<R> {
 impl<R> Counted<R> {
     /// Takes one read off what is left, and fails where nothing is.
     fn spend(&mut self) -> io::Result<()>
+        ensures kept { self.new.reader ≡ self.old.reader }
         ensures spent { OnOk result (self.old.left ≡ self.new.left + 1) }
         ensures none_left { self.old.left ≡ 0 → IsErr result }
     {
@@ -41,6 +45,8 @@ impl<R> Counted<R> {
 }
 
 impl<R: Read> Read for Counted<R> {
+    ghost remaining = { λ counted. R.remaining counted.reader };
+
     fn read(&mut self, buffer: &mut [u8]) -> io::Result<usize> {
         self.spend()?;
         self.reader.read(buffer)
@@ -50,12 +56,23 @@ impl<R: Read> Read for Counted<R> {
 /// The lines of an input, without their line feeds. A last line may have none.
 #[derive(Drop)]
 pub struct Lines<R: Read + Drop> {
-    input: Take<BufReader<Counted<R>>>,
+    input: BufReader<Counted<R>>,
     /// The bytes of the line that was read last.
     line: Vec<u8>,
     /// How many lines were read.
     count: u64,
     is_over: bool,
+}
+
+/// How a piece of a line ends.
+#[derive(Clone, Copy)]
+pub enum Piece {
+    /// With the line feed.
+    Fed,
+    /// In the line.
+    Open,
+    /// It is empty, and so is the rest of the input; or the line is too long.
+    Last,
 }
 
 impl<R: Read + Drop> Lines<R> {
@@ -64,6 +81,7 @@ impl<R: Read + Drop> Lines<R> {
     pub fn new(alloc: Global, reader: R) -> Result<Lines<R>, LineFault>
         ensures bounded { IfOk result (λ lines. reads_left lines ≡ 1000000000) }
         ensures none_read { IfOk result (λ lines. lines_read lines ≡ 0) }
+        ensures unread { IfOk result (λ lines. Keeps (R.remaining reader) (unread R.remaining lines)) }
         ensures memory { IfErr result (λ fault. fault ≡ LineFault.Memory) }
     {
         let counted = Counted {
@@ -71,8 +89,8 @@ impl<R: Read + Drop> Lines<R> {
             left: MOST_READS,
         };
         match BufReader::new(alloc, counted) {
-            Ok(reader) => Ok(Lines {
-                input: reader.take(0),
+            Ok(input) => Ok(Lines {
+                input,
                 line: Vec::new(alloc),
                 count: 0,
                 is_over: false,
@@ -91,7 +109,7 @@ impl<R: Read + Drop> Lines<R> {
     /// Whether the next line was read in whole together with an earlier one, so that nothing is
     /// waited for.
     pub fn is_at_hand(&self) -> bool {
-        memchr(b'\n', self.input.get_ref().buffer()).is_some()
+        memchr(b'\n', self.input.buffer()).is_some()
     }
 
     /// The next line, and `None` at the input's end. A line has at most 1,048,576 bytes without its line
@@ -124,69 +142,106 @@ impl<R: Read + Drop> Lines<R> {
         self.next_line()
     }
 
+    /// Reads the next line into the text, as `next_line` gives it. `false` at the input's end, and then the text
+    /// stays as it was. No further line is to be asked for after an `Err`.
+    pub fn read_next(&mut self, text: &mut String) -> Result<bool, LineFault>
+        ensures next { IfOk result (λ is_there. IsNextLine (if is_there then Some (string_bytes text.new) else None) (unread R.remaining self.old) (unread R.remaining self.new)) }
+        ensures counted { IfOk result (λ is_there. lines_read self.new ≡ (if is_there then lines_read self.old + 1 else lines_read self.old)) }
+        ensures blamed { IfErr result (BlamesOnly (lines_read self.old + 1)) }
+    {
+        if !self.read_line()? {
+            return Ok(false);
+        }
+        let Ok(line) = str::from_utf8(&self.line) else {
+            return Err(LineFault::Bad(self.count));
+        };
+        text.clear();
+        text.push_str(line)?;
+        Ok(true)
+    }
+
+    /// The same. Where the line must be waited for, what was put into the output is written first.
+    pub fn read_next_after<W: Write + Drop>(
+        &mut self,
+        output: &mut Output<W>,
+        text: &mut String,
+    ) -> Result<bool, LineFault>
+        ensures next { IfOk result (λ is_there. IsNextLine (if is_there then Some (string_bytes text.new) else None) (unread R.remaining self.old) (unread R.remaining self.new)) }
+        ensures kept { Keeps (written W.contents output.old) (written W.contents output.new) }
+        ensures blamed { IfErr result (BlamesOnly (lines_read self.old + 1)) }
+    {
+        if !self.is_at_hand() {
+            output.flush()?;
+        }
+        let is_there = self.read_next(text)?;
+        Ok(is_there)
+    }
+
     /// Reads the next line's bytes. `false` at the input's end.
     fn read_line(&mut self) -> Result<bool, LineFault>
         ensures counted { IfOk result (λ is_there. self.new.count ≡ (if is_there then self.old.count + 1 else self.old.count)) }
+        ensures next { IfOk result (λ is_there. IsNextLine (if is_there then Some self.new.line.items else None) (unread R.remaining self.old) (unread R.remaining self.new)) }
         ensures fits { IfOk result (λ is_there. is_there ≡ true → length self.new.line.items ≤ 1048576) }
         ensures blamed { IfErr result (BlamesOnly (self.old.count + 1)) }
     {
-        // The reads end long before so many lines were read.
-        if self.is_over || self.count == u64::MAX {
+        if self.is_over {
             return Ok(false);
         }
-        self.read_bytes()?;
-        if self.line.is_empty() {
-            self.is_over = true;
+        // The reads end long before so many lines were read.
+        if self.count == u64::MAX {
+            return Err(LineFault::Read);
+        }
+        let is_fed = self.read_bytes()?;
+        self.is_over = !is_fed;
+        if self.is_over && self.line.is_empty() {
             return Ok(false);
         }
         self.count += 1;
-        if self.line.last() == Some(&b'\n') {
-            self.line.pop();
-        } else {
-            self.is_over = true;
-        }
-        if self.line.len() as u64 > LONGEST_LINE {
+        if self.line.len() > LONGEST_LINE {
             return Err(LineFault::Bad(self.count));
         }
         Ok(true)
     }
 
-    /// Reads the next line's bytes with their line feed, if there is one; none at the input's end,
-    /// and of a line that is too long one byte more than the longest.
-    fn read_bytes(&mut self) -> Result<(), LineFault>
+    /// Reads the next line's bytes, and says whether a line feed stood behind them. Without one the input ends there,
+    /// or the line is too long; then one byte more than the longest has is read.
+    fn read_bytes(&mut self) -> Result<bool, LineFault>
         ensures counted { self.new.count ≡ self.old.count }
+        ensures read { IfOk result (λ is_fed. ReadsLine is_fed self.new.line.items (unread_input R.remaining self.old) (unread_input R.remaining self.new)) }
         ensures blamed { IfErr result (BlamesOnly (self.old.count + 1)) }
     {
         self.line.clear();
-        self.input.set_limit(LONGEST_LINE + 1);
         // Each turn but the first makes a read.
         for _ in 0..=MOST_READS {
-            if self.read_piece()? {
-                return Ok(());
+            match self.read_piece()? {
+                Piece::Open => {}
+                Piece::Fed => return Ok(true),
+                Piece::Last => return Ok(false),
             }
         }
         Err(LineFault::Read)
     }
 
-    /// Adds the bytes that are at hand to the line, up to a line feed; reads some where none are. Says whether the
-    /// line ends there.
-    fn read_piece(&mut self) -> Result<bool, LineFault>
+    /// Adds the bytes that are at hand to the line, up to a line feed, which is read too; reads some where none are.
+    fn read_piece(&mut self) -> Result<Piece, LineFault>
         ensures counted { self.new.count ≡ self.old.count }
+        ensures read { IfOk result (λ piece. ReadsPiece piece self.old.line.items self.new.line.items (unread_input R.remaining self.old) (unread_input R.remaining self.new)) }
         ensures blamed { IfErr result (BlamesOnly (self.old.count + 1)) }
     {
-        let found = match self.input.fill_buf() {
-            Ok(found) => found,
-            Err(e) if e.kind() == ErrorKind::Interrupted => return Ok(false),
+        let room = (LONGEST_LINE + 1).saturating_sub(self.line.len());
+        let shown = match self.input.fill_buf() {
+            Ok(shown) => shown,
+            Err(e) if e.kind() == ErrorKind::Interrupted => return Ok(Piece::Open),
             Err(_) => return Err(LineFault::Read),
         };
-        let end = match memchr(b'\n', found) {
-            Some(place) => place + 1,
-            None => found.len(),
+        let found = &shown[..shown.len().min(room)];
+        let (end, read, piece) = match memchr(b'\n', found) {
+            Some(place) => (place, place + 1, Piece::Fed),
+            None if found.is_empty() => (0, 0, Piece::Last),
+            None => (found.len(), found.len(), Piece::Open),
         };
-        if self.line.extend_from_slice(&found[..end]).is_err() {
-            return Err(LineFault::Memory);
-        }
-        self.input.consume(end);
-        Ok(end == 0 || self.line.last() == Some(&b'\n'))
+        self.line.extend_from_slice(&found[..end])?;
+        self.input.consume(read);
+        Ok(piece)
     }
 }

@@ -1,8 +1,10 @@
 //! Lines that are written in blocks.
 
-ghost use Rattle.std.specs.Prelude.{◌≡◌, IfErr};
+ghost use Rattle.std.specs.Prelude.{◌≡◌, [], IfErr, IfOk, OnOk};
+ghost use Rattle.std.specs.Io.KnownBytes.{Appends, Keeps};
 ghost use Rattle.std.specs.IoError.{error_kind};
 ghost use Rattle.ipc_lines.specs.Faults.{IsOfWriter, of_writer};
+ghost use Rattle.ipc_lines.specs.Lines.{waiting, written};
 
 use crate::fault::LineFault;
 use std::alloc::Global;
@@ -18,7 +20,8 @@ pub struct Output<W: Write + Drop> {
 impl<W: Write + Drop> Output<W> {
     /// Takes a block's memory, and writes nothing yet.
     pub fn new(alloc: Global, writer: W) -> Result<Output<W>, LineFault>
-        ensures { IfErr result IsOfWriter }
+        ensures nothing { IfOk result (λ output. Appends (W.contents writer) (written W.contents output) []) }
+        ensures fault { IfErr result IsOfWriter }
     {
         match BufWriter::new(alloc, writer) {
             Ok(writer) => Ok(Output { writer }),
@@ -28,7 +31,8 @@ impl<W: Write + Drop> Output<W> {
 
     /// Puts a line, with its line end, into the block; a full block is written.
     pub fn put(&mut self, line: &str) -> Result<(), LineFault>
-        ensures { IfErr result IsOfWriter }
+        ensures put { OnOk result (Appends (written W.contents self.old) (written W.contents self.new) line.now) }
+        ensures fault { IfErr result IsOfWriter }
     {
         self.writer
             .write_all(line.as_bytes())
@@ -37,9 +41,22 @@ impl<W: Write + Drop> Output<W> {
 
     /// Writes what was put, so that whoever reads it has each line.
     pub fn flush(&mut self) -> Result<(), LineFault>
-        ensures { IfErr result IsOfWriter }
+        ensures kept { Keeps (written W.contents self.old) (written W.contents self.new) }
+        ensures emptied { OnOk result (waiting self.new ≡ []) }
+        ensures fault { IfErr result IsOfWriter }
     {
         self.writer.flush().map_err(fault_of_writer)
+    }
+
+    /// Writes what was put, and gives the writer back.
+    pub fn finish(self) -> (W, Result<(), LineFault>)
+        ensures kept { OnOk result.1 (Keeps (written W.contents self) (W.contents result.0)) }
+        ensures fault { IfErr result.1 IsOfWriter }
+    {
+        let mut output = self;
+        let outcome = output.flush();
+        let (writer, _unwritten) = output.writer.into_parts();
+        (writer, outcome)
     }
 }
 
