@@ -1,10 +1,12 @@
-/* A library to preload: it refuses one growth of memory, or all from one on, or disturbs one read or write, and lets all
- * others be.
+/* A library to preload: it refuses growths of memory, or disturbs reads or writes, and lets all others be. A read is a call of
+ * read or recv, and a write one of write or send.
  *
- * DISTURB_WHAT  allocation (refused), allocations (this and all behind it refused), read-fails, read-short, read-interrupted, write-fails, write-short or
- *               write-interrupted
+ * DISTURB_WHAT  allocation (refused), read-fails, read-short, read-interrupted, write-fails, write-short or write-interrupted;
+ *               or kept: nothing is disturbed
  * DISTURB_AT    which one, counted from 1 over the whole process
- * DISTURB_TOLD  a file descriptor that gets a byte once that one was met
+ * DISTURB_TIMES how many, with that one; without it, one
+ * DISTURB_TOLD  a file descriptor that gets a byte once that one was met; of kept, a line with how many allocations there are,
+ *               each time that there are more than ever before
  * DISTURB_PIECE the most bytes of a read or a write; without it there is no such bound
  *
  * It counts every call of the C library's allocator, whoever makes it, and never one that only frees.
@@ -14,8 +16,10 @@
 #include <stdatomic.h>
 #include <stddef.h>
 #include <stdint.h>
+#include <stdio.h>
 #include <stdlib.h>
 #include <string.h>
+#include <sys/socket.h>
 #include <sys/syscall.h>
 #include <sys/types.h>
 #include <unistd.h>
@@ -24,14 +28,16 @@ extern void *__libc_malloc(size_t);
 extern void *__libc_calloc(size_t, size_t);
 extern void *__libc_realloc(void *, size_t);
 extern void *__libc_memalign(size_t, size_t);
+extern void __libc_free(void *);
 
-enum call { ALLOCATION, READ, WRITE, NONE };
-enum way { FAILS, FAILS_FROM_THERE, SHORT, INTERRUPTED };
+enum call { ALLOCATION, READ, WRITE, KEPT, NONE };
+enum way { FAILS, SHORT, INTERRUPTED };
 
 static enum call disturbed_call = NONE;
 static enum way disturbed_way;
 static int told;
-static atomic_long left;
+static long times = 1;
+static atomic_long left, kept, most_kept;
 static size_t piece = SIZE_MAX;
 
 static const struct {
@@ -40,23 +46,25 @@ static const struct {
     enum way way;
 } WAYS[] = {
     {"allocation", ALLOCATION, FAILS},
-    {"allocations", ALLOCATION, FAILS_FROM_THERE},
     {"read-fails", READ, FAILS},
     {"read-short", READ, SHORT},
     {"read-interrupted", READ, INTERRUPTED},
     {"write-fails", WRITE, FAILS},
     {"write-short", WRITE, SHORT},
     {"write-interrupted", WRITE, INTERRUPTED},
+    {"kept", KEPT, FAILS},
 };
 
 __attribute__((constructor)) static void begin(void)
 {
     const char *what = getenv("DISTURB_WHAT"), *at = getenv("DISTURB_AT"), *to = getenv("DISTURB_TOLD");
-    const char *most = getenv("DISTURB_PIECE");
+    const char *most = getenv("DISTURB_PIECE"), *many = getenv("DISTURB_TIMES");
     if (!what || !at || !to)
         return;
     if (most)
         piece = strtoul(most, NULL, 10);
+    if (many)
+        times = atol(many);
     told = atoi(to);
     left = atol(at);
     for (size_t i = 0; i < sizeof WAYS / sizeof *WAYS; i++)
@@ -66,17 +74,33 @@ __attribute__((constructor)) static void begin(void)
         }
 }
 
-/* Whether this call is the one to disturb, or one behind it where all are. */
+/* Whether this call is one to disturb. */
 static int is_met(enum call call)
 {
     if (call != disturbed_call)
         return 0;
     long before = atomic_fetch_sub(&left, 1);
-    if (before > 1 || (before < 1 && disturbed_way != FAILS_FROM_THERE))
+    if (before > 1 || before <= 1 - times)
         return 0;
     if (before == 1)
         syscall(SYS_write, told, "!", 1);
     return 1;
+}
+
+/* Counts an allocation that was made, if it was; tells how many there are, where it is more than ever before. */
+static void *counted(void *made)
+{
+    if (!made || disturbed_call != KEPT)
+        return made;
+    long now = atomic_fetch_add(&kept, 1) + 1, most = atomic_load(&most_kept);
+    while (now > most && !atomic_compare_exchange_weak(&most_kept, &most, now))
+        ;
+    if (now > most) {
+        char text[24];
+        int length = snprintf(text, sizeof text, "%ld\n", now);
+        syscall(SYS_write, told, text, length);
+    }
+    return made;
 }
 
 static int is_refused(void)
@@ -89,23 +113,35 @@ static int is_refused(void)
 
 void *malloc(size_t size)
 {
-    return is_refused() ? NULL : __libc_malloc(size);
+    return is_refused() ? NULL : counted(__libc_malloc(size));
 }
 
 void *calloc(size_t count, size_t size)
 {
-    return is_refused() ? NULL : __libc_calloc(count, size);
+    return is_refused() ? NULL : counted(__libc_calloc(count, size));
+}
+
+void free(void *old)
+{
+    if (old && disturbed_call == KEPT)
+        atomic_fetch_sub(&kept, 1);
+    __libc_free(old);
 }
 
 void *realloc(void *old, size_t size)
 {
-    /* A size of 0 only frees. */
-    return (!old || size) && is_refused() ? NULL : __libc_realloc(old, size);
+    if (!old)
+        return malloc(size);
+    if (!size) {
+        free(old);
+        return NULL;
+    }
+    return is_refused() ? NULL : __libc_realloc(old, size);
 }
 
 void *memalign(size_t alignment, size_t size)
 {
-    return is_refused() ? NULL : __libc_memalign(alignment, size);
+    return is_refused() ? NULL : counted(__libc_memalign(alignment, size));
 }
 
 void *aligned_alloc(size_t alignment, size_t size)
@@ -121,25 +157,39 @@ int posix_memalign(void **made, size_t alignment, size_t size)
     return found ? 0 : ENOMEM;
 }
 
-/* Answers one call of `number` on a file descriptor, which may be the one to disturb. */
-static ssize_t transfer(enum call call, long number, int file, void *bytes, size_t count)
+/* How many of so many bytes a call may transfer; -1 where it fails, with errno. */
+static ssize_t room(enum call call, size_t count)
 {
     if (count > piece)
         count = piece;
     if (!is_met(call))
-        return syscall(number, file, bytes, count);
+        return count;
     if (disturbed_way == SHORT)
-        return syscall(number, file, bytes, count ? 1 : 0);
+        return count ? 1 : 0;
     errno = disturbed_way == FAILS ? EIO : EINTR;
     return -1;
 }
 
 ssize_t read(int file, void *bytes, size_t count)
 {
-    return transfer(READ, SYS_read, file, bytes, count);
+    ssize_t most = room(READ, count);
+    return most < 0 ? -1 : syscall(SYS_read, file, bytes, most);
 }
 
 ssize_t write(int file, const void *bytes, size_t count)
 {
-    return transfer(WRITE, SYS_write, file, (void *)bytes, count);
+    ssize_t most = room(WRITE, count);
+    return most < 0 ? -1 : syscall(SYS_write, file, bytes, most);
+}
+
+ssize_t recv(int socket, void *bytes, size_t count, int flags)
+{
+    ssize_t most = room(READ, count);
+    return most < 0 ? -1 : recvfrom(socket, bytes, most, flags, NULL, NULL);
+}
+
+ssize_t send(int socket, const void *bytes, size_t count, int flags)
+{
+    ssize_t most = room(WRITE, count);
+    return most < 0 ? -1 : sendto(socket, bytes, most, flags, NULL, 0);
 }

@@ -7,60 +7,49 @@ refused too. Each run is judged by itself:
 - growth_tests makes again what is refused: it prints its `stdout`, with status 0.
 - mqserve and mqctl, over NAME.in, print NAME.out; or, where memory is refused or a read or a write fails, they end with
   the status and the words of that, and what they have printed by then are the first lines of NAME.out.
+- mqserve serve, with two clients one after the other, ends so too, or with status 0: then each client got the first of
+  its answers. mqctl ADDRESS KEY has a server that answers at once.
 - A short or interrupted read or write changes nothing.
 
+Of mqserve serve, growths are also refused so many times one after another that the server's last try of a hello, a step or a
+hang-up is the first that is granted, or the last that is refused: `tries`. And of many connections, one after another, no
+allocation may be left: `kept`.
+
 Prints a line for each way, one for each run that fails, and the counts; the status is 1 where one failed, or where few
-were met. The programs
-are looked for in crates/NAME/out; `--programs FOLDER` gives another folder.
+were met. The programs are looked for in crates/NAME/out; `--programs FOLDER` gives another folder.
 """
 
 import argparse
 import concurrent.futures
-import dataclasses
 import itertools
 import os
 import pathlib
-import signal
 import subprocess
 import sys
 import tempfile
 
+from programs import Program
+from served import Client, Server, answers_of, frame, short_talk
+from tries import tries_differences
+
 HERE = pathlib.Path(__file__).resolve().parent
 TOP = HERE.parent
-SECONDS = 60
 # A whole run that meets fewer growths, or fewer reads and writes, shows nothing.
 LEAST = 1_000
 # The most bytes of a read or a write, where these are disturbed: so there are many.
 PIECE = 7
+# More growths than a run asks for.
+ALL = 10**9
 
-# How each way is said, and the program's word and exit status where it can't go on.
-ALLOCATION = ("allocation", "memory", 5)
-LASTING = ("allocations", "memory", 5)
-FAILING = [("read-fails", "read", 4), ("write-fails", "write", 4)]
-MEMORY = (ALLOCATION[0], LASTING[0])
+ALLOCATION = "allocation"
+# How each way is said, and the program's words and exit status where it can't go on. A connection's reads and writes are the
+# network's.
+MEMORY = (["memory"], 5)
+FAILING = {"read-fails": (["read", "net"], 4), "write-fails": (["write", "net"], 4)}
 HARMLESS = ["read-short", "read-interrupted", "write-short", "write-interrupted"]
 
-
-@dataclasses.dataclass
-class Program:
-    name: str
-    file: pathlib.Path
-    arguments: list
-    given: bytes
-    out: bytes
-    # The status of a run that nothing disturbs.
-    status: int
-    # Whether it makes again what is refused.
-    again: bool = False
-
-
-@dataclasses.dataclass
-class Ended:
-    out: bytes
-    err: bytes
-    status: int
-    # Whether the disturbed call was met.
-    met: bool
+# How many connections a server has whose allocations are counted, and how many allocations more a hundred may leave.
+FEW, MANY, LEFT = 10, 110, 20
 
 
 def programs(folder):
@@ -72,6 +61,16 @@ def programs(folder):
     script = ["script", "--queues-max", "256"]
     yield Program("mqserve", at("mqserve"), script, beside("mqserve", ".in"), beside("mqserve", ".out"), 0)
     yield Program("mqctl", at("mqctl"), [], beside("mqctl", ".in"), beside("mqctl", ".out"), 1)
+    yield server(at("mqserve"))
+    refused = frame(b"\x4c\0\x08")
+    lines, printed = b"umask 000\nmq-close 7\n-\n", b"mask 022\nrefused 8 EBADF BadDescr\nfault usage\n"
+    answers = answers_of(short_talk(0)) + refused
+    yield Client("mqctl ADDRESS KEY", at("mqctl"), ["ka1"], lines, printed, 1, answers=answers)
+
+
+def server(file, **more):
+    out = b"serving ADDRESS\nserved %d\n" % len(more.get("talks", Server.talks))
+    return Server("mqserve serve", file, [TOP / "demo" / "users"], b"", out, 0, **more)
 
 
 def library_in(room):
@@ -82,100 +81,87 @@ def library_in(room):
     return made
 
 
-def run(program, library, what, at):
-    """Runs the program with this call disturbed."""
+def run(program, library, what, at, times=1):
+    """Runs the program with so many calls disturbed, from this one on. How it ended, and what the library told."""
     reader, writer = os.pipe()
-    told = {"DISTURB_WHAT": what, "DISTURB_AT": str(at), "DISTURB_TOLD": str(writer)}
-    if what not in MEMORY:
+    told = {"DISTURB_WHAT": what, "DISTURB_AT": str(at), "DISTURB_TIMES": str(times), "DISTURB_TOLD": str(writer)}
+    if what in FAILING or what in HARMLESS:
         told["DISTURB_PIECE"] = str(PIECE)
     try:
-        ended = subprocess.run(
-            [program.file, *program.arguments],
-            input=program.given,
-            capture_output=True,
-            timeout=SECONDS,
-            pass_fds=[writer],
-            env={**os.environ, **told, "LD_PRELOAD": str(library)},
-        )
+        ended = program.run({**os.environ, **told, "LD_PRELOAD": str(library)}, [writer])
     finally:
         os.close(writer)
         with os.fdopen(reader, "rb") as end:
-            met = bool(end.read())
-    return Ended(ended.stdout, ended.stderr, ended.returncode, met)
+            said = end.read()
+    return ended, said
 
 
-def first_difference(given, wanted):
-    given, wanted = given.split(b"\n"), wanted.split(b"\n")
-    for number, (one, other) in enumerate(zip(given, wanted), 1):
-        if one != other:
-            return f"line {number} is {one!r}, and not {other!r}"
-    return f"{len(given) - 1} lines, and not {len(wanted) - 1}"
-
-
-def whole_difference(program, ended):
-    """Where the run does other than one that nothing disturbs, or nothing."""
-    if ended.status < 0:
-        return f"ended by {signal.Signals(-ended.status).name}"
-    if ended.err:
-        return f"standard error has {ended.err!r}"
-    if ended.out != program.out:
-        return f"standard output: {first_difference(ended.out, program.out)}"
-    return "" if ended.status == program.status else f"status {ended.status}, and not {program.status}"
-
-
-def stopped_difference(program, ended, word, status):
-    """Where the run does other than one that stops by this fault, or nothing."""
-    if ended.status < 0:
-        return f"ended by {signal.Signals(-ended.status).name}"
-    said = f"{program.name}: {word}\n".encode()
-    if ended.err != said or ended.status != status:
-        return f"status {ended.status} and {ended.err!r}, and not {status} and {said!r}"
-    is_whole = not ended.out or ended.out.endswith(b"\n")
-    is_first = is_whole and program.out.startswith(ended.out)
-    return "" if is_first else f"what it printed are not the first lines: {first_difference(ended.out, program.out)}"
-
-
-def difference(program, ended, fault):
-    """Where a run in which a call was disturbed does other than it may, or nothing."""
-    whole = whole_difference(program, ended)
-    if not whole or not fault or program.again:
-        return whole
-    return stopped_difference(program, ended, *fault)
-
-
-def judged(program, library, what, fault, at):
+def judged(program, library, what, fault, at, times):
     """Whether the call was met, and where the run does other than it may, or nothing."""
     try:
-        ended = run(program, library, what, at)
+        ended, said = run(program, library, what, at, times)
     except subprocess.TimeoutExpired:
-        return True, f"takes more than {SECONDS} seconds"
-    return ended.met, difference(program, ended, fault)
+        return True, "takes too long"
+    return bool(said), program.difference(ended, fault)
 
 
-def each_in_turn(pool, jobs, program, library, what, fault=None):
-    """Disturbs the first such call, the second, and so on until none is met; how many were, and how many runs failed."""
-    met, failed = 0, 0
+def each_in_turn(pool, jobs, judge):
+    """Judges a run with the first call disturbed, the second, and so on until none is met; each that was met."""
     numbers = itertools.count(1)
     while True:
         batch = list(itertools.islice(numbers, 16 * jobs))
-        verdicts = list(pool.map(lambda at: judged(program, library, what, fault, at), batch))
-        for at, (is_met, why) in zip(batch, verdicts):
-            met += is_met
-            failed += bool(why)
-            if why:
-                print(f"{program.name}, {what} {at}: {why}", flush=True)
-        if not verdicts[-1][0]:
-            print(f"{program.name}, {what}: {met} met, {failed} failed", flush=True)
-            return met, failed
+        for at, (is_met, verdict) in zip(batch, pool.map(judge, batch)):
+            if not is_met:
+                return
+            yield at, verdict
+
+
+def disturbed(pool, jobs, program, library, way):
+    """Disturbs each such call in turn; how many were met, and how many runs failed."""
+    what, fault, times = way
+    judge = lambda at: judged(program, library, what, fault, at, times)
+    said = what if times == 1 else f"{what}s from there on"
+    met, failed = 0, 0
+    for at, why in each_in_turn(pool, jobs, judge):
+        met += 1
+        failed += bool(why)
+        if why:
+            print(f"{program.name}, {said} {at}: {why}", flush=True)
+    print(f"{program.name}, {said}: {met} met, {failed} failed", flush=True)
+    return met, failed
 
 
 def ways_of(program):
-    """The ways in which calls of the program are disturbed, each with its fault, if it is one."""
-    yield ALLOCATION[0], ALLOCATION[1:]
+    """The ways in which calls of the program are disturbed: each with its fault, if it is one, and how many calls."""
+    yield ALLOCATION, MEMORY, 1
     if not program.again:
-        yield LASTING[0], LASTING[1:]
-        yield from ((what, fault) for what, *fault in FAILING)
-    yield from ((what, None) for what in HARMLESS)
+        yield ALLOCATION, MEMORY, ALL
+        yield from ((what, fault, 1) for what, fault in FAILING.items())
+    yield from ((what, None, 1) for what in HARMLESS)
+
+
+def kept_difference(file, library):
+    """Where connections that are over leave allocations, or nothing."""
+    most = []
+    for count in (FEW, MANY):
+        program = server(file, talks=(short_talk,) * count)
+        ended, said = run(program, library, "kept", 1)
+        differs = program.whole_difference(ended)
+        if differs or not said:
+            return differs or "nothing was counted"
+        most.append(max(map(int, said.split())))
+    print(f"mqserve serve, kept: {most[0]} allocations at most with {FEW} connections, {most[1]} with {MANY}", flush=True)
+    return "" if most[1] - most[0] <= LEFT else "connections that are over leave allocations"
+
+
+def server_differences(pool, jobs, file, library):
+    """What else differs of a server."""
+    def outcome(at, times):
+        ended, said = run(server(file), library, ALLOCATION, at, times)
+        return bool(said), ended
+
+    yield from tries_differences(server(file), lambda judge: each_in_turn(pool, jobs, judge), outcome)
+    yield kept_difference(file, library)
 
 
 def main():
@@ -190,11 +176,15 @@ def main():
         for program in programs(asked.programs and asked.programs.resolve()):
             if asked.names and program.name not in asked.names:
                 continue
-            for what, fault in ways_of(program):
-                met, amiss = each_in_turn(pool, asked.jobs, program, library, what, fault)
+            for way in ways_of(program):
+                met, amiss = disturbed(pool, asked.jobs, program, library, way)
                 failed += amiss
-                allocations += met if what in MEMORY else 0
-                transfers += met if what not in MEMORY else 0
+                allocations += met if way[0] == ALLOCATION else 0
+                transfers += met if way[0] != ALLOCATION else 0
+            if isinstance(program, Server):
+                for why in filter(None, server_differences(pool, asked.jobs, program.file, library)):
+                    print(f"{program.name}: {why}")
+                    failed += 1
     if not asked.names and (allocations < LEAST or transfers < LEAST):
         print(f"fewer than {LEAST} of a kind were met: the library that refuses them has no effect")
         failed += 1
