@@ -1,5 +1,5 @@
 -- Stepping frames marks whom it answers, and stops in time.
-use Rattle.std.proofs.Common.{◌≡◌, ℕ, ◌+◌, ◌≤◌, Bool, true, false, cond, max, leb, List, [], ◌∷◌, length, slice_get, Option, Some, None, refl, sym, ap, subst, ◌∙◌, arith}
+use Rattle.std.proofs.Common.{◌≡◌, ℕ, ◌+◌, ◌≤◌, true, false, cond, [], ◌∷◌, slice_get, Option, Some, None, refl, sym, ap, ◌∙◌, arith}
 use Rattle.std.specs.Prelude.{is_none, unwrap_or}
 use Rattle.std.proofs.lemmas.Bool.{leb-false}
 use Rattle.ipc_terms.specs.declared.ids.Sid.{Sid}
@@ -11,7 +11,7 @@ use Rattle.ipc_wire.specs.Requests.{is_hello_request, same}
 use Rattle.ipc_hub.specs.declared.fed.Fed.{Fed}
 use Rattle.ipc_hub.specs.declared.fed.Fed.TheVariants.{Full, Over}
 use Rattle.ipc_hub.specs.declared.fed.End.TheVariants.{BadKey}
-use Rattle.ipc_hub.specs.Hub.{session_or_next, is_hello_refused, untaken_of}
+use Rattle.ipc_hub.specs.Hub.{session_or_next, is_hello_refused}
 use Rattle.ipc_hub.specs.Marking.{is_set}
 use Rattle.ipc_hub.specs.MarkedCore.{MarkedView, Follows, GainsAtMostTwo}
 use Rattle.ipc_hub.specs.Stepping.{Starts, Goes, Ends, IsWithin, is_full, count_of}

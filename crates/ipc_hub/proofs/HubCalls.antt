@@ -1,5 +1,5 @@
 -- What each call of a hub comes to, where the hub is seen as its parts.
-use Rattle.std.proofs.Common.{◌≡◌, ℕ, ◌+◌, ◌≤◌, max, true, false, List, [], ◌∷◌, ◌++◌, length, set, slice_get, Option, Some, None, IsSome, refl, sym, ap, subst, ◌∙◌}
+use Rattle.std.proofs.Common.{◌≡◌, ℕ, true, false, List, [], ◌++◌, length, set, slice_get, Option, Some, None, refl, sym, ap, subst, ◌∙◌}
 use Rattle.std.specs.Prelude.{is_none}
 use Rattle.ipc_core.specs.Outboxes.{after_steps}
 use Rattle.ipc_wire.specs.Streams.{Cut, cut}

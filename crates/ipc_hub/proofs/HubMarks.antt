@@ -1,5 +1,5 @@
 -- A hub's marks, and whose its sessions are.
-use Rattle.std.proofs.Common.{◌≡◌, ℕ, zero, suc, ◌+◌, ◌<◌, ◌≤◌, max, leb, Bool, true, false, eqb, cond, List, [], ◌∷◌, ◌++◌, length, set, slice_get, Option, Some, None, option_map, refl, sym, ap, subst, ◌∙◌, arith}
+use Rattle.std.proofs.Common.{◌≡◌, ℕ, zero, suc, Bool, true, false, eqb, cond, List, [], ◌∷◌, ◌++◌, length, set, slice_get, Option, Some, None, option_map, refl, sym, ap, subst, ◌∙◌, arith}
 use Rattle.std.specs.Prelude.{is_none, unwrap_or}
 use Rattle.std.proofs.lemmas.Bool.{eqb-true, eq-eqb}
 use Rattle.ipc_terms.specs.declared.ids.Sid.{Sid}
@@ -16,7 +16,7 @@ use Rattle.ipc_hub.specs.declared.fed.End.TheVariants.{Wire, BadKey}
 use Rattle.ipc_hub.specs.Hub.{Connection, Hub, Marks, new_connection, untaken_of, untaken, untaken_at, hang_up_of, IsOutcome, core_after_take}
 use Rattle.ipc_hub.specs.Marking.{is_set}
 use Rattle.ipc_hub.specs.MarkedCore.{MarkedView, Follows}
-use Rattle.ipc_hub.specs.Sessions.{EachHasItsOwn, Stands}
+use Rattle.ipc_hub.specs.Sessions.{Stands}
 use Rattle.ipc_hub.specs.Stepping.{Starts, Ends, IsWithin, is_full, count_of}
 use Rattle.ipc_hub.proofs.SessionLemmas.{Which, Own, Other, AfterOpening, Fresh, Stood, which, get_set, after_opening, fresh_has_none, fed_changes, none_at_all}
 use Rattle.ipc_hub.proofs.MarkLemmas.{set_count}

@@ -1,8 +1,7 @@
 -- Marks are set and taken away.
-use Rattle.std.proofs.Common.{◌≡◌, ℕ, zero, suc, ◌+◌, ◌<◌, ◌≤◌, Bool, true, false, eqb, cond, List, [], ◌∷◌, ◌++◌, length, get_or, set, slice_get, Option, Some, None, refl, sym, ap, ◌∙◌, arith}
+use Rattle.std.proofs.Common.{◌≡◌, ℕ, zero, suc, ◌+◌, ◌<◌, ◌≤◌, Bool, true, false, eqb, cond, List, [], ◌∷◌, ◌++◌, length, get_or, set, slice_get, Some, refl, sym, ap, ◌∙◌, arith}
 use Rattle.ipc_terms.specs.Lists.{Each}
 use Rattle.ipc_terms.specs.declared.ids.Sid.{Sid}
-use Rattle.std.specs.Prelude.{unwrap_or}
 use Rattle.std.proofs.lemmas.Bool.{ne_eqb, eq-eqb, eqb-true}
 use Rattle.ipc_terms.proofs.Lists.{eqb_suc}
 use Rattle.ipc_hub.specs.Marking.{is_set, how_many_set, times, AreListed, MarksView, MarksOwners}

@@ -1,5 +1,5 @@
 -- Which connections were answered since they were last named.
-use Rattle.std.specs.Prelude.{◌≡◌, ◌==◌, ◌<◌, ◌≤◌, Bool, true, false, ℕ, ◌+◌, List, [], ◌∷◌, length, slice_get, Option, Some, unwrap_or, if◌then◌else◌}
+use Rattle.std.specs.Prelude.{◌≡◌, ◌==◌, ◌<◌, ◌≤◌, Bool, true, false, ℕ, ◌+◌, List, [], ◌∷◌, length, slice_get, Some, unwrap_or, if◌then◌else◌}
 use Rattle.ipc_terms.specs.Lists.{Each}
 use Rattle.ipc_terms.specs.declared.ids.Sid.{Sid}
 

@@ -1,4 +1,4 @@
-use Rattle.std.proofs.Common.{◌++◌, ◌<◌, ℕ, length, sym, ap, subst, ◌∙◌, arith}
+use Rattle.std.proofs.Common.{◌++◌, ℕ, length, sym, ap, subst, arith}
 use Rattle.ipc_hub.specs.Hub.{Hub}
 use Rattle.ipc_hub.specs.Stepping.{Ends}
 use Rattle.ipc_hub.proofs.HubLemmas.{found_there, found_open}

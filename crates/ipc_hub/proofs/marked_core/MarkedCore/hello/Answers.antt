@@ -1,4 +1,4 @@
-use Rattle.std.proofs.Common.{List, ℕ, length, Some, None, cond, is_some, refl, sym, ap, ◌∙◌, ◌≡◌, slice_get}
+use Rattle.std.proofs.Common.{List, ℕ, length, Some, None, cond, is_some, refl, sym, ap, ◌∙◌}
 use Rattle.ipc_terms.specs.declared.record.Event.TheVariants.{Hello}
 use Rattle.ipc_access.specs.Users.{user_of_key}
 use Rattle.ipc_policy.specs.declared.config.Config.{Config}

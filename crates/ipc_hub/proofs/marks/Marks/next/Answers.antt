@@ -1,6 +1,6 @@
-use Rattle.std.proofs.Common.{◌≡◌, ◌<◌, ◌≤◌, ◌++◌, ◌-◌, ◌∷◌, [], ℕ, true, false, List, Bool, length, set, slice_get, Some, vec_len, vec_capacity, refl, sym, ap, subst, ◌∙◌, arith}
+use Rattle.std.proofs.Common.{◌≡◌, ◌<◌, ◌-◌, ℕ, true, false, List, length, set, vec_len, vec_capacity, refl, subst, arith}
 use Rattle.std.proofs.lemmas.Grind.{common_steps}
-use Rattle.ipc_hub.specs.Marking.{is_set, AreMarks, AreListed, MarksView}
+use Rattle.ipc_hub.specs.Marking.{is_set, AreListed, MarksView}
 use Rattle.ipc_hub.proofs.MarkLemmas.{was_listed, set_within, set_count, listed_named}
 use Rattle.ipc_hub.proofs.marks.Marks.next.Goals as goal
 

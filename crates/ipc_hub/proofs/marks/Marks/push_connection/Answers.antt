@@ -1,6 +1,6 @@
-use Rattle.std.proofs.Common.{◌≡◌, ◌<◌, ◌≤◌, ◌++◌, ◌+◌, ◌∷◌, [], ℕ, true, false, List, Bool, length, set, slice_get, Some, vec_len, vec_capacity, refl, sym, ap, subst, ◌∙◌, arith}
+use Rattle.std.proofs.Common.{◌≡◌, ◌++◌, ◌+◌, ◌∷◌, [], ℕ, false, List, Bool, length, sym, subst, arith}
 use Rattle.std.proofs.lemmas.Grind.{common_steps}
-use Rattle.ipc_hub.specs.Marking.{is_set, AreMarks, AreListed}
+use Rattle.ipc_hub.specs.Marking.{AreListed}
 use Rattle.ipc_hub.proofs.MarkLemmas.{count_within, listed_more}
 use Rattle.ipc_hub.proofs.marks.Marks.push_connection.Goals as goal
 
