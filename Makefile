@@ -41,7 +41,7 @@ clients:
 clients-test:
 	$(MAKE) -C clients test
 
-# Open test suites, on the kernel's queues and on a server. It needs the network, and is no part of the gate.
+# Programs of others, on the kernel's queues and on a server. It needs the network, and is no part of the gate.
 conformance:
 	$(MAKE) -C clients conformance
 
