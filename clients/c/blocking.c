@@ -107,15 +107,14 @@ int mqs_wait_bound(struct mqs *c)
 
 /* ---- Ending ---- */
 
-int mqs_stop(struct mqs *c)
+static int can_stop(const struct mqs *c) { return c->started && c->stale != STALE_SECOND; }
+
+/* What the Interrupt was answered. */
+static int take_stop(struct mqs *c, deadline end)
 {
-    struct request r = mqsi_request(INTERRUPT);
     struct answer a;
-    if (c->lost) return mqsi_fail(c->lost);
-    if (!c->started || c->stale == STALE_SECOND) return mqsi_fail(EINVAL);
     c->rule = 0;
-    deadline end = mqsi_deadline(c);
-    if (mqsi_write(c, &r, end) < 0 || mqsi_await_front(c, end) < 0) return -1;
+    if (mqsi_await_front(c, end) < 0) return -1;
     if (c->in[c->from + 4] != INTERRUPTED) {
         c->stale = STALE_SECOND;
         return 0;
@@ -123,6 +122,32 @@ int mqs_stop(struct mqs *c)
     if (mqsi_take(c, &a, INTERRUPTED) < 0 || mqsi_await_front(c, end) < 0) return -1;
     c->started = 0;
     return mqsi_take(c, &a, DONE) < 0 ? mqsi_lose(c, EPROTO) : 1;
+}
+
+int mqs_stop(struct mqs *c)
+{
+    struct request r = mqsi_request(INTERRUPT);
+    if (c->lost) return mqsi_fail(c->lost);
+    if (!can_stop(c)) return mqsi_fail(EINVAL);
+    deadline end = mqsi_deadline(c);
+    return mqsi_write(c, &r, end) < 0 ? -1 : take_stop(c, end);
+}
+
+/* It reads the socket's number alone, so that another thread may wait meanwhile. */
+int mqs_ask_stop(struct mqs *c)
+{
+    static const uint8_t frame[] = { 0, 0, 0, 1, INTERRUPT };
+    ssize_t n = send(c->fd, frame, sizeof frame, MSG_NOSIGNAL | MSG_DONTWAIT);
+    if (n == (ssize_t)sizeof frame) return 0;
+    if (n < 0 && (errno == EAGAIN || errno == EWOULDBLOCK)) return mqsi_fail(EAGAIN);
+    shutdown(c->fd, SHUT_RDWR);
+    return mqsi_fail(ECONNRESET);
+}
+
+int mqs_finish_stop(struct mqs *c)
+{
+    if (c->lost) return mqsi_fail(c->lost);
+    return can_stop(c) ? take_stop(c, mqsi_deadline(c)) : mqsi_fail(EINVAL);
 }
 
 /* The answer in front as that of the call which was started. */

@@ -170,6 +170,9 @@ int mqs_next_unasked(struct mqs *c, int *what, uint64_t *description);
  * mqs_wait_bound: the same for a call that can't block, by a description with NONBLOCK: waits for the connection's bound
  *     whatever signals come, and then the connection is lost.
  * mqs_stop: withdraws the call. 1: it is withdrawn and over. 0: its answer came first, and finish takes it.
+ * mqs_ask_stop, mqs_finish_stop: mqs_stop in two parts. The first may be called by one thread while another is in mqs_wait, which then
+ *     returns 0. EAGAIN: nothing was sent, and it may be called again; ECONNRESET: the connection is lost. The second is for the
+ *     thread that waited, and only where the first succeeded.
  * mqs_finish: the call's own outcome; never waits. EAGAIN: the answer isn't there. EINVAL: nothing was started. */
 int mqs_start_send(struct mqs *c, uint64_t description, const void *data, size_t size, uint32_t priority);
 int mqs_start_receive(struct mqs *c, uint64_t description, size_t size);
@@ -177,6 +180,8 @@ int mqs_start_sem_wait(struct mqs *c, uint64_t description);
 int mqs_wait(struct mqs *c, const struct timespec *until);
 int mqs_wait_bound(struct mqs *c);
 int mqs_stop(struct mqs *c);
+int mqs_ask_stop(struct mqs *c);
+int mqs_finish_stop(struct mqs *c);
 int mqs_finish(struct mqs *c);                                                                  /* a send or a semaphore's wait */
 ssize_t mqs_finish_receive(struct mqs *c, void *data, size_t size, uint32_t *priority);         /* size: that of its start */
 

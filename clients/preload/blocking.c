@@ -48,7 +48,19 @@ static ssize_t attempt(struct job *j, int *would_block)
 
 /* ---- Cancellation ---- */
 
-struct blocked { struct job *job; int side, timer; };
+struct blocked { struct job *job; int side, timer, is_timed; };
+
+/* Ends a call on a side whose wait is over. 1: it is withdrawn, and *why says why. 0: its answer is there. -1. */
+static int settle(struct blocked *b, int has_answer, int *why)
+{
+    struct mqs *c = sides[b->side].connection;
+    int is_asked = b->is_timed && drop_deadline(b->side);
+    if (has_answer && !is_asked) return 0;
+    if (mqs_lost(c)) return fail(mqs_lost(c));
+    if (!is_asked) return mqs_stop(c);
+    *why = ETIMEDOUT;
+    return mqs_finish_stop(c);
+}
 
 /* What a call took in the moment in which it was cancelled is put back, a message behind others of its priority. */
 static void put_back(const struct job *j, ssize_t size)
@@ -66,9 +78,9 @@ static void on_cancel(void *arg)
     struct entry e;
     hold(&e);
     if (b->side != HOME) {
-        struct mqs *c = sides[b->side].connection;
-        if (mqs_stop(c) == 0) {
-            ssize_t size = finish(c, b->job);
+        int why;
+        if (settle(b, 0, &why) == 0) {
+            ssize_t size = finish(sides[b->side].connection, b->job);
             if (size >= 0) put_back(b->job, size);
         }
         free_side(b->side);
@@ -94,18 +106,17 @@ static int wait_open_to_signals(struct blocked *b, const struct timespec *until,
     return r;
 }
 
-/* The lock isn't held: the side is this call's alone. */
+/* The lock isn't held: the side is this call's alone. A signal ends a wait of a semaphore with a moment whatever its handler says, as it
+ * does on Linux; and a queue's call where no thread for its moment can be had. */
 static ssize_t block_on_side(struct job *j, int side, const struct timespec *until, const struct entry *e)
 {
     struct mqs *c = sides[side].connection;
-    struct blocked b = { j, side, -1 };
+    struct blocked b = { .job = j, .side = side, .timer = -1 };
     if (start(c, j->object->at[side], j) < 0) return -1;
-    if (wait_open_to_signals(&b, until, e) < 0) {
-        int why = errno;
-        if (mqs_lost(c)) return -1;
-        int stopped = mqs_stop(c);
-        if (stopped != 0) return stopped > 0 ? fail(why) : -1;
-    }
+    b.is_timed = until && j->operation != WAITS && keep_deadline(side, until) == 0;
+    int has_answer = wait_open_to_signals(&b, b.is_timed ? NULL : until, e) == 0, why = errno;
+    int withdrawn = settle(&b, has_answer, &why);
+    if (withdrawn != 0) return withdrawn > 0 ? fail(why) : -1;
     return finish(c, j);
 }
 
@@ -145,7 +156,7 @@ static int pause_open_to_signals(struct blocked *b, long pause_ns, const struct 
 
 static ssize_t ask_again(struct job *j, const struct timespec *until, const struct entry *e)
 {
-    struct blocked b = { j, HOME, timerfd_create(CLOCK_MONOTONIC, TFD_CLOEXEC) };
+    struct blocked b = { .job = j, .side = HOME, .timer = timerfd_create(CLOCK_MONOTONIC, TFD_CLOEXEC) };
     if (b.timer < 0) return -1;
     ssize_t r;
     int would_block = 1;

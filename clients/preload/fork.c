@@ -55,6 +55,7 @@ static void begin_anew(int side)
     sides[HOME].connection = mine;
     owner = getpid();
     forget_listener();
+    forget_deadlines();
     for_each_object(take_over, side);
 }
 

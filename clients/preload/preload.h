@@ -144,6 +144,12 @@ struct job { struct object *object; enum operation operation; void *data; size_t
 
 ssize_t perform(struct job *job, const struct timespec *until, struct entry *e);
 
+/* ---- deadlines.c ---- */
+
+int keep_deadline(int side, const struct timespec *until);
+int drop_deadline(int side);
+void forget_deadlines(void);
+
 /* ---- notices.c ---- */
 
 extern int registrations;

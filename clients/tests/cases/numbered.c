@@ -4,7 +4,7 @@
 
 #include <stdatomic.h>
 
-enum { MESSAGES = 1500, SENDERS = 3, RECEIVERS = 3, EACH = MESSAGES / SENDERS };
+enum { MESSAGES = 600, SENDERS = 3, RECEIVERS = 3, EACH = MESSAGES / SENDERS };
 static mqd_t q;
 static sem_t *s;
 static atomic_int taken, posted, waited, ill, is_over, endings;

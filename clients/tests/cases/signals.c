@@ -102,6 +102,14 @@ static void timed_and_restarted(void)
     struct timespec past = { 1, 0 };
     mq_timedreceive(q, data, 16, NULL, &past);
     sem_trywait(s);
+    until = in_ms(500);
+    DISTURB(nothing, mq_timedreceive(q, data, 16, NULL, &until));
+    mq_send(q, "full", 4, 0);
+    until = in_ms(20000);
+    DISTURB(receive_later, mq_timedsend(q, "x", 1, 0, &until));
+    until = in_ms(500);
+    DISTURB(nothing, mq_timedsend(q, "y", 1, 0, &until));
+    SHOW(mq_receive(q, data, 16, NULL));
 }
 
 static void posted_by_handler(void)
