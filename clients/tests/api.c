@@ -3,6 +3,7 @@
 
 #include <errno.h>
 #include <poll.h>
+#include <pthread.h>
 #include <signal.h>
 #include <stdio.h>
 #include <stdlib.h>
@@ -167,6 +168,29 @@ static void calls_in_parts(uint64_t q, uint64_t r)
     CHECK(mqs_mq_receive(a, q, data, sizeof data, NULL, NULL) == 1);
 }
 
+static void *ask_later(void *connection)
+{
+    usleep(100000);
+    return (void *)(long)mqs_ask_stop(connection);
+}
+
+/* Another thread asks for the end of a call while this one waits. */
+static void stops_by_another(uint64_t q, uint64_t r)
+{
+    char data[16];
+    pthread_t other;
+    void *asked;
+    CHECK(mqs_finish_stop(b) == -1 && errno == EINVAL);
+    CHECK(mqs_start_receive(b, r, sizeof data) == 0 && pthread_create(&other, NULL, ask_later, b) == 0);
+    CHECK(mqs_wait(b, NULL) == 0);
+    CHECK(pthread_join(other, &asked) == 0 && asked == NULL);
+    CHECK(mqs_finish_stop(b) == 1 && mqs_finish_stop(b) == -1 && errno == EINVAL);
+    CHECK(mqs_mq_send(a, q, "x", 1, 3, NULL) == 0);
+    CHECK(mqs_start_receive(b, r, sizeof data) == 0 && mqs_wait(b, NULL) == 0 && mqs_ask_stop(b) == 0);
+    CHECK(mqs_finish_stop(b) == 0 && mqs_finish_receive(b, data, sizeof data, NULL) == 1);
+    CHECK(mqs_umask(b, 0) >= 0);
+}
+
 static void nothing(int signal) { (void)signal; }
 
 static void signals(uint64_t q)
@@ -247,6 +271,7 @@ static void disconnects(uint64_t q)
     CHECK(mqs_umask(b, 0) == -1 && errno == ECONNRESET && mqs_lost(b) == ECONNRESET);
     CHECK(mqs_mq_close(b, q) == -1 && errno == ECONNRESET);
     CHECK(mqs_start_receive(b, q, 16) == -1 && errno == ECONNRESET);
+    CHECK(mqs_ask_stop(b) == -1 && errno == ECONNRESET && mqs_finish_stop(b) == -1 && errno == ECONNRESET);
     CHECK(mqs_next_unasked(b, &what, &description) == -1 && errno == ECONNRESET);
     mqs_disconnect(NULL);
 }
@@ -272,6 +297,7 @@ int main(int argc, char **argv)
     notices(q, r);
     if (has("give")) gifts(q);
     calls_in_parts(q, r);
+    stops_by_another(q, r);
     signals(q);
     modes();
     semaphores();
