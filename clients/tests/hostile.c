@@ -268,6 +268,18 @@ static void unread(void)
     end(c);
 }
 
+/* A socket that takes nothing just now: an Interrupt is refused whole, and may be sent later. */
+static void full_socket(void)
+{
+    char junk[4096] = { 0 };
+    struct mqs *c = fresh();
+    while (send(mqs_fd(c), junk, sizeof junk, MSG_DONTWAIT) > 0);
+    CHECK(mqs_ask_stop(c) == -1 && errno == EAGAIN && mqs_lost(c) == 0);
+    while (recv(server, junk, sizeof junk, MSG_DONTWAIT) > 0);
+    CHECK(mqs_ask_stop(c) == 0);
+    end(c);
+}
+
 /* ---- Interrupts ---- */
 
 static const uint8_t interrupted[] = { 0, 0, 0, 1, INTERRUPTED, 0, 0, 0, 1, DONE }, refused_3[] = { 0, 0, 0, 3, REFUSED, 0, 3 };
@@ -390,6 +402,7 @@ int main(void)
     lies();
     floods();
     unread();
+    full_socket();
     interrupts();
     hellos();
     paths();

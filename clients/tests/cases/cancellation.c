@@ -1,8 +1,11 @@
 /* cancellation.c: a thread is cancelled while a call of it blocks, or before one. */
 #include "case.h"
 
+#include <stdatomic.h>
+
 static mqd_t q;
 static sem_t *s;
+static atomic_int is_cancelled;
 
 static void *receive(void *arg)
 {
@@ -36,7 +39,7 @@ static void *receive_when_cancelled(void *arg)
     char data[16];
     int old;
     pthread_setcancelstate(PTHREAD_CANCEL_DISABLE, &old);
-    pause_ms(200);
+    while (!is_cancelled) pause_ms(10);
     pthread_setcancelstate(PTHREAD_CANCEL_ENABLE, &old);
     mq_receive(q, data, sizeof data, NULL);   /* a message is there */
     return arg;
@@ -46,9 +49,11 @@ static void cancel(const char *what, void *(*f)(void *))
 {
     pthread_t thread;
     void *r;
+    is_cancelled = 0;
     pthread_create(&thread, NULL, f, NULL);
     pause_ms(100);
     pthread_cancel(thread);
+    is_cancelled = 1;
     pthread_join(thread, &r);
     say(what, r == PTHREAD_CANCELED);
 }

@@ -4,7 +4,7 @@
 
 #include <stdatomic.h>
 
-enum { MESSAGES = 600, SENDERS = 3, RECEIVERS = 3, EACH = MESSAGES / SENDERS };
+enum { MESSAGES = 300, SENDERS = 3, RECEIVERS = 3, EACH = MESSAGES / SENDERS };
 static mqd_t q;
 static sem_t *s;
 static atomic_int taken, posted, waited, ill, is_over, endings;
@@ -25,10 +25,9 @@ static void *send_share(void *arg)
     unsigned seed = (unsigned)(long)arg + 1;
     for (int i = 0; i < EACH; i++) {
         int number = (int)(long)arg * EACH + i;
-        for (;;) {
-            struct timespec until = in_ms(rand_r(&seed) % 3);
-            long r = i % 2 ? mq_send(q, (char *)&number, sizeof number, 0)
-                           : mq_timedsend(q, (char *)&number, sizeof number, 0, &until);
+        while (!is_over) {
+            struct timespec until = in_ms(i % 2 ? 1000 : rand_r(&seed) % 3);
+            long r = mq_timedsend(q, (char *)&number, sizeof number, 0, &until);
             if (may_end(r)) continue;
             ill += r != 0;
             break;
@@ -73,7 +72,7 @@ static void disturb(pthread_t *threads, int count)
 {
     unsigned seed = 7;
     double start = seconds();
-    while ((taken < MESSAGES || waited < MESSAGES) && seconds() - start < 40) {
+    while ((taken < MESSAGES || waited < MESSAGES) && seconds() - start < 90) {
         pthread_kill(threads[rand_r(&seed) % (unsigned)count], SIGUSR1);
         struct timespec t = { 0, rand_r(&seed) % 1000000 };
         nanosleep(&t, NULL);
