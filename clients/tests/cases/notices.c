@@ -169,6 +169,14 @@ static void by_thread(mqd_t q)
     SHOW(mq_receive(q, data, 16, NULL));
 }
 
+/* A server sees the end of a process, and of its registration, a moment later. */
+static int notify_soon(mqd_t q, const struct sigevent *event)
+{
+    int r;
+    for (int tries = 200; (r = mq_notify(q, event)) == -1 && errno == EBUSY && tries > 0; tries--) pause_ms(50);
+    return r;
+}
+
 /* A child has none of its parent's registrations. */
 static void registrations_of_children(mqd_t q)
 {
@@ -185,8 +193,7 @@ static void registrations_of_children(mqd_t q)
     SHOW(mq_receive(q, data, 16, NULL));
     if (fork() == 0) _exit(SHOW(mq_notify(q, &none)) != 0);
     say("child", end_of_child());
-    pause_ms(200);   /* a server sees a process's end a moment later */
-    SHOW(mq_notify(q, &none));
+    SHOW(notify_soon(q, &none));
     SHOW(mq_notify(q, NULL));
 }
 
