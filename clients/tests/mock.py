@@ -1,6 +1,6 @@
 #!/usr/bin/env python3
-"""mock.py serve USERS ADDRESS [--workers N], where ADDRESS is HOST:PORT or unix:PATH: answers as docs/POLICY.md says, for tests where no server is built. Not the product:
-nothing here is proved, and calls 26 to 28, set-limit and audit are left out."""
+"""mock.py serve USERS ADDRESS [--workers N]: answers as docs/POLICY.md says, for tests where no server is built. ADDRESS is HOST:PORT or
+unix:PATH. Not the product: nothing here is proved, and calls 26 to 28, set-limit and audit are left out."""
 import socket
 import struct
 import sys
