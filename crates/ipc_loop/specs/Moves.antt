@@ -1,0 +1,33 @@
+-- What links give and take, in order.
+use Rattle.std.specs.Prelude.{◌≡◌, ◌==◌, ℕ, List, [], ◌∷◌, ◌++◌, take, ⊤, Option, Some, None, Result, MatchResult, if◌then◌else◌}
+
+-- link i gave these bytes, or took them
+pub data Moved : Type 0 where
+  LinkGave : ℕ → List ℕ → Moved
+  LinkTook : ℕ → List ℕ → Moved
+
+-- all that link i gave
+abbrev pub read_of : ℕ → List Moved → List ℕ
+read_of i [] = []
+read_of i (LinkGave j bytes ∷ moves) = if j == i then bytes ++ read_of i moves else read_of i moves
+read_of i (move ∷ moves) = read_of i moves
+
+-- all that it took
+abbrev pub written_of : ℕ → List Moved → List ℕ
+written_of i [] = []
+written_of i (LinkTook j bytes ∷ moves) = if j == i then bytes ++ written_of i moves else written_of i moves
+written_of i (move ∷ moves) = written_of i moves
+
+-- moves, where they are known, go on with these
+abbrev pub GoOn : Option (List Moved) → Option (List Moved) → List Moved → Type 0
+GoOn None new more = ⊤
+GoOn (Some moves) None more = ⊥
+GoOn (Some moves) (Some later) more = later ≡ moves ++ more
+
+-- a read of link i gave the bytes that it left in the buffer, and nothing where it failed
+abbrev pub Gives : {E : Type 0} → Option (List Moved) → Option (List Moved) → ℕ → Result ℕ E → List ℕ → Type 0
+Gives old new i r buffer = MatchResult r (λ n. GoOn old new (LinkGave i (take n buffer) ∷ [])) (λ _. GoOn old new [])
+
+-- a write to link i took the first of the bytes, and nothing where it failed
+abbrev pub Takes : {E : Type 0} → Option (List Moved) → Option (List Moved) → ℕ → Result ℕ E → List ℕ → Type 0
+Takes old new i r bytes = MatchResult r (λ n. GoOn old new (LinkTook i (take n bytes) ∷ [])) (λ _. GoOn old new [])

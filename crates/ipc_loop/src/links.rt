@@ -1,0 +1,66 @@
+//! Links that never wait, and what tells which of them are ready.
+
+ghost use Rattle.std.specs.Prelude.{◌≡◌};
+ghost use Rattle.std.specs.Io.{ReadsAtMost, WritesAtMost};
+ghost use Rattle.ipc_loop.specs.Moves.{Gives, Takes};
+
+use crate::ending::Ending;
+use std::io;
+use std::time::Duration;
+
+/// What became ready. It is told once, and of a link again only after a read or a write met `WouldBlock` or moved
+/// less than was asked for.
+#[derive(Clone, Copy)]
+pub enum Ready {
+    /// Somebody connects.
+    Listener,
+    /// The link of this number.
+    Link {
+        number: u64,
+        is_readable: bool,
+        is_writable: bool,
+        /// The peer sends no more than what can be read already.
+        has_ended: bool,
+    },
+}
+
+/// Links by their numbers, what waits for them, and a clock. Reads, writes and accepts answer `WouldBlock` where they
+/// would wait. Real sockets leave `moves` as it is, unknown; a host that records its moves knows them.
+pub trait Host {
+    ghost use Rattle.std.specs.Prelude.{Option, None, List};
+    ghost use Rattle.ipc_loop.specs.Moves.{Moved};
+
+    // What the links gave and took so far, in order, where that is known.
+    ghost moves: { Self → Option (List Moved) } = { λ _. None };
+
+    /// Accepts the next connection. Its link gets this number, which no link had before. An `Err` accepts nobody, or
+    /// drops the one that was accepted.
+    fn accept(&mut self, number: u64) -> io::Result<()>
+        ensures moved { moves self.new ≡ moves self.old };
+
+    /// How many bytes the link gave, and 0 at the end of its stream. `NotFound` where there is no such link.
+    fn read(&mut self, number: u64, buffer: &mut [u8]) -> io::Result<usize>
+        ensures bound { ReadsAtMost result buffer.new }
+        ensures moved { Gives (moves self.old) (moves self.new) number result buffer.new };
+
+    /// How many of the bytes the link took. `NotFound` where there is no such link.
+    fn write(&mut self, number: u64, bytes: &[u8]) -> io::Result<usize>
+        ensures bound { WritesAtMost result bytes.now }
+        ensures moved { Takes (moves self.old) (moves self.new) number result bytes.now };
+
+    /// Closes the link, if there is one.
+    fn close(&mut self, number: u64, ending: Ending)
+        ensures moved { moves self.new ≡ moves self.old };
+
+    /// Waits until something is ready, or the pause is over; without a pause, until something is ready.
+    fn wait(&mut self, pause: Option<Duration>) -> io::Result<()>
+        ensures moved { moves self.new ≡ moves self.old };
+
+    /// One more of what the last wait found ready.
+    fn next_ready(&mut self) -> Option<Ready>
+        ensures moved { moves self.new ≡ moves self.old };
+
+    /// Milliseconds since 1970, or 0 where the clock can't be read.
+    fn moment(&mut self) -> u64
+        ensures moved { moves self.new ≡ moves self.old };
+}
