@@ -1,5 +1,5 @@
 -- What links give and take, in order.
-use Rattle.std.specs.Prelude.{◌≡◌, ◌==◌, ℕ, List, [], ◌∷◌, ◌++◌, take, ⊤, Option, Some, None, Result, MatchResult, if◌then◌else◌}
+use Rattle.std.specs.Prelude.{◌≡◌, ◌==◌, Bool, true, false, ℕ, List, [], ◌∷◌, ◌++◌, take, ⊤, Option, Some, None, Result, MatchResult, if◌then◌else◌}
 
 -- link i gave these bytes, or took them
 pub data Moved : Type 0 where
@@ -18,6 +18,12 @@ written_of i [] = []
 written_of i (LinkTook j bytes ∷ moves) = if j == i then bytes ++ written_of i moves else written_of i moves
 written_of i (move ∷ moves) = written_of i moves
 
+-- whether its stream ended: it gave nothing once
+abbrev pub comes_to_its_end : ℕ → List Moved → Bool
+comes_to_its_end i [] = false
+comes_to_its_end i (LinkGave j [] ∷ moves) = if j == i then true else comes_to_its_end i moves
+comes_to_its_end i (move ∷ moves) = comes_to_its_end i moves
+
 -- moves, where they are known, go on with these
 abbrev pub GoOn : Option (List Moved) → Option (List Moved) → List Moved → Type 0
 GoOn None new more = ⊤
@@ -31,3 +37,11 @@ Gives old new i r buffer = MatchResult r (λ n. GoOn old new (LinkGave i (take n
 -- a write to link i took the first of the bytes, and nothing where it failed
 abbrev pub Takes : {E : Type 0} → Option (List Moved) → Option (List Moved) → ℕ → Result ℕ E → List ℕ → Type 0
 Takes old new i r bytes = MatchResult r (λ n. GoOn old new (LinkTook i (take n bytes) ∷ [])) (λ _. GoOn old new [])
+
+-- moves go on with link k giving and taking these bytes, and coming to its end or not
+pub record Adds (moves moves' : Option (List Moved)) (k : ℕ) (gave took : List ℕ) (ended : Bool) : Type 0 where
+  pub moved : List Moved
+  pub went : GoOn moves moves' moved
+  pub read : (i : ℕ) → read_of i moved ≡ (if k == i then gave else [])
+  pub written : (i : ℕ) → written_of i moved ≡ (if k == i then took else [])
+  pub end : (i : ℕ) → comes_to_its_end i moved ≡ (if k == i then ended else false)

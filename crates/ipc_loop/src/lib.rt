@@ -1,8 +1,17 @@
 //! A server on one thread: an event loop that serves many connections in turns, over one hub.
 #![tactic(auto)]
 
+mod accepting;
 mod ending;
 mod links;
+mod port;
+mod ports;
+mod server;
+mod serving;
+mod ticking;
+mod turns;
+mod unsent;
 
 pub use ending::Ending;
 pub use links::{Host, Ready};
+pub use server::Server;

@@ -1,0 +1,108 @@
+-- What moves and calls come to, one after another.
+use Rattle.std.proofs.Common.{◌≡◌, ℕ, Bool, true, false, ◌||◌, eqb, cond, List, [], ◌∷◌, ◌++◌, take, Option, Some, None, refl, sym, ap, subst, ◌∙◌, append_assoc}
+use Rattle.std.proofs.lemmas.List.{append-nil}
+use Rattle.ipc_hub.specs.Hub.{Hub}
+use Rattle.ipc_hub.specs.Laws.{Call, Opened, TookPiece, HungUp, Gave, Named, Ticked, Makes, MakesAll, stream_of, output_of}
+use Rattle.ipc_loop.specs.Moves.{Moved, LinkGave, LinkTook, GoOn, Adds, read_of, written_of, comes_to_its_end}
+
+more_or_less : (b : Bool) (p s t st : List ℕ) → st ≡ s ++ t → cond b (p ++ st) st ≡ cond b (p ++ s) s ++ t
+more_or_less true p s t st e = ap (λ (x : List ℕ). p ++ x) e ∙ sym (append_assoc p s t)
+more_or_less false p s t st e = e
+
+pub stream_both : (i : ℕ) (xs ys : List Call) → stream_of i (xs ++ ys) ≡ stream_of i xs ++ stream_of i ys
+stream_both i [] ys = refl
+stream_both i (Opened ∷ xs) ys = stream_both i xs ys
+stream_both i (TookPiece j piece fed ∷ xs) ys = more_or_less (eqb j i) piece (stream_of i xs) (stream_of i ys) (stream_of i (xs ++ ys)) (stream_both i xs ys)
+stream_both i (HungUp j ∷ xs) ys = stream_both i xs ys
+stream_both i (Gave j bytes ∷ xs) ys = stream_both i xs ys
+stream_both i (Named j ∷ xs) ys = stream_both i xs ys
+stream_both i (Ticked moment ∷ xs) ys = stream_both i xs ys
+
+pub output_both : (i : ℕ) (xs ys : List Call) → output_of i (xs ++ ys) ≡ output_of i xs ++ output_of i ys
+output_both i [] ys = refl
+output_both i (Opened ∷ xs) ys = output_both i xs ys
+output_both i (TookPiece j piece fed ∷ xs) ys = output_both i xs ys
+output_both i (HungUp j ∷ xs) ys = output_both i xs ys
+output_both i (Gave j bytes ∷ xs) ys = more_or_less (eqb j i) bytes (output_of i xs) (output_of i ys) (output_of i (xs ++ ys)) (output_both i xs ys)
+output_both i (Named j ∷ xs) ys = output_both i xs ys
+output_both i (Ticked moment ∷ xs) ys = output_both i xs ys
+
+pub read_both : (i : ℕ) (xs ys : List Moved) → read_of i (xs ++ ys) ≡ read_of i xs ++ read_of i ys
+read_both i [] ys = refl
+read_both i (LinkGave j piece ∷ xs) ys = more_or_less (eqb j i) piece (read_of i xs) (read_of i ys) (read_of i (xs ++ ys)) (read_both i xs ys)
+read_both i (LinkTook j bytes ∷ xs) ys = read_both i xs ys
+
+pub written_both : (i : ℕ) (xs ys : List Moved) → written_of i (xs ++ ys) ≡ written_of i xs ++ written_of i ys
+written_both i [] ys = refl
+written_both i (LinkGave j bytes ∷ xs) ys = written_both i xs ys
+written_both i (LinkTook j piece ∷ xs) ys = more_or_less (eqb j i) piece (written_of i xs) (written_of i ys) (written_of i (xs ++ ys)) (written_both i xs ys)
+
+true_or : (b : Bool) (x y z : Bool) → z ≡ (x || y) → cond b true z ≡ (cond b true x || y)
+true_or true x y z e = refl
+true_or false x y z e = e
+
+pub end_both : (i : ℕ) (xs ys : List Moved) → comes_to_its_end i (xs ++ ys) ≡ (comes_to_its_end i xs || comes_to_its_end i ys)
+end_both i [] ys = refl
+end_both i (LinkGave j [] ∷ xs) ys = true_or (eqb j i) (comes_to_its_end i xs) (comes_to_its_end i ys) (comes_to_its_end i (xs ++ ys)) (end_both i xs ys)
+end_both i (LinkGave j (b ∷ bytes) ∷ xs) ys = end_both i xs ys
+end_both i (LinkTook j bytes ∷ xs) ys = end_both i xs ys
+
+pub go_both : (u v w : Option (List Moved)) (a b : List Moved) → GoOn u v a → GoOn v w b → GoOn u w (a ++ b)
+go_both None v w a b x y = tt
+go_both (Some xs) None w a b x y = absurd x
+go_both (Some xs) (Some ys) None a b x y = y
+go_both (Some xs) (Some ys) (Some zs) a b x y = y ∙ ap (λ (t : List Moved). t ++ b) x ∙ append_assoc xs a b
+
+pub go_nowhere : (u : Option (List Moved)) → GoOn u u []
+go_nowhere None = tt
+go_nowhere (Some xs) = sym (append-nil xs)
+
+pub makes_both : (xs ys : List Call) (a b c : Hub) → MakesAll xs a b → MakesAll ys b c → MakesAll (xs ++ ys) a c
+makes_both [] ys a b c first second = subst (λ (z : Hub). MakesAll ys z c) first second
+makes_both (x ∷ xs) ys a b c first second = (first.0, (first.1.0, makes_both xs ys first.0 b c first.1.1 second))
+
+-- ---- one move, and none
+
+pub same_here : {A : Type 0} (here : Bool) (x : A) → x ≡ cond here x x
+same_here true x = refl
+same_here false x = refl
+
+pub adds_nothing : (m m' : Option (List Moved)) (k : ℕ) → GoOn m m' [] → Adds m m' k [] [] false
+adds_nothing m m' k went = record {
+  moved = [];
+  went = went;
+  read = λ i. same_here (eqb k i) [];
+  written = λ i. same_here (eqb k i) [];
+  end = λ i. same_here (eqb k i) false;
+}
+
+pub bytes_here : (here : Bool) (bytes : List ℕ) → cond here (bytes ++ []) [] ≡ cond here bytes []
+bytes_here true bytes = append-nil bytes
+bytes_here false bytes = refl
+
+pub adds_write : (m m' : Option (List Moved)) (k : ℕ) (bytes : List ℕ) → GoOn m m' (LinkTook k bytes ∷ []) → Adds m m' k [] bytes false
+adds_write m m' k bytes went = record {
+  moved = LinkTook k bytes ∷ [];
+  went = went;
+  read = λ i. same_here (eqb k i) [];
+  written = λ i. bytes_here (eqb k i) bytes;
+  end = λ i. same_here (eqb k i) false;
+}
+
+-- whether these bytes are the end of a stream
+abbrev pub is_end : List ℕ → Bool
+is_end [] = true
+is_end (byte ∷ bytes) = false
+
+end_here : (k i : ℕ) (bytes : List ℕ) → comes_to_its_end i (LinkGave k bytes ∷ []) ≡ cond (eqb k i) (is_end bytes) false
+end_here k i [] = refl
+end_here k i (byte ∷ bytes) = same_here (eqb k i) false
+
+pub adds_read : (m m' : Option (List Moved)) (k : ℕ) (bytes : List ℕ) → GoOn m m' (LinkGave k bytes ∷ []) → Adds m m' k bytes [] (is_end bytes)
+adds_read m m' k bytes went = record {
+  moved = LinkGave k bytes ∷ [];
+  went = went;
+  read = λ i. bytes_here (eqb k i) bytes;
+  written = λ i. same_here (eqb k i) [];
+  end = λ i. end_here k i bytes;
+}

@@ -1,0 +1,289 @@
+-- What serving brings, one piece after another.
+use Rattle.std.proofs.Common.{◌≡◌, ℕ, zero, suc, ◌<◌, ◌≤◌, length, arith, Bool, true, false, ◌||◌, eqb, cond, List, [], ◌∷◌, ◌++◌, take, drop, Option, Some, None, refl, sym, ap, subst, ◌∙◌}
+use Rattle.std.specs.Prelude.{is_none, is_some, Result, Ok, Err, IfOk, OnOk, OnErr}
+use Rattle.ipc_hub.specs.Hub.{Hub, with_connection, Feeds, HangsUp, Takes, Names, Ticks}
+use Rattle.ipc_hub.specs.Laws.{Call, Opened, TookPiece, HungUp, Gave, Named, Ticked, Makes, MakesAll, stream_of, output_of}
+use Rattle.ipc_loop.specs.declared.ending.Ending.{Ending}
+use Rattle.ipc_hub.specs.declared.fed.Fed.{Fed}
+use Rattle.ipc_hub.specs.declared.fed.HubFault.{HubFault}
+use Rattle.ipc_loop.specs.Moves.{Moved, LinkGave, LinkTook, GoOn, Adds, read_of, written_of, comes_to_its_end}
+use Rattle.ipc_loop.specs.Ports.{Port, port_at, with_port, left_of, unfed_of}
+use Rattle.ipc_loop.specs.Serving.{PassesOn, Serves, ServesPort, Writes, FeedsPort, KeepsPortMarks}
+use Rattle.ipc_loop.proofs.MoveLemmas.{stream_both, output_both, read_both, written_both, end_both, go_both, go_nowhere, makes_both, adds_nothing, adds_read, is_end, same_here, bytes_here}
+use Rattle.ipc_loop.proofs.OwingLemmas.{marks_keep, same_keep}
+use Rattle.ipc_loop.proofs.PassingLemmas.{passes_nothing, passes_end, passes_whole, passes_dropped, passes_both, passes_stop}
+
+abbrev pub Ports : Type 0
+Ports = ℕ → Option Port
+
+abbrev pub Moves : Type 0
+Moves = Option (List Moved)
+
+pub serves_both : (h₀ h₁ h₂ : Hub) (m₀ m₁ m₂ : Moves) (p₀ p₁ p₂ : Ports) → Serves h₀ m₀ p₀ h₁ m₁ p₁ → Serves h₁ m₁ p₁ h₂ m₂ p₂ → Serves h₀ m₀ p₀ h₂ m₂ p₂
+serves_both h₀ h₁ h₂ m₀ m₁ m₂ p₀ p₁ p₂ a b = record {
+  calls = a.calls ++ b.calls;
+  moved = a.moved ++ b.moved;
+  made = makes_both a.calls b.calls h₀ h₁ h₂ a.made b.made;
+  went = go_both m₀ m₁ m₂ a.moved b.moved a.went b.went;
+  read = λ i.
+      subst (λ (t : List ℕ). PassesOn (unfed_of (p₀ i)) t (stream_of i (a.calls ++ b.calls)) (unfed_of (p₂ i))) (sym (read_both i a.moved b.moved))
+      (subst (λ (t : List ℕ). PassesOn (unfed_of (p₀ i)) (read_of i a.moved ++ read_of i b.moved) t (unfed_of (p₂ i))) (sym (stream_both i a.calls b.calls))
+      (passes_both (unfed_of (p₀ i)) (unfed_of (p₁ i)) (unfed_of (p₂ i)) _ _ _ _ (a.read i) (b.read i)));
+  written = λ i.
+      subst (λ (t : List ℕ). PassesOn (left_of (p₀ i)) t (written_of i (a.moved ++ b.moved)) (left_of (p₂ i))) (sym (output_both i a.calls b.calls))
+      (subst (λ (t : List ℕ). PassesOn (left_of (p₀ i)) (output_of i a.calls ++ output_of i b.calls) t (left_of (p₂ i))) (sym (written_both i a.moved b.moved))
+      (passes_both (left_of (p₀ i)) (left_of (p₁ i)) (left_of (p₂ i)) _ _ _ _ (a.written i) (b.written i)));
+  unread = λ i e. read_both i a.moved b.moved ∙ ap (λ (t : List ℕ). t ++ read_of i b.moved) (a.unread i e) ∙ b.unread i (passes_stop (unfed_of (p₀ i)) (unfed_of (p₁ i)) _ _ (a.read i) e);
+  ended = λ i e. either i (comes_to_its_end i a.moved) refl (sym (end_both i a.moved b.moved) ∙ e);
+} where
+  either : (i : ℕ) (x : Bool) → comes_to_its_end i a.moved ≡ x → (x || comes_to_its_end i b.moved) ≡ true → unfed_of (p₂ i) ≡ None
+  either i true f e = passes_stop (unfed_of (p₁ i)) (unfed_of (p₂ i)) _ _ (b.read i) (a.ended i f)
+  either i false f e = b.ended i e
+
+-- the same, where the ports are told in another way
+pub serves_so : (h h' : Hub) (m m' : Moves) (p q p' q' : Ports) → ((i : ℕ) → q i ≡ p i) → ((i : ℕ) → q' i ≡ p' i) → Serves h m p h' m' p' → Serves h m q h' m' q'
+serves_so h h' m m' p q p' q' before later a = record {
+  calls = a.calls;
+  moved = a.moved;
+  made = a.made;
+  went = a.went;
+  read = λ i. subst (λ (x : Option Port). PassesOn (unfed_of x) (read_of i a.moved) (stream_of i a.calls) (unfed_of (q' i))) (sym (before i)) (subst (λ (x : Option Port). PassesOn (unfed_of (p i)) (read_of i a.moved) (stream_of i a.calls) (unfed_of x)) (sym (later i)) (a.read i));
+  written = λ i. subst (λ (x : Option Port). PassesOn (left_of x) (output_of i a.calls) (written_of i a.moved) (left_of (q' i))) (sym (before i)) (subst (λ (x : Option Port). PassesOn (left_of (p i)) (output_of i a.calls) (written_of i a.moved) (left_of x)) (sym (later i)) (a.written i));
+  unread = λ i e. a.unread i (ap unfed_of (sym (before i)) ∙ e);
+  ended = λ i e. ap unfed_of (later i) ∙ a.ended i e;
+}
+
+-- ---- one port
+
+abbrev pub unfed_with : Option Ending → Option (List ℕ)
+unfed_with ending = cond (is_none ending) (Some []) None
+
+pub port_both : (k : ℕ) (h₀ h₁ h₂ : Hub) (m₀ m₁ m₂ : Moves) (p₀ p₁ p₂ : Port) → ServesPort k h₀ m₀ p₀ h₁ m₁ p₁ → ServesPort k h₁ m₁ p₁ h₂ m₂ p₂ → ServesPort k h₀ m₀ p₀ h₂ m₂ p₂
+port_both k h₀ h₁ h₂ m₀ m₁ m₂ p₀ p₁ p₂ a b others = serves_both h₀ h₁ h₂ m₀ m₁ m₂ (with_port others k (Some p₀)) (with_port others k (Some p₁)) (with_port others k (Some p₂)) (a others) (b others)
+
+-- the hub made these calls, and link k moved so
+pub serve_port : (k : ℕ) (h h' : Hub) (m m' : Moves) (p p' : Port) (calls : List Call) (gave fed out took : List ℕ) (ended : Bool)
+    → MakesAll calls h h' → Adds m m' k gave took ended
+    → ((i : ℕ) → stream_of i calls ≡ cond (eqb k i) fed []) → ((i : ℕ) → output_of i calls ≡ cond (eqb k i) out [])
+    → PassesOn (unfed_of (Some p)) gave fed (unfed_of (Some p')) → PassesOn p.left out took p'.left
+    → (unfed_of (Some p) ≡ None → gave ≡ []) → (ended ≡ true → unfed_of (Some p') ≡ None)
+    → ServesPort k h m p h' m' p'
+serve_port k h h' m m' p p' calls gave fed out took ended made adds stream output passes writes quiet stops others = record {
+  calls = calls;
+  moved = adds.moved;
+  made = made;
+  went = adds.went;
+  read = λ i. read_at (eqb k i) (others i) _ _ (adds.read i) (stream i);
+  written = λ i. written_at (eqb k i) (others i) _ _ (output i) (adds.written i);
+  unread = λ i e. adds.read i ∙ unread_at (eqb k i) (others i) e;
+  ended = λ i e. ended_at (eqb k i) (others i) (sym (adds.end i) ∙ e);
+} where
+  read_at : (here : Bool) (o : Option Port) (x s : List ℕ) → x ≡ cond here gave [] → s ≡ cond here fed [] → PassesOn (unfed_of (cond here (Some p) o)) x s (unfed_of (cond here (Some p') o))
+  read_at true o x s e f = subst (λ (t : List ℕ). PassesOn (unfed_of (Some p)) t s (unfed_of (Some p'))) (sym e) (subst (λ (t : List ℕ). PassesOn (unfed_of (Some p)) gave t (unfed_of (Some p'))) (sym f) passes)
+  read_at false o x s e f = subst (λ (t : List ℕ). PassesOn (unfed_of o) t s (unfed_of o)) (sym e) (subst (λ (t : List ℕ). PassesOn (unfed_of o) [] t (unfed_of o)) (sym f) (passes_nothing (unfed_of o)))
+
+  written_at : (here : Bool) (o : Option Port) (x s : List ℕ) → x ≡ cond here out [] → s ≡ cond here took [] → PassesOn (left_of (cond here (Some p) o)) x s (left_of (cond here (Some p') o))
+  written_at true o x s e f = subst (λ (t : List ℕ). PassesOn p.left t s p'.left) (sym e) (subst (λ (t : List ℕ). PassesOn p.left out t p'.left) (sym f) writes)
+  written_at false o x s e f = subst (λ (t : List ℕ). PassesOn (left_of o) t s (left_of o)) (sym e) (subst (λ (t : List ℕ). PassesOn (left_of o) [] t (left_of o)) (sym f) (passes_nothing (left_of o)))
+
+  unread_at : (here : Bool) (o : Option Port) → unfed_of (cond here (Some p) o) ≡ None → cond here gave [] ≡ []
+  unread_at true o e = quiet e
+  unread_at false o e = refl
+
+  ended_at : (here : Bool) (o : Option Port) → cond here ended false ≡ true → unfed_of (cond here (Some p') o) ≡ None
+  ended_at true o e = stops e
+  ended_at false o e = absurd cc
+
+-- the hub did nothing, and the port wrote
+pub writes_serve : (k : ℕ) (h : Hub) (m m' : Moves) (p p' : Port) → Writes k m m' p [] p' → ServesPort k h m p h m' p'
+writes_serve k h m m' p p' w = serve_port k h h m m' p p' [] [] [] [] w.took false refl w.added (λ i. same_here (eqb k i) []) (λ i. same_here (eqb k i) []) w.unfed w.left (λ e. refl) (λ e. absurd cc)
+
+-- nothing was written either
+pub rests_serve : (k : ℕ) (h : Hub) (m m' : Moves) (p p' : Port) → Adds m m' k [] [] false → p'.left ≡ p.left → PassesOn (unfed_of (Some p)) [] [] (unfed_of (Some p')) → ServesPort k h m p h m' p'
+rests_serve k h m m' p p' adds same unfed = writes_serve k h m m' p p' (record { took = []; added = adds; left = subst (λ (x : Option (List ℕ)). PassesOn p.left [] [] x) (sym same) (passes_nothing p.left); unfed = unfed })
+
+-- the hub gave what the port was to write
+pub gave_serve : (k : ℕ) (h h' : Hub) (m m' : Moves) (p p' : Port) (bytes : List ℕ) → Takes h k bytes h' → Writes k m m' p bytes p' → ServesPort k h m p h' m' p'
+gave_serve k h h' m m' p p' bytes takes w = serve_port k h h' m m' p p' (Gave k bytes ∷ []) [] [] bytes w.took false (h', (takes, refl)) w.added (λ i. same_here (eqb k i) []) (λ i. bytes_here (eqb k i) bytes) w.unfed w.left (λ e. refl) (λ e. absurd cc)
+
+pub is_heard : (p : Port) → p.ending ≡ None → unfed_of (Some p) ≡ Some []
+is_heard p e = rw e refl
+
+-- a piece that the link gave, if any, was fed
+pub feeds_serve : (k : ℕ) (h h' : Hub) (m m' : Moves) (p p' : Port) (piece : List ℕ) → p.ending ≡ None → Adds m m' k piece [] false → FeedsPort k h p piece h' p' → ServesPort k h m p h' m' p'
+feeds_serve k h h' m m' p p' piece on adds f =
+    serve_port k h h' m m' p p' f.calls piece f.fed [] [] false f.made adds f.stream (λ i. f.output i ∙ same_here (eqb k i) []) f.passes
+    (subst (λ (x : Option (List ℕ)). PassesOn p.left [] [] x) (sym f.left) (passes_nothing p.left))
+    (λ e. let wrong : Some [] ≡ None = sym (is_heard p on) ∙ e in absurd cc) (λ e. absurd cc)
+
+pub same_unfed : (p p' : Port) → p'.ending ≡ p.ending → PassesOn (unfed_of (Some p)) [] [] (unfed_of (Some p'))
+same_unfed p p' e = subst (λ (x : Option (List ℕ)). PassesOn (unfed_of (Some p)) [] [] x) (ap (λ (x : Option Ending). unfed_with x) (sym e)) (passes_nothing (unfed_of (Some p)))
+
+-- the connection was hung up
+pub hung_serve : (k : ℕ) (h h' : Hub) (m : Moves) (p p' : Port) → HangsUp h k h' → p'.left ≡ p.left → p'.ending ≡ p.ending → ServesPort k h m p h' m p'
+hung_serve k h h' m p p' hung left ending =
+    serve_port k h h' m m p p' (HungUp k ∷ []) [] [] [] [] false (h', (hung, refl)) (adds_nothing m m k (go_nowhere m)) (λ i. same_here (eqb k i) []) (λ i. same_here (eqb k i) [])
+    (same_unfed p p' ending)
+    (subst (λ (x : Option (List ℕ)). PassesOn p.left [] [] x) (sym left) (passes_nothing p.left)) (λ e. refl) (λ e. absurd cc)
+
+-- what is left of the stream of a link that is read is nothing
+only_nothing : (p : Port) (left : List ℕ) → unfed_of (Some p) ≡ Some left → left ≡ []
+only_nothing p left e = at (is_none p.ending) e where
+  at : (b : Bool) → cond b (Some []) None ≡ Some left → left ≡ []
+  at true f = cc
+  at false f = absurd cc
+
+is_ended : (p : Port) → is_some p.ending ≡ true → unfed_of (Some p) ≡ None
+is_ended p e = at p.ending e where
+  at : (x : Option Ending) → is_some x ≡ true → unfed_with x ≡ None
+  at None f = absurd cc
+  at (Some ending) f = refl
+
+-- a piece was fed; or it wasn't, and the link has come to its end
+pub fed_port : (k : ℕ) (h h' : Hub) (p p' : Port) (piece : List ℕ) (r : Result Fed HubFault) → p.ending ≡ None → IfOk r (λ fed. Feeds h k piece fed h') → OnErr r (h' ≡ h) → OnErr r (is_some p'.ending ≡ true) → p'.left ≡ p.left → FeedsPort k h p piece h' p'
+fed_port k h h' p p' piece (Ok fed) on ok err end left = record {
+  calls = TookPiece k piece fed ∷ [];
+  made = (h', (ok, refl));
+  fed = piece;
+  stream = λ i. bytes_here (eqb k i) piece;
+  output = λ i. refl;
+  passes = subst (λ (x : Option (List ℕ)). PassesOn x piece piece (unfed_of (Some p'))) (sym (is_heard p on)) (passes_whole piece (unfed_of (Some p')) (only_nothing p'));
+  left = left;
+}
+fed_port k h h' p p' piece (Err fault) on ok err end left = record {
+  calls = [];
+  made = err;
+  fed = [];
+  stream = λ i. same_here (eqb k i) [];
+  output = λ i. refl;
+  passes = subst (λ (x : Option (List ℕ)). PassesOn x piece [] (unfed_of (Some p'))) (sym (is_heard p on)) (subst (λ (x : Option (List ℕ)). PassesOn (Some []) piece [] x) (sym (is_ended p' end)) (piece, refl));
+  left = left;
+}
+
+pub fed_marks : (k : ℕ) (h h' : Hub) (p p' : Port) (piece : List ℕ) (r : Result Fed HubFault) → IfOk r (λ fed. Feeds h k piece fed h') → OnErr r (h' ≡ h) → p'.left ≡ p.left → KeepsPortMarks k h p h' p'
+fed_marks k h h' p p' piece (Ok fed) ok err left = marks_keep k h h' p p' ok.marks left
+fed_marks k h h' p p' piece (Err fault) ok err left = subst (λ (x : Hub). KeepsPortMarks k h p x p') (sym err) (same_keep k h p p' left)
+
+-- the link gave nothing, which is its end
+pub ends_serve : (k : ℕ) (h : Hub) (m m' : Moves) (p p' : Port) → GoOn m m' (LinkGave k [] ∷ []) → p'.left ≡ p.left → is_some p'.ending ≡ true → ServesPort k h m p h m' p'
+ends_serve k h m m' p p' went left end =
+    serve_port k h h m m' p p' [] [] [] [] [] true refl (adds_read m m' k [] went) (λ i. same_here (eqb k i) []) (λ i. same_here (eqb k i) [])
+    (subst (λ (x : Option (List ℕ)). PassesOn (unfed_of (Some p)) [] [] x) (sym (is_ended p' end)) (passes_end (unfed_of (Some p))))
+    (subst (λ (x : Option (List ℕ)). PassesOn p.left [] [] x) (sym left) (passes_nothing p.left)) (λ e. refl) (λ e. is_ended p' end)
+
+-- a read failed, or nothing was to be read
+pub fails_serve : (k : ℕ) (h : Hub) (m m' : Moves) (p p' : Port) → GoOn m m' [] → p'.left ≡ p.left → is_some p'.ending ≡ true → ServesPort k h m p h m' p'
+fails_serve k h m m' p p' went left end = rests_serve k h m m' p p' (adds_nothing m m' k went) left (subst (λ (x : Option (List ℕ)). PassesOn (unfed_of (Some p)) [] [] x) (sym (is_ended p' end)) (passes_end (unfed_of (Some p))))
+
+pub stays_serve : (k : ℕ) (h : Hub) (m m' : Moves) (p p' : Port) → GoOn m m' [] → p'.left ≡ p.left → p'.ending ≡ p.ending → ServesPort k h m p h m' p'
+stays_serve k h m m' p p' went left ending = rests_serve k h m m' p p' (adds_nothing m m' k went) left (same_unfed p p' ending)
+
+-- the link gave a piece, which was fed
+pub piece_serve : (k : ℕ) (h h' : Hub) (m m' : Moves) (p q p' : Port) (piece : List ℕ) → GoOn m m' (LinkGave k piece ∷ []) → is_end piece ≡ false → p.ending ≡ None → q.left ≡ p.left → q.ending ≡ p.ending → FeedsPort k h q piece h' p' → ServesPort k h m p h' m' p'
+piece_serve k h h' m m' p q p' piece went more on left ending fed =
+    port_both k h h h' m m m' p q p' (stays_serve k h m m p q (go_nowhere m) left ending)
+    (feeds_serve k h h' m m' q p' piece (ending ∙ on) (subst (λ (b : Bool). Adds m m' k piece [] b) more (adds_read m m' k piece went)) fed)
+
+pub marks_refed : (k : ℕ) (h h' : Hub) (p q p' : Port) → q.left ≡ p.left → KeepsPortMarks k h q h' p' → KeepsPortMarks k h p h' p'
+marks_refed k h h' p q p' left keeps others i owed = keeps others i (same_keep k h p q left others i owed)
+
+pub hang_port : (k : ℕ) (h h' : Hub) (p p' : Port) (r : Result Unit HubFault) → OnOk r (HangsUp h k h') → OnErr r (h' ≡ h) → p'.left ≡ p.left → p'.ending ≡ p.ending → (m : Moves) → ServesPort k h m p h' m p'
+hang_port k h h' p p' (Ok u) ok err left ending m = hung_serve k h h' m p p' ok left ending
+hang_port k h h' p p' (Err fault) ok err left ending m = subst (λ (x : Hub). ServesPort k h m p x m p') (sym err) (stays_serve k h m m p p' (go_nowhere m) left ending)
+
+pub hang_marks : (k : ℕ) (h h' : Hub) (p p' : Port) (r : Result Unit HubFault) → OnOk r (HangsUp h k h') → OnErr r (h' ≡ h) → p'.left ≡ p.left → KeepsPortMarks k h p h' p'
+hang_marks k h h' p p' (Ok u) ok err left = marks_keep k h h' p p' ok.marks left
+hang_marks k h h' p p' (Err fault) ok err left = subst (λ (x : Hub). KeepsPortMarks k h p x p') (sym err) (same_keep k h p p' left)
+
+-- ---- the hub alone
+
+-- it made a call that neither takes nor gives bytes
+pub call_serves : (call : Call) (h h' : Hub) (m : Moves) (p : Ports) → Makes call h h' → ((i : ℕ) → stream_of i (call ∷ []) ≡ []) → ((i : ℕ) → output_of i (call ∷ []) ≡ []) → Serves h m p h' m p
+call_serves call h h' m p made stream output = record {
+  calls = call ∷ [];
+  moved = [];
+  made = (h', (made, refl));
+  went = go_nowhere m;
+  read = λ i. subst (λ (t : List ℕ). PassesOn (unfed_of (p i)) [] t (unfed_of (p i))) (sym (stream i)) (passes_nothing (unfed_of (p i)));
+  written = λ i. subst (λ (t : List ℕ). PassesOn (left_of (p i)) t [] (left_of (p i))) (sym (output i)) (passes_nothing (left_of (p i)));
+  unread = λ i e. refl;
+  ended = λ i e. absurd cc;
+}
+
+pub served_nothing : (h : Hub) (m : Moves) (p : Ports) → Serves h m p h m p
+served_nothing h m p = record {
+  calls = [];
+  moved = [];
+  made = refl;
+  went = go_nowhere m;
+  read = λ i. passes_nothing (unfed_of (p i));
+  written = λ i. passes_nothing (left_of (p i));
+  unread = λ i e. refl;
+  ended = λ i e. absurd cc;
+}
+
+pub ticked_serves : (moment : ℕ) (h h' : Hub) (m : Moves) (p : Ports) → Ticks h moment h' → Serves h m p h' m p
+ticked_serves moment h h' m p made = call_serves (Ticked moment) h h' m p made (λ i. refl) (λ i. refl)
+
+pub opened_serves : (h h' : Hub) (m : Moves) (p : Ports) → h' ≡ with_connection h → Serves h m p h' m p
+opened_serves h h' m p made = call_serves Opened h h' m p made (λ i. refl) (λ i. refl)
+
+pub named_serves : (k : ℕ) (h h' : Hub) (m : Moves) (p : Ports) → Names h k h' → Serves h m p h' m p
+named_serves k h h' m p made = call_serves (Named k) h h' m p made (λ i. refl) (λ i. refl)
+
+-- link k is closed
+pub closed_serves : (k : ℕ) (h : Hub) (m : Moves) (o : Ports) (p : Port) → Serves h m (with_port o k (Some p)) h m (with_port o k None)
+closed_serves k h m o p = record {
+  calls = [];
+  moved = [];
+  made = refl;
+  went = go_nowhere m;
+  read = λ i. read_at (eqb k i) (o i);
+  written = λ i. written_at (eqb k i) (o i);
+  unread = λ i e. refl;
+  ended = λ i e. absurd cc;
+} where
+  read_at : (here : Bool) (x : Option Port) → PassesOn (unfed_of (cond here (Some p) x)) [] [] (unfed_of (cond here None x))
+  read_at true x = passes_end (unfed_of (Some p))
+  read_at false x = passes_nothing (unfed_of x)
+
+  written_at : (here : Bool) (x : Option Port) → PassesOn (left_of (cond here (Some p) x)) [] [] (left_of (cond here None x))
+  written_at true x = passes_end p.left
+  written_at false x = passes_nothing (left_of x)
+
+-- the same moves, told in another way
+pub moved_so : (h h' : Hub) (m m' n n' : Moves) (p p' : Ports) → m ≡ n → n' ≡ m' → Serves h m p h' m' p' → Serves h n p h' n' p'
+moved_so h h' m m' n n' p p' before later s = subst (λ (w : Moves). Serves h w p h' n' p') before (subst (λ (w : Moves). Serves h m p h' w p') (sym later) s)
+
+-- ---- a port that is cut
+
+-- it wrote the first of the bytes, and the rest is dropped
+pub cut_writes : (k : ℕ) (m m' : Moves) (p p' : Port) (bytes : List ℕ) (n : ℕ) → p.left ≡ Some [] → p'.left ≡ None → is_some p'.ending ≡ true → Adds m m' k [] (take n bytes) false → Writes k m m' p bytes p'
+cut_writes k m m' p p' bytes n before cut end adds = record {
+  took = take n bytes;
+  added = adds;
+  left = subst (λ (x : Option (List ℕ)). PassesOn x bytes (take n bytes) p'.left) (sym before) (subst (λ (x : Option (List ℕ)). PassesOn (Some []) bytes (take n bytes) x) (sym cut) (passes_dropped bytes n));
+  unfed = subst (λ (x : Option (List ℕ)). PassesOn (unfed_of (Some p)) [] [] x) (sym (is_ended p' end)) (passes_end (unfed_of (Some p)));
+}
+
+-- the hub did nothing
+pub cut_serve : (k : ℕ) (h h' : Hub) (m : Moves) (p p' : Port) → h' ≡ h → p.left ≡ Some [] → p'.left ≡ None → is_some p'.ending ≡ true → ServesPort k h m p h' m p'
+cut_serve k h h' m p p' same before cut end = subst (λ (x : Hub). ServesPort k h m p x m p') (sym same) (writes_serve k h m m p p' (cut_writes k m m p p' [] 0 before cut end (adds_nothing m m k (go_nowhere m))))
+
+-- what the hub gave stands in a buffer that was empty
+pub given_serve : (k : ℕ) (h h' : Hub) (m m' : Moves) (p p' : Port) (bytes before out written : List ℕ) → Takes h k bytes h' → before ≡ [] → out ≡ before ++ bytes → written ≡ out → Writes k m m' p written p' → ServesPort k h m p h' m' p'
+given_serve k h h' m m' p p' bytes before out written takes none more all w = gave_serve k h h' m m' p p' bytes takes (subst (λ (bs : List ℕ). Writes k m m' p bs p') (all ∙ more ∙ ap (λ (t : List ℕ). t ++ bytes) none) w)
+
+-- ---- ports that stay
+
+pub not_some : (x : Option Ending) → false ≡ is_some x → x ≡ None
+not_some None e = refl
+not_some (Some ending) e = absurd cc
+
+pub not_end : (n : ℕ) (xs : List ℕ) → 0 < n → n ≤ length xs → is_end (take n xs) ≡ false
+not_end n [] some within = absurd (omega arith)
+not_end zero (x ∷ xs) some within = absurd (omega arith)
+not_end (suc n) (x ∷ xs) some within = refl
+
+pub same_serves : (h : Hub) (m : Moves) (xs ys : List (Option Port)) → ys ≡ xs → Serves h m (port_at xs) h m (port_at ys)
+same_serves h m xs ys same = subst (λ (zs : List (Option Port)). Serves h m (port_at xs) h m (port_at zs)) (sym same) (served_nothing h m (port_at xs))

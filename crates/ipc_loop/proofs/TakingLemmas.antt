@@ -1,0 +1,52 @@
+-- What taking a connection's answers leaves of the others'.
+use Rattle.std.proofs.Common.{◌≡◌, ◌⊎◌, inl, ℕ, Bool, true, false, eqb, cond, List, [], set, slice_get, Option, Some, None, refl, sym, ap, subst, ◌∙◌}
+use Rattle.std.specs.Prelude.{unwrap_or}
+use Rattle.std.specs.Option.{option_map}
+use Rattle.std.proofs.lemmas.Bool.{eqb-true, eq-eqb}
+use Rattle.ipc_terms.specs.declared.ids.Sid.{Sid}
+use Rattle.ipc_terms.specs.declared.call.Answer.{Answer}
+use Rattle.ipc_core.specs.CoreView.{CoreView}
+use Rattle.ipc_core.proofs.BoxSteps.{taken_here, taken_elsewhere}
+use Rattle.ipc_hub.specs.Hub.{Connection, Hub, Takes, core_after_take, untaken_of, untaken, untaken_at}
+use Rattle.ipc_hub.specs.Sessions.{EachHasItsOwn}
+use Rattle.ipc_loop.specs.Ports.{Port}
+use Rattle.ipc_loop.specs.Serving.{Answers}
+use Rattle.ipc_loop.proofs.PortLemmas.{get_set}
+
+none_left : (a : CoreView) (s : Option Sid) → untaken_of (core_after_take a s) s ≡ []
+none_left a None = refl
+none_left a (Some sid) = taken_here a.untaken sid.0
+
+-- what another session was answered stays
+left_elsewhere : (a : CoreView) (s t : Option Sid) → ((sid : Sid) → s ≡ Some sid → t ≡ Some sid → ⊥) → untaken_of (core_after_take a s) t ≡ untaken_of a t
+left_elsewhere a None t apart = refl
+left_elsewhere a (Some sid) None apart = refl
+left_elsewhere a (Some sid) (Some other) apart = taken_elsewhere a.untaken sid.0 other.0 (λ (q : other.0 ≡ sid.0). apart sid refl (ap (λ (n : ℕ). Some (record { 0 = n })) q))
+
+pub takes_answers : (h h' : Hub) (k : ℕ) (bytes : List ℕ) (port : Port) → EachHasItsOwn h.core h.connections → Takes h k bytes h' → Answers k h h' port
+takes_answers h h' k bytes port sound takes = record { answered = inl own; others = others; marks = takes.marked } where
+  x : Connection
+  x = takes.before
+
+  y : Connection
+  y = record takes.before { has_refusal = false }
+
+  found : (i : ℕ) → slice_get h'.connections i ≡ cond (eqb k i) (Some y) (slice_get h.connections i)
+  found i = ap (λ (xs : List Connection). slice_get xs i) takes.changes.others ∙ get_set h.connections k x y i takes.changes.was
+
+  own : untaken_at h' k ≡ []
+  own =
+      ap (λ (s : Option Connection). unwrap_or (option_map (untaken h'.core) s) []) (found k ∙ ap (λ (b : Bool). cond b (Some y) (slice_get h.connections k)) (eq-eqb k k refl))
+      ∙ ap (λ (a : CoreView). untaken_of a x.session) takes.core ∙ none_left h.core x.session
+
+  stays : (i : ℕ) → eqb k i ≡ false → (z : Connection) → slice_get h.connections i ≡ Some z → (w : List Answer) (refused : Bool) → cond refused w (untaken_of h'.core z.session) ≡ cond refused w (untaken_of h.core z.session)
+  stays i other z there w true = refl
+  stays i other z there w false =
+      ap (λ (a : CoreView). untaken_of a z.session) takes.core
+      ∙ left_elsewhere h.core x.session z.session (λ sid own theirs. let same : k ≡ i = sound.apart k i x z sid takes.changes.was there own theirs in let wrong : true ≡ false = sym (eq-eqb k i same) ∙ other in absurd cc)
+
+  others : (i : ℕ) → eqb k i ≡ false → untaken_at h' i ≡ untaken_at h i
+  others i other = ap (λ (s : Option Connection). unwrap_or (option_map (untaken h'.core) s) []) (found i ∙ ap (λ (b : Bool). cond b (Some y) (slice_get h.connections i)) other) ∙ at (slice_get h.connections i) refl where
+    at : (s : Option Connection) → slice_get h.connections i ≡ s → unwrap_or (option_map (untaken h'.core) s) [] ≡ unwrap_or (option_map (untaken h.core) s) []
+    at None e = refl
+    at (Some z) e = stays i other z e _ z.has_refusal

@@ -1,0 +1,107 @@
+-- Ports that are taken out and put back.
+use Rattle.std.proofs.Common.{◌≡◌, ◌≢◌, ◌⊎◌, inl, inr, ℕ, zero, suc, ◌+◌, ◌<◌, Bool, true, false, eqb, cond, List, [], ◌∷◌, set, slice_get, Option, Some, None, refl, sym, ap, subst, ◌∙◌, arith}
+use Rattle.std.specs.Prelude.{unwrap_or}
+use Rattle.std.proofs.lemmas.Bool.{eq-eqb, eqb-true}
+use Rattle.ipc_hub.specs.Marking.{is_set}
+use Rattle.ipc_hub.specs.Hub.{Hub, Names, is_marked, untaken_at}
+use Rattle.ipc_loop.specs.Moves.{Moved}
+use Rattle.ipc_loop.specs.Ports.{Port, new_port, port_at, open_at, with_port}
+use Rattle.ipc_loop.specs.Standing.{TakesOut, IsOut, IsSettled}
+use Rattle.ipc_loop.specs.Serving.{Serves, ServesPort, KeepsMarks, KeepsPortMarks, Answers, IsAnswered, IsOwedByMark}
+use Rattle.ipc_loop.proofs.ServingLemmas.{serves_both, serves_so, closed_serves}
+use Rattle.ipc_loop.proofs.OwingLemmas.{keeps_so, both_keep, closed_keeps}
+use Rattle.ipc_loop.proofs.PortLemmas.{Slots, get_set, slot_set, slot_none, taken_out, empty_slot}
+
+abbrev pub Moves : Type 0
+Moves = Option (List Moved)
+
+-- a turn of a port that was taken out, up to its settling
+pub settled_serves : (k : ℕ) (h h' : Hub) (m m' m'' : Moves) (p p' : Port) (xs ys : Slots) → slice_get xs k ≡ Some None → ServesPort k h m p h' m' p' → m'' ≡ m' → IsSettled xs k p' ys
+    → Serves h m (with_port (port_at xs) k (Some p)) h' m'' (port_at ys)
+settled_serves k h h' m m' m'' p p' xs ys empty serves same (inl put) =
+    subst (λ (w : Moves). Serves h m (with_port (port_at xs) k (Some p)) h' w (port_at ys)) (sym same)
+    (serves_so h h' m m' (with_port (port_at xs) k (Some p)) (with_port (port_at xs) k (Some p)) (with_port (port_at xs) k (Some p')) (port_at ys) (λ i. refl) (λ i. ap (λ (zs : Slots). port_at zs i) put ∙ slot_set (Some new_port) xs k None (Some p') i empty) (serves (port_at xs)))
+settled_serves k h h' m m' m'' p p' xs ys empty serves same (inr gone) =
+    subst (λ (w : Moves). Serves h m (with_port (port_at xs) k (Some p)) h' w (port_at ys)) (sym same)
+    (serves_both h h' h' m m' m' (with_port (port_at xs) k (Some p)) (with_port (port_at xs) k (Some p')) (port_at ys) (serves (port_at xs))
+    (serves_so h' h' m' m' (with_port (port_at xs) k (Some p')) (with_port (port_at xs) k (Some p')) (with_port (port_at xs) k None) (port_at ys) (λ i. refl) (λ i. ap (λ (zs : Slots). port_at zs i) gone ∙ slot_none (Some new_port) xs k i empty) (closed_serves k h' m' (port_at xs) p')))
+
+pub settled_keeps : (k : ℕ) (h h' : Hub) (p p' : Port) (xs ys : Slots) → slice_get xs k ≡ Some None → KeepsPortMarks k h p h' p' → IsSettled xs k p' ys
+    → KeepsMarks h (with_port (open_at xs) k (Some p)) h' (open_at ys)
+settled_keeps k h h' p p' xs ys empty keeps (inl put) =
+    keeps_so h h' (with_port (open_at xs) k (Some p)) (with_port (open_at xs) k (Some p)) (with_port (open_at xs) k (Some p')) (open_at ys) (λ i. refl) (λ i. ap (λ (zs : Slots). open_at zs i) put ∙ slot_set None xs k None (Some p') i empty) (keeps (open_at xs))
+settled_keeps k h h' p p' xs ys empty keeps (inr gone) =
+    both_keep h h' h' (with_port (open_at xs) k (Some p)) (with_port (open_at xs) k (Some p')) (open_at ys) (keeps (open_at xs))
+    (keeps_so h' h' (with_port (open_at xs) k (Some p')) (with_port (open_at xs) k (Some p')) (with_port (open_at xs) k None) (open_at ys) (λ i. refl) (λ i. ap (λ (zs : Slots). open_at zs i) gone ∙ slot_none None xs k i empty) (closed_keeps k h' (open_at xs) p'))
+
+-- the port is told in another way
+pub turned_serves : (k : ℕ) (h h' : Hub) (m m' m'' : Moves) (p q p' : Port) (xs ys : Slots) → q ≡ p → slice_get xs k ≡ Some None → ServesPort k h m q h' m' p' → m'' ≡ m' → IsSettled xs k p' ys
+    → Serves h m (with_port (port_at xs) k (Some p)) h' m'' (port_at ys)
+turned_serves k h h' m m' m'' p q p' xs ys is empty serves same settled = settled_serves k h h' m m' m'' p p' xs ys empty (subst (λ (x : Port). ServesPort k h m x h' m' p') is serves) same settled
+
+pub turned_keeps : (k : ℕ) (h h' : Hub) (p q p' : Port) (xs ys : Slots) → q ≡ p → slice_get xs k ≡ Some None → KeepsPortMarks k h q h' p' → IsSettled xs k p' ys
+    → KeepsMarks h (with_port (open_at xs) k (Some p)) h' (open_at ys)
+turned_keeps k h h' p q p' xs ys is empty keeps settled = settled_keeps k h h' p p' xs ys empty (subst (λ (x : Port). KeepsPortMarks k h x h' p') is keeps) settled
+
+-- the same, of a port that stood among the others
+pub taken_serves : (k : ℕ) (h h' : Hub) (m m' : Moves) (p : Port) (xs ys zs : Slots) → TakesOut xs k p ys → Serves h m (with_port (port_at ys) k (Some p)) h' m' (port_at zs) → Serves h m (port_at xs) h' m' (port_at zs)
+taken_serves k h h' m m' p xs ys zs out serves = serves_so h h' m m' (with_port (port_at ys) k (Some p)) (port_at xs) (port_at zs) (port_at zs) (λ i. sym (taken_out (Some new_port) xs ys k p out i)) (λ i. refl) serves
+
+pub taken_keeps : (k : ℕ) (h h' : Hub) (p : Port) (xs ys zs : Slots) → TakesOut xs k p ys → KeepsMarks h (with_port (open_at ys) k (Some p)) h' (open_at zs) → KeepsMarks h (open_at xs) h' (open_at zs)
+taken_keeps k h h' p xs ys zs out keeps = keeps_so h h' (with_port (open_at ys) k (Some p)) (open_at xs) (open_at zs) (open_at zs) (λ i. sym (taken_out None xs ys k p out i)) (λ i. refl) keeps
+
+-- ---- connections that were answered
+
+-- port k, which was sent what it was answered, is settled
+pub sent_answered : (k : ℕ) (h h' : Hub) (p' : Port) (xs ys : Slots) → slice_get xs k ≡ Some None → Answers k h h' p' → IsSettled xs k p' ys → IsAnswered h' (open_at ys) k
+sent_answered k h h' p' xs ys empty a (inl put) port e =
+    let now : Some p' ≡ Some port = sym (ap (λ (zs : Slots). open_at zs k) put ∙ slot_set None xs k None (Some p') k empty ∙ ap (λ (b : Bool). cond b (Some p') (open_at xs k)) (eq-eqb k k refl)) ∙ e in
+    let same : p' ≡ port = cc in
+    subst (λ (q : Port). (untaken_at h' k ≡ []) ⊎ (q.left ≢ Some [])) same a.answered
+sent_answered k h h' p' xs ys empty a (inr gone) port e =
+    let now : None ≡ Some port = sym (ap (λ (zs : Slots). open_at zs k) gone ∙ slot_none None xs k k empty ∙ ap (λ (b : Bool). cond b None (open_at xs k)) (eq-eqb k k refl)) ∙ e in
+    absurd cc
+
+flag_there : (flags : List Bool) (k : ℕ) → is_set flags k ≡ true → slice_get flags k ≡ Some true
+flag_there flags k e = at (slice_get flags k) e where
+  at : (s : Option Bool) → unwrap_or s false ≡ true → s ≡ Some true
+  at None f = absurd cc
+  at (Some b) f = ap (λ (x : Bool). Some x) f
+
+marked_elsewhere : (flags : List Bool) (k i : ℕ) → is_set flags k ≡ true → eqb k i ≡ false → is_set (set flags k false) i ≡ is_set flags i
+marked_elsewhere flags k i on other = ap (λ (s : Option Bool). unwrap_or s false) (get_set flags k true false i (flag_there flags k on) ∙ ap (λ (b : Bool). cond b (Some false) (slice_get flags i)) other)
+
+-- how many flags are set
+abbrev pub how_many : List Bool → ℕ
+how_many [] = 0
+how_many (b ∷ flags) = cond b (how_many flags + 1) (how_many flags)
+
+one_fewer : (flags : List Bool) (k : ℕ) → slice_get flags k ≡ Some true → how_many (set flags k false) + 1 ≡ how_many flags
+one_fewer [] k e = absurd cc
+one_fewer (b ∷ flags) zero e = let on : b ≡ true = cc in rw on refl
+one_fewer (true ∷ flags) (suc k) e = ap (λ (n : ℕ). n + 1) (one_fewer flags k e)
+one_fewer (false ∷ flags) (suc k) e = one_fewer flags k e
+
+-- fewer are marked once one was named
+pub named_fewer : (k : ℕ) (h n : Hub) → Names h k n → how_many n.marked < how_many h.marked
+named_fewer k h n names =
+    let less : how_many (set h.marked k false) + 1 ≡ how_many h.marked = one_fewer h.marked k (flag_there h.marked k names.was) in
+    let now : how_many n.marked ≡ how_many (set h.marked k false) = ap (λ (x : Hub). how_many x.marked) names.now in
+    omega arith
+
+-- a link that has no port is owed nothing
+pub out_answered : (k : ℕ) (h : Hub) (xs ys : Slots) → IsOut xs k ys → IsAnswered h (open_at ys) k
+out_answered k h xs ys out port e = absurd (out.here port (at (slice_get ys k) e)) where
+  at : (s : Option (Option Port)) → unwrap_or s None ≡ Some port → s ≡ Some (Some port)
+  at None f = absurd cc
+  at (Some x) f = ap (λ (y : Option Port). Some y) f
+
+-- who else is owed answers is marked, once connection k was named and answered
+pub named_others : (k : ℕ) (h n h' : Hub) (p p' : Slots) → Names h k n → ((i : ℕ) → eqb k i ≡ false → IsOwedByMark n (open_at p) i → IsOwedByMark h' (open_at p') i) → IsAnswered h' (open_at p') k
+    → ((i : ℕ) → IsOwedByMark h (open_at p) i) → (i : ℕ) → IsOwedByMark h' (open_at p') i
+named_others k h n h' p p' names others answered before i = at (eqb k i) refl where
+  at : (here : Bool) → eqb k i ≡ here → IsOwedByMark h' (open_at p') i
+  at true is = subst (λ (j : ℕ). IsOwedByMark h' (open_at p') j) (eqb-true k i is) (λ (u : is_marked h' k ≡ false). answered)
+  at false is = others i is (λ (u : is_marked n i ≡ false) port e.
+      subst (λ (x : Hub). (untaken_at x i ≡ []) ⊎ (port.left ≢ Some [])) (sym names.now)
+      (before i (sym (marked_elsewhere h.marked k i names.was is) ∙ ap (λ (x : Hub). is_marked x i) (sym names.now) ∙ u) port e))

@@ -1,0 +1,11 @@
+use Rattle.std.proofs.Common.{◌≡◌}
+use Rattle.ipc_loop.specs.Ports.{port_at, open_at}
+use Rattle.ipc_loop.specs.Serving.{Serves, KeepsMarks}
+use Rattle.ipc_loop.proofs.accepting.Accepting.accept_some.Given as goal
+
+abbrev pub invariant-loop : goal.invariant-loop
+invariant-loop g l = record {
+  serves : Serves l.fn.hub (g.H.Host.moves l.fn.host) (port_at l.fn.ports.all) l.hub (g.H.Host.moves l.host) (port_at l.ports.all);
+  marks : KeepsMarks l.fn.hub (open_at l.fn.ports.all) l.hub (open_at l.ports.all);
+  turns : l.ports.turns ≡ l.fn.ports.turns;
+}

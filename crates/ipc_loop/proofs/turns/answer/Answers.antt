@@ -1,0 +1,28 @@
+use Rattle.ipc_loop.proofs.OwingLemmas.{answers_keep}
+use Rattle.ipc_loop.proofs.ServingLemmas.{same_serves}
+use Rattle.ipc_loop.proofs.PortLemmas.{empty_slot}
+use Rattle.ipc_loop.proofs.TurnLemmas.{turned_serves, turned_keeps, taken_serves, taken_keeps, sent_answered, out_answered}
+use Rattle.ipc_loop.proofs.turns.answer.Goals as goal
+
+pub settle-requires : goal.settle-requires
+settle-requires g c = empty_slot _ _ _ _ c.in-Some.ensures.port
+
+pub returns-in-Some-clause-serves : goal.returns-in-Some-clause-serves
+returns-in-Some-clause-serves g c =
+    taken_serves c.args.number _ _ _ _ _ _ _ _ c.in-Some.ensures.port
+    (turned_serves c.args.number _ _ _ _ _ _ _ _ _ _ c.deref_mut.ensures.value (empty_slot _ _ _ _ c.in-Some.ensures.port) c.send.ensures.serves c.settle.ensures.moved c.settle.ensures.settled)
+
+pub returns-in-Some-clause-answered : goal.returns-in-Some-clause-answered
+returns-in-Some-clause-answered g c = sent_answered c.args.number _ _ _ _ _ (empty_slot _ _ _ _ c.in-Some.ensures.port) c.send.ensures.answers c.settle.ensures.settled
+
+pub returns-in-Some-clause-marks : goal.returns-in-Some-clause-marks
+returns-in-Some-clause-marks g c =
+    taken_keeps c.args.number c.args.hub.now c.send.new.hub c.in-Some.port.value c.args.ports.now.all c.take.new.self.all c.settle.new.ports.all c.in-Some.ensures.port
+    (turned_keeps c.args.number c.args.hub.now c.send.new.hub c.in-Some.port.value c.deref_mut.result.now c.send.new.self c.take.new.self.all c.settle.new.ports.all c.deref_mut.ensures.value (empty_slot _ _ _ _ c.in-Some.ensures.port)
+    (answers_keep c.args.number c.args.hub.now c.send.new.hub c.deref_mut.result.now c.send.new.self c.send.ensures.answers) c.settle.ensures.settled)
+
+pub returns-in_default-clause-serves : goal.returns-in_default-clause-serves
+returns-in_default-clause-serves g c = same_serves _ _ _ _ c.in_default.ensures.none
+
+pub returns-in_default-clause-answered : goal.returns-in_default-clause-answered
+returns-in_default-clause-answered g c = out_answered c.args.number c.args.hub.now c.args.ports.now.all c.take.new.self.all c.take.ensures.out

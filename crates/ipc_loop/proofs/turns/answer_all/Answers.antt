@@ -1,0 +1,21 @@
+use Rattle.std.proofs.Common.{◌<◌, ◌≡◌, ◌≢◌, ◌⊎◌, List, [], Some, Bool, refl, sym, subst, ◌∙◌}
+use Rattle.ipc_hub.specs.Hub.{Hub, untaken_at}
+use Rattle.ipc_loop.proofs.ServingLemmas.{served_nothing, serves_both, named_serves}
+use Rattle.ipc_loop.proofs.TurnLemmas.{how_many, named_others, named_fewer}
+use Rattle.ipc_loop.proofs.turns.answer_all.Goals as goal
+
+pub loop-conn-init : goal.loop-conn-init
+loop-conn-init g c = record { serves = served_nothing _ _ _; marks = c.requires; turns = refl }
+
+pub loop-conn-preserved : goal.loop-conn-preserved
+loop-conn-preserved g c = record {
+  serves = serves_both _ _ _ _ _ _ _ _ _ c.loop-conn.invariant.serves (serves_both _ _ _ _ _ _ _ _ _ (named_serves c.in-Some.conn.0 _ _ _ _ c.in-Some.ensures.some) c.answer.ensures.serves);
+  marks = named_others c.in-Some.conn.0 c.loop-conn.hub c.next_answered.new.self c.answer.new.hub c.loop-conn.ports.all c.answer.new.ports.all c.in-Some.ensures.some (λ i is owed. c.answer.ensures.marks i owed) c.answer.ensures.answered c.loop-conn.invariant.marks;
+  turns = c.answer.ensures.turns ∙ c.loop-conn.invariant.turns;
+}
+
+pub loop-conn-smaller : goal.loop-conn-smaller
+loop-conn-smaller g c = subst (λ (flags : List Bool). how_many flags < how_many c.loop-conn.hub.marked) (sym c.answer.ensures.marked) (named_fewer c.in-Some.conn.0 c.loop-conn.hub c.next_answered.new.self c.in-Some.ensures.some)
+
+pub returns-clause-rests : goal.returns-clause-rests
+returns-clause-rests g c = λ i port e. subst (λ (x : Hub). (untaken_at x i ≡ []) ⊎ (port.left ≢ Some [])) (sym c.in_default.ensures.same) (c.loop-conn.invariant.marks i (c.in_default.ensures.none i) port e)

@@ -1,0 +1,23 @@
+use Rattle.ipc_loop.proofs.ServingLemmas.{served_nothing, same_serves}
+use Rattle.ipc_loop.proofs.PortLemmas.{empty_slot}
+use Rattle.ipc_loop.proofs.TurnLemmas.{turned_serves, turned_keeps, taken_serves, taken_keeps}
+use Rattle.ipc_loop.proofs.turns.keep_bound.Goals as goal
+
+pub settle-requires : goal.settle-requires
+settle-requires g c = empty_slot _ _ _ _ c.in-Some.ensures.port
+
+pub returns-then-desk-le-MOST_UNFINISHED-clause-serves : goal.returns-then-desk-le-MOST_UNFINISHED-clause-serves
+returns-then-desk-le-MOST_UNFINISHED-clause-serves g c = served_nothing _ _ _
+
+pub returns-in-Some-clause-serves : goal.returns-in-Some-clause-serves
+returns-in-Some-clause-serves g c =
+    taken_serves _ _ _ _ _ _ _ _ _ c.in-Some.ensures.port
+    (turned_serves _ _ _ _ _ _ _ _ _ _ _ c.deref_mut.ensures.value (empty_slot _ _ _ _ c.in-Some.ensures.port) (c.give_up.ensures.serves (g.H.Host.moves c.args.host.now)) c.settle.ensures.moved c.settle.ensures.settled)
+
+pub returns-in-Some-clause-marks : goal.returns-in-Some-clause-marks
+returns-in-Some-clause-marks g c =
+    taken_keeps c.largest-number.result c.args.hub.now c.give_up.new.hub c.in-Some.port.value c.args.ports.now.all c.take.new.self.all c.settle.new.ports.all c.in-Some.ensures.port
+    (turned_keeps c.largest-number.result c.args.hub.now c.give_up.new.hub c.in-Some.port.value c.deref_mut.result.now c.give_up.new.self c.take.new.self.all c.settle.new.ports.all c.deref_mut.ensures.value (empty_slot _ _ _ _ c.in-Some.ensures.port) c.give_up.ensures.marks c.settle.ensures.settled)
+
+pub returns-in_default-clause-serves : goal.returns-in_default-clause-serves
+returns-in_default-clause-serves g c = same_serves _ _ _ _ c.in_default.ensures.none

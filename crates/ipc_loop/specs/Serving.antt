@@ -1,0 +1,78 @@
+-- What serving makes of a hub, of links and of their ports.
+use Rattle.std.specs.Prelude.{◌≡◌, ◌≢◌, ◌⊎◌, ◌==◌, if◌then◌else◌, Bool, true, false, ℕ, List, [], ◌++◌, Option, Some, None}
+use Rattle.ipc_hub.specs.Hub.{Hub, is_marked, untaken_at}
+use Rattle.ipc_hub.specs.Laws.{Call, MakesAll, stream_of, output_of}
+use Rattle.ipc_hub.specs.declared.fed.Fed.{Fed}
+use Rattle.ipc_hub.specs.declared.fed.Fed.TheVariants.{Over}
+use Rattle.ipc_loop.specs.Moves.{Moved, GoOn, Adds, read_of, written_of, comes_to_its_end}
+use Rattle.ipc_loop.specs.Ports.{Port, with_port, left_of, unfed_of}
+
+-- what comes passes on in order, behind what was left before, and the rest is left. None is left once no more passes: then
+-- what did not pass is dropped
+abbrev pub PassesOn : Option (List ℕ) → List ℕ → List ℕ → Option (List ℕ) → Type 0
+PassesOn None came passed left' = (passed ≡ []) × (left' ≡ None)
+PassesOn (Some left) came passed None = (dropped : List ℕ) × (left ++ came ≡ passed ++ dropped)
+PassesOn (Some left) came passed (Some left') = left ++ came ≡ passed ++ left'
+
+-- from one moment to another: what each link gave passed on to the hub, and what the hub gave passed on to the link.
+-- Nothing else happened to the hub or to links. A link that is not read any more gave nothing, and one whose stream ended
+-- is not read any more
+pub record Serves (hub : Hub) (moves : Option (List Moved)) (ports : ℕ → Option Port) (hub' : Hub) (moves' : Option (List Moved)) (ports' : ℕ → Option Port) : Type 0 where
+  pub calls : List Call
+  pub moved : List Moved
+  pub made : MakesAll calls hub hub'
+  pub went : GoOn moves moves' moved
+  pub read : (i : ℕ) → PassesOn (unfed_of (ports i)) (read_of i moved) (stream_of i calls) (unfed_of (ports' i))
+  pub written : (i : ℕ) → PassesOn (left_of (ports i)) (output_of i calls) (written_of i moved) (left_of (ports' i))
+  pub unread : (i : ℕ) → unfed_of (ports i) ≡ None → read_of i moved ≡ []
+  pub ended : (i : ℕ) → comes_to_its_end i moved ≡ true → unfed_of (ports' i) ≡ None
+
+-- the same, where no port but that of link k changes
+abbrev pub ServesPort : ℕ → Hub → Option (List Moved) → Port → Hub → Option (List Moved) → Port → Type 0
+ServesPort k hub moves port hub' moves' port' = (others : ℕ → Option Port) → Serves hub moves (with_port others k (Some port)) hub' moves' (with_port others k (Some port'))
+
+-- all that connection i was answered is taken, or stands behind bytes that its link did not take yet
+abbrev pub IsAnswered : Hub → (ℕ → Option Port) → ℕ → Type 0
+IsAnswered hub ports i = (port : Port) → ports i ≡ Some port → (untaken_at hub i ≡ []) ⊎ (port.left ≢ Some [])
+
+-- the same, or it is marked
+abbrev pub IsOwedByMark : Hub → (ℕ → Option Port) → ℕ → Type 0
+IsOwedByMark hub ports i = is_marked hub i ≡ false → IsAnswered hub ports i
+
+-- who is owed answers is marked, if it was so before
+abbrev pub KeepsMarks : Hub → (ℕ → Option Port) → Hub → (ℕ → Option Port) → Type 0
+KeepsMarks hub ports hub' ports' = (i : ℕ) → IsOwedByMark hub ports i → IsOwedByMark hub' ports' i
+
+abbrev pub NobodyIsOwed : Hub → (ℕ → Option Port) → Type 0
+NobodyIsOwed hub ports = (i : ℕ) → IsAnswered hub ports i
+
+-- link k's port, which had so much left, took this much more for it, and wrote what it could
+pub record Writes (k : ℕ) (moves moves' : Option (List Moved)) (port : Port) (more : List ℕ) (port' : Port) : Type 0 where
+  pub took : List ℕ
+  pub added : Adds moves moves' k [] took false
+  pub left : PassesOn port.left more took port'.left
+  pub unfed : PassesOn (unfed_of (Some port)) [] [] (unfed_of (Some port'))
+
+-- the piece was fed; where it wasn't, the link has come to its end
+pub record FeedsPort (k : ℕ) (hub : Hub) (port : Port) (piece : List ℕ) (hub' : Hub) (port' : Port) : Type 0 where
+  pub calls : List Call
+  pub made : MakesAll calls hub hub'
+  pub fed : List ℕ
+  pub stream : (i : ℕ) → stream_of i calls ≡ (if k == i then fed else [])
+  pub output : (i : ℕ) → output_of i calls ≡ []
+  pub passes : PassesOn (unfed_of (Some port)) piece fed (unfed_of (Some port'))
+  pub left : port'.left ≡ port.left
+
+abbrev pub KeepsPortMarks : ℕ → Hub → Port → Hub → Port → Type 0
+KeepsPortMarks k hub port hub' port' = (others : ℕ → Option Port) → KeepsMarks hub (with_port others k (Some port)) hub' (with_port others k (Some port'))
+
+-- connection k's answers were taken as far as its link took them, and those of no other
+pub record Answers (k : ℕ) (hub : Hub) (hub' : Hub) (port' : Port) : Type 0 where
+  pub answered : (untaken_at hub' k ≡ []) ⊎ (port'.left ≢ Some [])
+  pub others : (i : ℕ) → (k == i) ≡ false → untaken_at hub' i ≡ untaken_at hub i
+  pub marks : hub'.marked ≡ hub.marked
+
+-- whether the connection is over where a piece is fed so
+abbrev pub ends_connection : Fed → Bool
+ends_connection (Over end) = true
+ends_connection fed = false

@@ -1,0 +1,80 @@
+//! What the loop keeps of a link.
+
+ghost use Rattle.std.specs.Prelude.{◌≡◌, ◌||◌};
+ghost use Rattle.ipc_loop.specs.Ports.{new_port, has_work};
+
+use crate::ending::Ending;
+use crate::unsent::Unsent;
+use std::alloc::Global;
+use std::marker::Model;
+
+/// A link whose connection isn't closed.
+#[derive(Drop)]
+pub struct Port {
+    pub unsent: Unsent,
+    /// The link takes nothing any more.
+    pub is_cut: bool,
+    pub ending: Option<Ending>,
+    pub is_over: bool,
+    pub may_read: bool,
+    pub may_write: bool,
+    pub has_ended: bool,
+    pub is_full: bool,
+    /// How often its requests were tried in vain for want of memory.
+    pub tries: u32,
+}
+
+impl Model for Port {
+    ghost use Rattle.std.specs.Prelude.{Some, None, if◌then◌else◌};
+    ghost use Rattle.ipc_loop.specs.Ports.{Port};
+
+    ghost Value = { Port };
+
+    ghost view = { λ p. record { left = if p.is_cut then None else Some p.unsent; ending = p.ending; is_over = p.is_over; may_read = p.may_read; may_write = p.may_write; has_ended = p.has_ended; is_full = p.is_full } };
+}
+
+impl Port {
+    /// A link that was accepted now. It is told of once it can be read.
+    pub fn new(alloc: Global) -> Port
+        ensures { result ≡ new_port }
+    {
+        Port {
+            unsent: Unsent::new(alloc),
+            is_cut: false,
+            ending: None,
+            is_over: false,
+            may_read: false,
+            may_write: true,
+            has_ended: false,
+            is_full: false,
+            tries: 0,
+        }
+    }
+
+    /// Why the link isn't read any more.
+    pub fn why(&self) -> Option<Ending> {
+        self.ending
+    }
+
+    /// Whether a turn would do something.
+    pub fn has_work(&self) -> bool
+        ensures { result ≡ has_work self.now }
+    {
+        if self.is_cut {
+            return true;
+        }
+        if !self.unsent.is_empty() {
+            return self.may_write || self.ending.is_some() && !self.is_over;
+        }
+        self.may_read || self.is_full || self.ending.is_some()
+    }
+
+    /// What became ready.
+    pub fn note(&mut self, is_readable: bool, is_writable: bool, has_ended: bool)
+        ensures { self.new ≡ record self.old { may_read = self.old.may_read || is_readable; may_write = self.old.may_write || is_writable; has_ended = self.old.has_ended || has_ended } }
+    {
+        self.may_read |= is_readable;
+        self.may_write |= is_writable;
+        self.has_ended |= has_ended;
+    }
+}

@@ -1,0 +1,199 @@
+//! The ports of all links, and who gets a turn.
+
+ghost use Rattle.std.specs.Prelude.{◌≡◌, ◌<◌, [], ◌∷◌, ◌++◌, true, false, Some, length, slice_set, IfOk, IfSome, IfNone, OnOk, OnErr, OnSome};
+ghost use Rattle.ipc_hub.specs.Marking.{is_set};
+ghost use Rattle.ipc_loop.specs.Ports.{new_port};
+ghost use Rattle.ipc_loop.specs.Standing.{EachIsQueued, TakesOut, IsOut, IsUnset, seen};
+
+use crate::port::Port;
+use ipc_terms::NoMemory;
+use std::alloc::Global;
+use std::marker::Model;
+use std::mem;
+
+/// The ports by the numbers of their links. A port that something is done with is taken out and put back.
+#[derive(Drop)]
+pub struct Ports {
+    alloc: Global,
+    all: Vec<Option<Box<Port>>>,
+    queued: Vec<bool>,
+    turns: Vec<u64>,
+    next: Vec<u64>,
+    /// How many links are open.
+    open: usize,
+}
+
+impl Model for Ports {
+    ghost use Rattle.ipc_loop.specs.Standing.{Ports, EachIsQueued, seen};
+
+    ghost Value = { Ports };
+
+    ghost view = { λ p. record { all = seen p.all.items; queued = p.queued.items; turns = p.turns.items; next = p.next.items } };
+
+    ghost invariant = { λ p. EachIsQueued (seen p.all.items) p.queued.items p.turns.items p.next.items };
+}
+
+/// Takes the port out of the slot of this number.
+fn take_out(all: &mut Vec<Option<Box<Port>>>, number: u64) -> Option<Box<Port>>
+    ensures port { IfSome result (λ port. TakesOut (seen all.old.items) number port.value (seen all.new.items)) }
+    ensures none { IfNone result (seen all.new.items ≡ seen all.old.items) }
+    ensures out { IsOut (seen all.old.items) number (seen all.new.items) }
+{
+    let i = number as usize;
+    if i >= all.len() {
+        return None;
+    }
+    all[i].take()
+}
+
+/// Clears the flag of this number.
+fn unqueue(queued: &mut Vec<bool>, number: u64)
+    ensures { IsUnset queued.old.items number queued.new.items }
+{
+    let i = number as usize;
+    if i < queued.len() {
+        queued[i] = false;
+    }
+}
+
+impl Ports {
+    /// No links, with room for the turns of so many.
+    pub fn new(alloc: Global, most: usize) -> Result<Ports, NoMemory>
+        ensures { IfOk result (λ ports. ports ≡ record { all = []; queued = []; turns = []; next = [] }) }
+    {
+        let turns = Vec::with_capacity(alloc, most)?;
+        let next = Vec::with_capacity(alloc, most)?;
+        Ok(Ports {
+            alloc,
+            all: Vec::new(alloc),
+            queued: Vec::new(alloc),
+            turns,
+            next,
+            open: 0,
+        })
+    }
+
+    /// Each port that has work is queued. Does nothing; a fact of all ports.
+    pub fn are_queued(&self)
+        ensures { EachIsQueued self.now.all self.now.queued self.now.turns self.now.next }
+    {
+        let _open = self.open;
+    }
+
+    /// How many links are open.
+    pub fn open(&self) -> usize {
+        self.open
+    }
+
+    /// One more link is open.
+    pub fn count_open(&mut self)
+        ensures { self.new ≡ self.old }
+    {
+        self.open = self.open.saturating_add(1);
+    }
+
+    /// Whether somebody gets a turn in the next round.
+    pub fn has_turns(&self) -> bool {
+        !self.next.is_empty()
+    }
+
+    /// How many links have a port, or had one.
+    pub fn len(&self) -> usize
+        ensures { result ≡ length self.now.all }
+    {
+        self.all.len()
+    }
+
+    /// One more port. An `Err` changes no port.
+    pub fn push(&mut self) -> Result<(), NoMemory>
+        ensures ok { OnOk result (self.new.all ≡ self.old.all ++ Some new_port ∷ []) }
+        ensures err { OnErr result (self.new.all ≡ self.old.all) }
+        ensures turns { self.new.turns ≡ self.old.turns }
+    {
+        let port = Box::new(self.alloc, Port::new(self.alloc))?;
+        self.all.reserve(1)?;
+        self.queued.push(false)?;
+        self.all.push_reserved(Some(port));
+        Ok(())
+    }
+
+    /// The numbers of the next round get their turns in this one.
+    pub fn start_round(&mut self)
+        requires { self.old.turns ≡ [] }
+        ensures all { self.new.all ≡ self.old.all }
+        ensures turns { self.new.turns ≡ self.old.next }
+    {
+        mem::swap(&mut self.turns, &mut self.next);
+    }
+
+    /// Takes the port of this number out.
+    pub fn take(&mut self, number: u64) -> Option<Box<Port>>
+        ensures port { IfSome result (λ port. TakesOut self.old.all number port.value self.new.all) }
+        ensures none { IfNone result (self.new.all ≡ self.old.all) }
+        ensures out { IsOut self.old.all number self.new.all }
+        ensures turns { self.new.turns ≡ self.old.turns }
+        ensures next { self.new.next ≡ self.old.next }
+    {
+        take_out(&mut self.all, number)
+    }
+
+    /// Puts the port back that was taken out, and queues it for the next round if it has work. `false` where there is no
+    /// memory for that: then the port is gone.
+    pub fn put(&mut self, number: u64, port: Box<Port>) -> bool
+        requires { number < length self.old.all }
+        ensures kept { result ≡ true → self.new.all ≡ slice_set self.old.all number (Some port.value) }
+        ensures gone { result ≡ false → self.new.all ≡ self.old.all }
+        ensures turns { self.new.turns ≡ self.old.turns }
+    {
+        let has_work = port.has_work();
+        if !self.queue(number, has_work) {
+            return false;
+        }
+        self.all[number as usize] = Some(port);
+        true
+    }
+
+    /// Queues the number for the next round, if it has work and isn't queued. `false` where there is no memory for that.
+    fn queue(&mut self, number: u64, has_work: bool) -> bool
+        ensures queued { result ≡ true → has_work ≡ true → is_set self.new.queued number ≡ true }
+        ensures all { self.new.all ≡ self.old.all }
+        ensures turns { self.new.turns ≡ self.old.turns }
+    {
+        if !has_work {
+            return true;
+        }
+        let i = number as usize;
+        if i >= self.queued.len() {
+            return false;
+        }
+        if self.queued[i] {
+            return true;
+        }
+        let Ok(()) = self.next.push(number) else {
+            return false;
+        };
+        self.queued[i] = true;
+        true
+    }
+
+    /// Takes out the next port that gets a turn in this round: its number, and the port if the link isn't closed.
+    pub fn next_turn(&mut self) -> Option<(u64, Option<Box<Port>>)>
+        ensures port { IfSome result (λ turn. IfSome turn.1 (λ port. TakesOut self.old.all turn.0 port.value self.new.all)) }
+        ensures closed { IfSome result (λ turn. IfNone turn.1 (self.new.all ≡ self.old.all)) }
+        ensures less { OnSome result (length self.new.turns < length self.old.turns) }
+        ensures none { IfNone result (self.new.all ≡ self.old.all) }
+        ensures over { IfNone result (self.new.turns ≡ []) }
+    {
+        let number = self.turns.pop()?;
+        unqueue(&mut self.queued, number);
+        let port = take_out(&mut self.all, number);
+        Some((number, port))
+    }
+
+    /// The port of this number, which was taken out, is closed.
+    pub fn close(&mut self)
+        ensures { self.new ≡ self.old }
+    {
+        self.open = self.open.saturating_sub(1);
+    }
+}

@@ -1,0 +1,141 @@
+//! The loop.
+
+ghost use Rattle.std.specs.Prelude.{◌≡◌, [], OnOk, IfOk};
+ghost use Rattle.ipc_hub.specs.Hub.{new_hub};
+ghost use Rattle.ipc_loop.specs.Ports.{port_at, open_at, NobodyIsForgotten};
+ghost use Rattle.ipc_loop.specs.Serving.{Serves, NobodyIsOwed};
+
+use crate::accepting::Accepting;
+use crate::links::Host;
+use crate::ports::Ports;
+use crate::serving::Desk;
+use crate::ticking::{make_ticks, next_deadline};
+use crate::turns::{answer_all, give_turns, note_all};
+use ipc_core::{Config, CoreFault};
+use ipc_hub::Hub;
+use std::alloc::Global;
+use std::io;
+use std::marker::Model;
+use std::time::Duration;
+
+/// How many bytes a read asks for.
+const PIECE: usize = 65_536;
+
+/// For how long nobody is accepted where accepting failed, as with too many open files, if nothing happens before.
+const PAUSE_MILLISECONDS: u64 = 100;
+
+/// Serves the connections of a host, in turns, over one hub.
+#[derive(Drop)]
+pub struct Server {
+    hub: Hub,
+    ports: Ports,
+    accepting: Accepting,
+    desk: Desk,
+    /// When the next parked call is due, as it was found last.
+    deadline: Option<u64>,
+}
+
+impl Model for Server {
+    ghost use Rattle.ipc_loop.specs.Server.{Server};
+    ghost use Rattle.ipc_loop.specs.Standing.{IsResting};
+
+    ghost Value = { Server };
+
+    ghost view = { λ s. record { hub = s.hub; ports = s.ports.all; turns = s.ports.next } };
+
+    ghost invariant = { λ s. IsResting s.hub s.ports };
+}
+
+impl Server {
+    /// A server with an empty trail and no connection, whose memory is made: at most so many connections are open at
+    /// once, and after so many accepted ones nobody is accepted any more. Or the first limit that is out of its range, as
+    /// for a hub. An `Err` drops the configuration.
+    pub fn new(
+        alloc: Global,
+        config: Config,
+        connections: usize,
+        stop_after: Option<u64>,
+    ) -> Result<Server, CoreFault>
+        ensures { IfOk result (λ server. server ≡ record { hub = new_hub config; ports = []; turns = [] }) }
+    {
+        let hub = Hub::new(alloc, config)?;
+        let Ok(ports) = Ports::new(alloc, connections) else {
+            return Err(CoreFault::NoMemory);
+        };
+        let Ok(piece) = vec![in alloc; 0u8; PIECE] else {
+            return Err(CoreFault::NoMemory);
+        };
+        Ok(Server {
+            hub,
+            ports,
+            accepting: Accepting {
+                spare: None,
+                most: connections,
+                left: stop_after.unwrap_or(u64::MAX),
+                may_accept: true,
+                is_pausing: false,
+            },
+            desk: Desk {
+                alloc,
+                piece,
+                answers: Vec::new(alloc),
+                unfinished: 0,
+            },
+            deadline: None,
+        })
+    }
+
+    /// Whether all that were to be accepted have been, and all their links are closed.
+    pub fn is_over(&self) -> bool {
+        self.accepting.left == 0 && self.ports.open() == 0
+    }
+
+    /// Each link for which a turn would do something gets one in the next round. Does nothing; a fact of every server.
+    pub fn forgets_nobody(&self)
+        ensures { NobodyIsForgotten self.now.ports self.now.turns }
+    {
+        self.ports.are_queued();
+    }
+
+    /// Waits until something is ready, and then gives each connection that is ready a turn, makes the ticks that are
+    /// due, and writes what was answered to any. An `Err` tells that the host can't wait; nothing was done then.
+    pub fn round<H: Host>(&mut self, host: &mut H) -> io::Result<()>
+        ensures serves { Serves self.old.hub (H.moves host.old) (port_at self.old.ports) self.new.hub (H.moves host.new) (port_at self.new.ports) }
+        ensures rests { OnOk result (NobodyIsOwed self.new.hub (open_at self.new.ports)) }
+    {
+        let alloc = self.desk.alloc;
+        let now = host.moment();
+        self.deadline = next_deadline(&self.hub, self.deadline, now);
+        let pause = self.pause(now);
+        host.wait(pause)?;
+        let is_told = note_all(&self.hub, host, &mut self.ports);
+        self.accepting.may_accept |= is_told;
+        self.accepting
+            .accept_some(&mut self.hub, host, &mut self.ports, alloc);
+        let later = host.moment();
+        make_ticks(&mut self.hub, alloc, later);
+        self.ports.start_round();
+        give_turns(&mut self.hub, host, &mut self.ports, &mut self.desk);
+        answer_all(&mut self.hub, host, &mut self.ports, &mut self.desk);
+        self.desk.trim();
+        Ok(())
+    }
+
+    /// How long to wait at this moment.
+    fn pause(&self, now: u64) -> Option<Duration> {
+        if self.ports.has_turns()
+            || !self.accepting.is_pausing && self.accepting.is_open(&self.ports)
+        {
+            return Some(Duration::ZERO);
+        }
+        let until_due = match self.deadline {
+            Some(moment) => moment.saturating_sub(now),
+            None if self.accepting.is_pausing => PAUSE_MILLISECONDS,
+            None => return None,
+        };
+        if self.accepting.is_pausing {
+            return Some(Duration::from_millis(until_due.min(PAUSE_MILLISECONDS)));
+        }
+        Some(Duration::from_millis(until_due))
+    }
+}

@@ -1,0 +1,164 @@
+//! What the loop does with its ports.
+
+ghost use Rattle.std.specs.Prelude.{◌≡◌, [], ℕ, None, Some, slice_get};
+ghost use Rattle.ipc_hub.specs.Hub.{Hub};
+ghost use Rattle.ipc_loop.specs.Ports.{port_at, open_at, with_port};
+ghost use Rattle.ipc_loop.specs.Standing.{IsSettled};
+ghost use Rattle.ipc_loop.specs.Serving.{Serves, IsAnswered, IsOwedByMark, KeepsMarks, NobodyIsOwed};
+
+use crate::ending::Ending;
+use crate::links::{Host, Ready};
+use crate::port::Port;
+use crate::ports::Ports;
+use crate::serving::{Desk, kept};
+use ipc_hub::Hub;
+
+/// How many bytes of unfinished frames the hub keeps at most.
+const MOST_UNFINISHED: usize = 67_108_864;
+
+/// Puts the port back that was taken out; or closes its link, where nothing else is left to do for it.
+fn settle<H: Host>(hub: &Hub, host: &mut H, ports: &mut Ports, number: u64, port: Box<Port>)
+    requires { slice_get ports.old.all number ≡ Some None }
+    ensures moved { H.moves host.new ≡ H.moves host.old }
+    ensures settled { IsSettled ports.old.all number port.value ports.new.all }
+    ensures turns { ports.new.turns ≡ ports.old.turns }
+{
+    let ending = port.why().unwrap_or(Ending::NoMemory);
+    if port.is_done(hub, number) {
+        ports.close();
+        host.close(number, ending);
+    } else if !ports.put(number, port) {
+        ports.close();
+        host.close(number, ending);
+    }
+}
+
+/// Gives the port that was taken out a turn.
+fn turn<H: Host>(
+    hub: &mut Hub,
+    host: &mut H,
+    ports: &mut Ports,
+    number: u64,
+    mut port: Box<Port>,
+    desk: &mut Desk,
+)
+    requires { slice_get ports.old.all number ≡ Some None }
+    ensures serves { Serves hub.old (H.moves host.old) (with_port (port_at ports.old.all) number (Some port.value)) hub.new (H.moves host.new) (port_at ports.new.all) }
+    ensures marks { KeepsMarks hub.old (with_port (open_at ports.old.all) number (Some port.value)) hub.new (open_at ports.new.all) }
+    ensures turns { ports.new.turns ≡ ports.old.turns }
+{
+    let before = kept(hub, number);
+    port.serve(hub, host, number, desk);
+    desk.weigh(before, kept(hub, number));
+    settle(hub, host, ports, number, port);
+    keep_bound(hub, host, ports, desk);
+}
+
+/// The connection of which the hub keeps most, of so many.
+fn largest(hub: &Hub, count: usize) -> u64 {
+    let (mut number, mut most) = (0, 0);
+    for i in 0..count as u64 {
+        let bytes = kept(hub, i);
+        if bytes > most {
+            (number, most) = (i, bytes);
+        }
+    }
+    number
+}
+
+/// Ends the link with the largest unfinished frame, where all unfinished frames together have too many bytes.
+fn keep_bound<H: Host>(hub: &mut Hub, host: &mut H, ports: &mut Ports, desk: &mut Desk)
+    ensures serves { Serves hub.old (H.moves host.old) (port_at ports.old.all) hub.new (H.moves host.new) (port_at ports.new.all) }
+    ensures marks { KeepsMarks hub.old (open_at ports.old.all) hub.new (open_at ports.new.all) }
+    ensures turns { ports.new.turns ≡ ports.old.turns }
+{
+    if desk.unfinished <= MOST_UNFINISHED {
+        return;
+    }
+    let number = largest(hub, ports.len());
+    if let Some(mut port) = ports.take(number) {
+        let before = kept(hub, number);
+        port.give_up(hub, desk.alloc, number);
+        desk.weigh(before, kept(hub, number));
+        settle(hub, host, ports, number, port);
+    }
+}
+
+/// Gives each that is queued for this round a turn.
+pub fn give_turns<H: Host>(hub: &mut Hub, host: &mut H, ports: &mut Ports, desk: &mut Desk)
+    ensures serves { Serves hub.old (H.moves host.old) (port_at ports.old.all) hub.new (H.moves host.new) (port_at ports.new.all) }
+    ensures marks { KeepsMarks hub.old (open_at ports.old.all) hub.new (open_at ports.new.all) }
+    ensures turns { ports.new.turns ≡ [] }
+{
+    while let Some((number, port)) = ports.next_turn() {
+        if let Some(port) = port {
+            turn(hub, host, ports, number, port, desk);
+        }
+    }
+}
+
+/// Writes what a connection was answered.
+fn answer<H: Host>(hub: &mut Hub, host: &mut H, ports: &mut Ports, number: u64, desk: &mut Desk)
+    ensures serves { Serves hub.old (H.moves host.old) (port_at ports.old.all) hub.new (H.moves host.new) (port_at ports.new.all) }
+    ensures answered { IsAnswered hub.new (open_at ports.new.all) number }
+    ensures marks { KeepsMarks hub.old (open_at ports.old.all) hub.new (open_at ports.new.all) }
+    ensures marked { hub.new.marked ≡ hub.old.marked }
+    ensures turns { ports.new.turns ≡ ports.old.turns }
+{
+    if let Some(mut port) = ports.take(number) {
+        port.send(hub, host, number, desk);
+        settle(hub, host, ports, number, port);
+    }
+}
+
+/// Writes what was answered to anybody since.
+pub fn answer_all<H: Host>(hub: &mut Hub, host: &mut H, ports: &mut Ports, desk: &mut Desk)
+    requires { (i : ℕ) → IsOwedByMark hub.old (open_at ports.old.all) i }
+    ensures serves { Serves hub.old (H.moves host.old) (port_at ports.old.all) hub.new (H.moves host.new) (port_at ports.new.all) }
+    ensures rests { NobodyIsOwed hub.new (open_at ports.new.all) }
+    ensures turns { ports.new.turns ≡ ports.old.turns }
+{
+    while let Some(conn) = hub.next_answered() {
+        answer(hub, host, ports, conn.0, desk);
+    }
+}
+
+/// Notes what became ready of a link.
+fn note<H: Host>(hub: &Hub, host: &mut H, ports: &mut Ports, ready: Ready)
+    ensures serves { Serves hub.now (H.moves host.old) (port_at ports.old.all) hub.now (H.moves host.new) (port_at ports.new.all) }
+    ensures marks { KeepsMarks hub.now (open_at ports.old.all) hub.now (open_at ports.new.all) }
+    ensures turns { ports.new.turns ≡ ports.old.turns }
+{
+    let Ready::Link {
+        number,
+        is_readable,
+        is_writable,
+        has_ended,
+    } = ready
+    else {
+        return;
+    };
+    if let Some(mut port) = ports.take(number) {
+        port.note(is_readable, is_writable, has_ended);
+        settle(hub, host, ports, number, port);
+    }
+}
+
+/// Notes all that is ready. Says whether somebody connects.
+pub fn note_all<H: Host>(hub: &Hub, host: &mut H, ports: &mut Ports) -> bool
+    ensures serves { Serves hub.now (H.moves host.old) (port_at ports.old.all) hub.now (H.moves host.new) (port_at ports.new.all) }
+    ensures marks { KeepsMarks hub.now (open_at ports.old.all) hub.now (open_at ports.new.all) }
+    ensures turns { ports.new.turns ≡ ports.old.turns }
+{
+    let mut is_told = false;
+    for _ in 0..u64::MAX {
+        let Some(ready) = host.next_ready() else {
+            return is_told;
+        };
+        if let Ready::Listener = ready {
+            is_told = true;
+        }
+        note(hub, host, ports, ready);
+    }
+    is_told
+}
