@@ -1,0 +1,129 @@
+//! Sockets by their numbers, and what waits for them.
+
+use crate::clock::moment;
+use crate::files::{listen_at_file, path_of};
+use crate::streams::{Listener, Stream};
+use ipc_loop::{Ending, Host, Ready};
+use mio::event::Event;
+use mio::net::UnixListener;
+use mio::{Events, Poll, Token};
+use std::alloc::Global;
+use std::io;
+use std::io::ErrorKind;
+use std::net::Net;
+use std::rt::Files;
+use std::time::{Clock, Duration};
+
+/// How many sources one wait tells of at most.
+const MOST_EVENTS: usize = 1_024;
+
+/// No connection has this number.
+const LISTENER: Token = Token(usize::MAX);
+
+/// A listener, the connections that it accepted, and the system's clock. What a socket carried isn't known to contracts.
+#[derive(Drop)]
+pub struct Sockets<'a, R> {
+    rt: &'a R,
+    poll: Poll,
+    listener: Listener,
+    /// By their numbers, of which none is used twice.
+    links: Vec<Option<Stream>>,
+    events: Events,
+    /// How many of the events were told.
+    told: usize,
+}
+
+impl<'a, R: Files + Net> Sockets<'a, R> {
+    /// Listens at `HOST:PORT`, the first that can be bound, or at `unix:PATH`, a file which gets these permission bits (see
+    /// `listen_at_file`). No connection can be lost for want of room in the kernel's queue before the system's own limit.
+    pub fn bind(rt: &'a R, alloc: Global, address: &str, mode: u32) -> io::Result<Self> {
+        let events = Events::with_capacity(alloc, MOST_EVENTS)?;
+        let poll = Poll::new(rt)?;
+        let mut listener = match path_of(address) {
+            Some(path) => at_file(rt, path, mode)?,
+            None => Listener::over_tcp(rt, address)?,
+        };
+        listener.register(poll.registry(), LISTENER)?;
+        Ok(Sockets {
+            rt,
+            poll,
+            listener,
+            links: Vec::new(alloc),
+            events,
+            told: 0,
+        })
+    }
+}
+
+fn at_file<R: Files + Net>(rt: &R, path: &str, mode: u32) -> io::Result<Listener> {
+    let listener = listen_at_file(rt, path, mode)?;
+    listener.set_nonblocking(true)?;
+    Ok(Listener::Unix(UnixListener::from_std(listener)))
+}
+
+impl<R> Sockets<'_, R> {
+    fn link(&mut self, number: u64) -> io::Result<&mut Stream> {
+        match self.links.get_mut(number as usize) {
+            Some(Some(link)) => Ok(link),
+            _ => Err(io::Error::from(ErrorKind::NotFound)),
+        }
+    }
+}
+
+impl<R: Clock> Host for Sockets<'_, R> {
+    fn accept(&mut self, number: u64) -> io::Result<()> {
+        // The room is made first, so that nobody is dropped for want of it.
+        for _ in self.links.len()..=number as usize {
+            self.links.push(None)?;
+        }
+        let mut link = self.listener.accept()?;
+        link.register(self.poll.registry(), Token(number as usize))?;
+        if let Some(place) = self.links.get_mut(number as usize) {
+            *place = Some(link);
+        }
+        Ok(())
+    }
+
+    fn read(&mut self, number: u64, buffer: &mut [u8]) -> io::Result<usize> {
+        self.link(number)?.read(buffer)
+    }
+
+    fn write(&mut self, number: u64, bytes: &[u8]) -> io::Result<usize> {
+        self.link(number)?.write(bytes)
+    }
+
+    fn close(&mut self, number: u64, _ending: Ending) {
+        if let Some(place) = self.links.get_mut(number as usize) {
+            *place = None;
+        }
+    }
+
+    fn wait(&mut self, pause: Option<Duration>) -> io::Result<()> {
+        self.told = 0;
+        self.poll.poll(&mut self.events, pause)
+    }
+
+    fn next_ready(&mut self) -> Option<Ready> {
+        let event = *self.events.iter().nth(self.told)?;
+        self.told = self.told.saturating_add(1);
+        Some(ready(&event))
+    }
+
+    fn moment(&mut self) -> u64 {
+        moment(self.rt)
+    }
+}
+
+/// An error, and an end of what can be written, come as something to read too: the read says why.
+fn ready(event: &Event) -> Ready {
+    if event.token() == LISTENER {
+        return Ready::Listener;
+    }
+    let has_failed = event.is_error() || event.is_write_closed();
+    Ready::Link {
+        number: event.token().0 as u64,
+        is_readable: event.is_readable() || event.is_read_closed() || has_failed,
+        is_writable: event.is_writable() || has_failed,
+        has_ended: event.is_read_closed() || has_failed,
+    }
+}
