@@ -1,3 +1,4 @@
+pub mod Addresses
 pub mod Options
 pub mod Servers
 pub mod Tasks

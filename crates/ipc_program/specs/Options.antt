@@ -1,14 +1,14 @@
 -- The program's arguments in clap's terms.
-use Rattle.std.specs.Prelude.{◌≡◌, true, false, List, [], ◌∷◌, codes}
+use Rattle.std.specs.Prelude.{◌≡◌, true, false, List, [], ◌∷◌, ◌++◌, codes}
 use Rattle.clap.specs.Simple.{App, Shape, app_of, new_shape, with_rule, with_subcommand}
 use Rattle.clap.specs.Walk.{Rule, Text}
 use Rattle.clap.specs.declared.builder.command.Command.{Command}
 use Rattle.clap.specs.declared.builder.command.Command.TheViews.{out-Command}
-use Rattle.ipc_words.specs.Grammar.{required, valued}
+use Rattle.ipc_words.specs.Grammar.{flag, required, valued}
 
--- `--NAME N`
-abbrev pub number_option : Text → Rule
-number_option name = record (valued name) { value_names = 1 }
+-- `--NAME VALUE`
+abbrev pub value_option : Text → Rule
+value_option name = record (valued name) { value_names = 1 }
 
 -- a word that must be given
 abbrev pub place : Text → Rule
@@ -16,27 +16,31 @@ place name = record (required name) { value_names = 1 }
 
 -- `[--msg-max N] [--msgsize-max N] [--queues-max N]`
 abbrev pub limit_options : List Rule
-limit_options = number_option (codes "msg-max") ∷ number_option (codes "msgsize-max") ∷ number_option (codes "queues-max") ∷ []
+limit_options = value_option (codes "msg-max") ∷ value_option (codes "msgsize-max") ∷ value_option (codes "queues-max") ∷ []
 
--- the command with these options behind its other arguments
-abbrev pub with_limits : App → App
-with_limits app =
-    with_rule (with_rule (with_rule app (number_option (codes "msg-max"))) (number_option (codes "msgsize-max"))) (number_option (codes "queues-max"))
+-- `[--one-thread] [--connections N] [--workers N] [--stop-after N] [--socket-mode OCTAL]`
+abbrev pub server_options : List Rule
+server_options = flag (codes "one-thread") ∷ value_option (codes "connections") ∷ value_option (codes "workers") ∷ value_option (codes "stop-after") ∷ value_option (codes "socket-mode") ∷ []
 
 -- `script`, with the limits
 abbrev pub script_shape : Shape
 script_shape = record (new_shape (codes "script")) { rules = limit_options }
 
--- `serve USERS ADDRESS [--workers N] [--stop-after N]`, with the limits
+-- `serve USERS ADDRESS`, with the server's options and the limits
 abbrev pub serve_shape : Shape
 serve_shape = record (new_shape (codes "serve")) {
-  rules = place (codes "users") ∷ place (codes "address") ∷ number_option (codes "workers") ∷ number_option (codes "stop-after") ∷ limit_options;
+  rules = place (codes "users") ∷ place (codes "address") ∷ server_options ++ limit_options;
 }
 
 -- `mqserve`, with these subcommands
 abbrev pub app_of_program : App
 app_of_program =
     with_subcommand (with_subcommand (record { top = record (new_shape (codes "mqserve")) { has_version = true }; subs = [] }) script_shape) serve_shape
+
+-- the command with these behind its other arguments
+abbrev pub with_rules : List Rule → App → App
+with_rules [] app = app
+with_rules (rule ∷ rules) app = with_rules rules (with_rule app rule)
 
 -- ---- commands of the program
 
@@ -48,6 +52,6 @@ HasNoGlobals command = (out-Command command).has_globals ≡ false
 abbrev pub IsSubcommand : Shape → Command → Type 0
 IsSubcommand shape command = (app_of command ≡ record { top = shape; subs = [] }) × HasNoGlobals command
 
--- `new` is `old` with the three limits behind its other arguments
-abbrev pub AddsLimits : Command → Command → Type 0
-AddsLimits old new = (app_of new ≡ with_limits (app_of old)) × (HasNoGlobals old → HasNoGlobals new)
+-- `new` is `old` with these arguments behind its own, none of them global
+abbrev pub Adds : List Rule → Command → Command → Type 0
+Adds rules old new = (app_of new ≡ with_rules rules (app_of old)) × (HasNoGlobals old → HasNoGlobals new)

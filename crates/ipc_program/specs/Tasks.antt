@@ -1,5 +1,5 @@
 -- The task that the program's words ask for.
-use Rattle.std.specs.Prelude.{◌-◌, ◌^◌, ◌&&◌, ℕ, nat_le, List, Option, Ok, Err, codes, unwrap_or, if◌then◌else◌}
+use Rattle.std.specs.Prelude.{◌-◌, ◌^◌, ◌&&◌, ℕ, Bool, nat_le, not, List, Option, Ok, Err, codes, is_some, unwrap_or, if◌then◌else◌}
 use Rattle.std.specs.Option.{option_map_or}
 use Rattle.std.specs.Str.{bytes_eq}
 use Rattle.clap.specs.Simple.{subcommand_of}
@@ -7,9 +7,12 @@ use Rattle.clap.specs.Walk.{Row, Text, first_of}
 use Rattle.ipc_policy.specs.declared.config.Limits.{Limits}
 use Rattle.ipc_policy.specs.declared.config.TheConstants.Limits.{STANDARD}
 use Rattle.ipc_words.specs.Numbers.{decimal_within}
-use Rattle.ipc_words.specs.Readings.{Meaning, ◌>>=◌, of_argument, option_at}
+use Rattle.ipc_words.specs.Readings.{Meaning, ◌>>=◌, is_given, of_argument, option_at}
+use Rattle.ipc_program.specs.Addresses.{is_unix, mode_of_word}
 use Rattle.ipc_program.specs.Options.{app_of_program}
 use Rattle.ipc_program.specs.Servers.{Serving}
+use Rattle.ipc_program.specs.declared.tasks.Server.{Server}
+use Rattle.ipc_program.specs.declared.tasks.Server.TheVariants.{OneThread, Threads}
 use Rattle.ipc_program.specs.declared.tasks.Task.{Task}
 use Rattle.ipc_program.specs.declared.tasks.Task.TheVariants.{Script, Serve}
 
@@ -37,15 +40,41 @@ within_range workers = if nat_le 1 workers && nat_le workers 64 then Ok workers 
 abbrev pub workers_given : List Row → Meaning ℕ
 workers_given rows = limit_at 4 (codes "workers") rows >>= within_range
 
+-- room for one connection or more
+abbrev pub with_room : ℕ → Meaning ℕ
+with_room connections = if nat_le 1 connections then Ok connections else Err (codes "connections")
+
+-- how many connections one thread serves, and where it isn't told 10,000
+abbrev pub connections_given : List Row → Meaning ℕ
+connections_given rows = limit_at 10000 (codes "connections") rows >>= with_room
+
+-- an option is given
+abbrev pub has : Text → List Row → Bool
+has option rows = is_some (first_of option rows)
+
+-- what serves: one thread without workers, or workers without a number of connections
+abbrev pub server_given : List Row → Meaning Server
+server_given rows =
+    if is_given (codes "one-thread") rows
+    then (if has (codes "workers") rows then Err (codes "one-thread") else connections_given rows >>= λ connections. Ok (OneThread connections))
+    else (if has (codes "connections") rows then Err (codes "connections") else workers_given rows >>= λ workers. Ok (Threads workers))
+
+-- the permission bits of a socket's file, which stand at no other address, and where none are given 0600
+abbrev pub socket_mode_given : Text → List Row → Meaning ℕ
+socket_mode_given address rows =
+    option_at mode_of_word (codes "socket-mode") rows >>= λ given.
+    if is_some given && not (is_unix address) then Err (codes "socket-mode") else Ok (unwrap_or given 384)
+
 -- what the words of `serve` tell the server
 abbrev pub serving_given : List Row → Meaning Serving
 serving_given rows =
     word_at (codes "users") rows >>= λ users.
     word_at (codes "address") rows >>= λ address.
-    workers_given rows >>= λ workers.
+    server_given rows >>= λ server.
     option_at (decimal_within (2 ^ 64 - 1)) (codes "stop-after") rows >>= λ stop_after.
+    socket_mode_given address rows >>= λ socket_mode.
     limits_given rows >>= λ limits.
-    Ok (record { users = users; address = address; workers = workers; stop_after = stop_after; limits = limits })
+    Ok (record { users = users; address = address; socket_mode = socket_mode; server = server; stop_after = stop_after; limits = limits })
 
 -- the task of a subcommand by its name and what stands behind it
 abbrev pub task_of : Text × List Row → Meaning Task

@@ -4,12 +4,15 @@ ghost use Rattle.std.specs.Prelude.{◌≡◌, ◌≤◌, IfOk, false, map};
 ghost use Rattle.clap.specs.Simple.{app_of, subcommand_rows_of};
 ghost use Rattle.clap.specs.Walk.{rule_of, rows_of};
 ghost use Rattle.clap.specs.Words.{found_of};
-ghost use Rattle.ipc_words.specs.Readings.{Reads};
-ghost use Rattle.ipc_program.specs.Options.{AddsLimits, IsSubcommand, app_of_program, number_option, place, script_shape, serve_shape};
-ghost use Rattle.ipc_program.specs.Tasks.{limits_given, serving_given, task_asked, task_given, task_of, workers_given};
+ghost use Rattle.ipc_words.specs.Grammar.{flag};
+ghost use Rattle.ipc_words.specs.Readings.{Reads, is_given};
+ghost use Rattle.ipc_program.specs.Options.{Adds, IsSubcommand, app_of_program, limit_options, place, script_shape, serve_shape, server_options, value_option};
+ghost use Rattle.ipc_program.specs.Servers.{IsWithin};
+ghost use Rattle.ipc_program.specs.Tasks.{connections_given, has, limits_given, server_given, serving_given, socket_mode_given, task_asked, task_given, task_of, workers_given};
 
+use crate::addresses::{is_unix, read_mode};
 use crate::fault::ProgramFault;
-use crate::tasks::{Serving, Task};
+use crate::tasks::{Server, Serving, Task};
 use clap::error::ErrorKind;
 use clap::{Arg, ArgAction, ArgMatches, Command};
 use ipc_core::Limits;
@@ -20,16 +23,23 @@ use std::convert::AsStr;
 
 const USAGE: &str = "\
 mqserve [script [--msg-max <N>] [--msgsize-max <N>] [--queues-max <N>]]
-       mqserve serve <USERS> <ADDRESS> [--workers <N>] [--stop-after <N>]
+       mqserve serve <USERS> <ADDRESS> [--one-thread [--connections <N>] | --workers <N>]
+                     [--stop-after <N>] [--socket-mode <OCTAL>]
                      [--msg-max <N>] [--msgsize-max <N>] [--queues-max <N>]";
 
 const USERS_HELP: &str = "The user file";
 
-const ADDRESS_HELP: &str = "Where to listen, as 127.0.0.1:7000";
+const ADDRESS_HELP: &str = "Where to listen, as 127.0.0.1:7000 or unix:/run/mqserve/socket";
+
+const ONE_THREAD_HELP: &str = "Serve all connections on one thread, without workers";
+
+const CONNECTIONS_HELP: &str = "With --one-thread: connections at a time [default: 10000]";
 
 const WORKERS_HELP: &str = "Connections that are served side by side, 1 to 64 [default: 4]";
 
 const STOP_AFTER_HELP: &str = "End after so many connections [default: never]";
+
+const SOCKET_MODE_HELP: &str = "Permission bits of the file of unix:PATH [default: 0600]";
 
 const MSG_MAX_HELP: &str = "Messages that a queue may have, 1 to 65536 [default: 10]";
 
@@ -42,16 +52,24 @@ const STANDARD_WORKERS: u32 = 4;
 
 const MOST_WORKERS: u32 = 64;
 
+/// How many connections one thread serves that isn't told how many.
+const STANDARD_CONNECTIONS: u32 = 10_000;
+
+/// The permission bits of a socket's file: its owner alone may connect.
+const STANDARD_MODE: u32 = 0o600;
+
 /// The task that the program's words ask for, of which the first is its name: `mqserve` alone, `mqserve script`, or
-/// `mqserve serve USERS ADDRESS [--workers N] [--stop-after N]`; behind the last two the limits,
-/// `[--msg-max N] [--msgsize-max N] [--queues-max N]`. A limit that isn't given is the standard one, and none is tested
-/// against its range. `help` stands at the end of the help text.
+/// `mqserve serve USERS ADDRESS`, with `--one-thread [--connections N]` or `[--workers N]`, and with `[--stop-after N]
+/// [--socket-mode OCTAL]`; behind the last two the limits, `[--msg-max N] [--msgsize-max N] [--queues-max N]`. A limit that
+/// isn't given is the standard one, and none is tested against its range. `help` stands at the end of the help text.
 ///
 /// # Errors
 ///
 /// `Arguments` where the words are anything else, an N isn't decimal without sign and leading zeros, at most
-/// 4,294,967,295, or of `--stop-after` 18,446,744,073,709,551,615, or that of `--workers` isn't 1 to 64; and where they
-/// ask for help or the version.
+/// 4,294,967,295, or of `--stop-after` 18,446,744,073,709,551,615, that of `--workers` isn't 1 to 64, that of
+/// `--connections` is 0, or OCTAL isn't a zero and three octal digits; where `--workers` stands beside `--one-thread`,
+/// `--connections` without it, or `--socket-mode` at an address that isn't `unix:PATH`; and where they ask for help or the
+/// version.
 pub fn task_of_words<'a, S: AsStr>(
     alloc: Global,
     help: &'a str,
@@ -88,6 +106,11 @@ fn task_read<'a, S: AsStr>(
 fn what_is_wanted(fault: WordFault) -> &'static str {
     match fault {
         WordFault::BadValue("workers") => "N is 1 to 64, decimal, without sign and leading zeros",
+        WordFault::BadValue("one-thread") => "it has no workers",
+        WordFault::BadValue("connections") =>
+            "N is 1 to 4294967295, decimal, without sign and leading zeros, and stands with --one-thread",
+        WordFault::BadValue("socket-mode") =>
+            "OCTAL is a zero and three octal digits, and ADDRESS is unix:PATH",
         WordFault::BadValue("stop-after") =>
             "N is decimal, without sign and leading zeros, at most 18446744073709551615",
         _ => "N is decimal, without sign and leading zeros, at most 4294967295",
@@ -121,23 +144,35 @@ fn serve<'a>(alloc: Global, help: &'a str) -> Result<Command<'a>, AllocError>
     ensures { IfOk result (λ command. IsSubcommand serve_shape command) }
 {
     let serve = Command::new(alloc, "serve")
-        .about("Serve connections over TCP")
+        .about("Serve connections over TCP or a Unix socket")
         .after_help(help)
         .arg(place(alloc, "users", "USERS", USERS_HELP))?
-        .arg(place(alloc, "address", "ADDRESS", ADDRESS_HELP))?
-        .arg(number(alloc, "workers", WORKERS_HELP))?
-        .arg(number(alloc, "stop-after", STOP_AFTER_HELP))?;
+        .arg(place(alloc, "address", "ADDRESS", ADDRESS_HELP))?;
+    let serve = with_server_options(alloc, serve)?;
     with_limits(alloc, serve)
+}
+
+/// Adds the options of a server.
+fn with_server_options<'a>(alloc: Global, command: Command<'a>) -> Result<Command<'a>, AllocError>
+    ensures { IfOk result (λ added. Adds server_options command.entry added) }
+{
+    let command = command
+        .arg(flag(alloc, "one-thread", ONE_THREAD_HELP))?
+        .arg(value(alloc, "connections", "N", CONNECTIONS_HELP))?
+        .arg(value(alloc, "workers", "N", WORKERS_HELP))?
+        .arg(value(alloc, "stop-after", "N", STOP_AFTER_HELP))?
+        .arg(value(alloc, "socket-mode", "OCTAL", SOCKET_MODE_HELP))?;
+    Ok(command)
 }
 
 /// Adds the options for the limits.
 fn with_limits<'a>(alloc: Global, command: Command<'a>) -> Result<Command<'a>, AllocError>
-    ensures { IfOk result (λ added. AddsLimits command.entry added) }
+    ensures { IfOk result (λ added. Adds limit_options command.entry added) }
 {
     let command = command
-        .arg(number(alloc, "msg-max", MSG_MAX_HELP))?
-        .arg(number(alloc, "msgsize-max", MSGSIZE_MAX_HELP))?
-        .arg(number(alloc, "queues-max", QUEUES_MAX_HELP))?;
+        .arg(value(alloc, "msg-max", "N", MSG_MAX_HELP))?
+        .arg(value(alloc, "msgsize-max", "N", MSGSIZE_MAX_HELP))?
+        .arg(value(alloc, "queues-max", "N", QUEUES_MAX_HELP))?;
     Ok(command)
 }
 
@@ -153,15 +188,26 @@ fn place<'a>(alloc: Global, name: &'a str, value_name: &'a str, help: &'a str) -
         .help(help)
 }
 
-/// `--NAME N`
-fn number<'a>(alloc: Global, name: &'a str, help: &'a str) -> Arg<'a>
-    ensures rule { rule_of result ≡ number_option name.entry.now }
+/// `--NAME VALUE`
+fn value<'a>(alloc: Global, name: &'a str, value_name: &'a str, help: &'a str) -> Arg<'a>
+    ensures rule { rule_of result ≡ value_option name.entry.now }
     ensures local { result.global ≡ false }
 {
     Arg::new(alloc, name)
         .long(name)
         .action(ArgAction::Set)
-        .value_name("N")
+        .value_name(value_name)
+        .help(help)
+}
+
+/// `--NAME`
+fn flag<'a>(alloc: Global, name: &'a str, help: &'a str) -> Arg<'a>
+    ensures rule { rule_of result ≡ flag name.entry.now }
+    ensures local { result.global ≡ false }
+{
+    Arg::new(alloc, name)
+        .long(name)
+        .action(ArgAction::SetTrue)
         .help(help)
 }
 
@@ -195,16 +241,75 @@ fn serving_of(alloc: Global, options: &ArgMatches) -> Result<Serving, WordFault>
     let Some(address) = optional_word(options, "address") else {
         return Err(WordFault::BadValue("address"));
     };
-    let workers = workers_of(options)?;
+    let server = server_of(options)?;
     let stop_after = optional_number(options, "stop-after")?;
+    let socket_mode = socket_mode_of(options, address)?;
     let limits = limits_of(options)?;
     Ok(Serving {
         users: String::from_str(alloc, users)?,
         address: String::from_str(alloc, address)?,
-        workers,
+        socket_mode,
+        server,
         stop_after,
         limits,
     })
+}
+
+/// One thread, where its flag is given, and else workers. An option of the other is refused.
+fn server_of(options: &ArgMatches) -> Result<Server, WordFault>
+    ensures reads { Reads (server_given (rows_of (found_of options.now))) result }
+    ensures in_range { IfOk result IsWithin }
+{
+    if is_flag_given(options, "one-thread") {
+        if is_option_given(options, "workers") {
+            return Err(WordFault::BadValue("one-thread"));
+        }
+        return Ok(Server::OneThread(connections_of(options)?));
+    }
+    if is_option_given(options, "connections") {
+        return Err(WordFault::BadValue("connections"));
+    }
+    Ok(Server::Threads(workers_of(options)?))
+}
+
+/// Whether a flag was given. Its value is the text `true` or `false`.
+fn is_flag_given(options: &ArgMatches, name: &str) -> bool
+    ensures { result ≡ is_given name.now (rows_of (found_of options.now)) }
+{
+    match optional_word(options, name) {
+        Some(word) => word == "true",
+        None => false,
+    }
+}
+
+fn is_option_given(options: &ArgMatches, name: &str) -> bool
+    ensures { result ≡ has name.now (rows_of (found_of options.now)) }
+{
+    optional_word(options, name).is_some()
+}
+
+fn connections_of(options: &ArgMatches) -> Result<usize, WordFault>
+    ensures reads { Reads (connections_given (rows_of (found_of options.now))) result }
+    ensures in_range { IfOk result (λ connections. 1 ≤ connections) }
+{
+    let connections = optional_count(options, "connections")?.unwrap_or(STANDARD_CONNECTIONS);
+    if connections < 1 {
+        return Err(WordFault::BadValue("connections"));
+    }
+    Ok(connections as usize)
+}
+
+/// The permission bits of the file that the server listens at. They may be given where its address is such a file.
+fn socket_mode_of(options: &ArgMatches, address: &str) -> Result<u32, WordFault>
+    ensures { Reads (socket_mode_given address.now (rows_of (found_of options.now))) result }
+{
+    let Some(word) = optional_word(options, "socket-mode") else {
+        return Ok(STANDARD_MODE);
+    };
+    match read_mode(word) {
+        Some(mode) if is_unix(address) => Ok(mode),
+        _ => Err(WordFault::BadValue("socket-mode")),
+    }
 }
 
 fn workers_of(options: &ArgMatches) -> Result<usize, WordFault>

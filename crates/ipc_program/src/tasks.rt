@@ -12,27 +12,37 @@ pub enum Task {
     Serve(Serving),
 }
 
-/// Whom a server serves, and where.
+/// Whom a server serves, where, and how.
 #[derive(Drop)]
 pub struct Serving {
     /// The path of the user file.
     pub users: String,
-    /// Where it listens, as `127.0.0.1:7000`.
+    /// Where it listens, as `127.0.0.1:7000`, or behind `unix:` the path of a socket's file.
     pub address: String,
-    /// How many connections are served side by side, 1 to 64.
-    pub workers: usize,
+    /// The permission bits of that file.
+    pub socket_mode: u32,
+    pub server: Server,
     /// After how many connections it ends.
     pub stop_after: Option<u64>,
     pub limits: Limits,
 }
 
+/// What serves connections.
+#[derive(Clone, Copy, PartialEq, Eq, Drop)]
+pub enum Server {
+    /// So many workers, 1 to 64, of which each serves one connection at a time.
+    Threads(usize),
+    /// One thread, which serves so many connections at most at a time, 1 or more.
+    OneThread(usize),
+}
+
 impl Model for Serving {
-    ghost use Rattle.std.specs.Prelude.{◌≤◌, string_bytes};
-    ghost use Rattle.ipc_program.specs.Servers.{Serving};
+    ghost use Rattle.std.specs.Prelude.{string_bytes};
+    ghost use Rattle.ipc_program.specs.Servers.{IsWithin, Serving};
 
     ghost Value = { Serving };
 
-    ghost view = { λ s. record { users = string_bytes s.users; address = string_bytes s.address; workers = s.workers; stop_after = s.stop_after; limits = s.limits } };
+    ghost view = { λ s. record { users = string_bytes s.users; address = string_bytes s.address; socket_mode = s.socket_mode; server = s.server; stop_after = s.stop_after; limits = s.limits } };
 
-    ghost invariant = { λ s. (1 ≤ s.workers) × (s.workers ≤ 64) };
+    ghost invariant = { λ s. IsWithin s.server };
 }

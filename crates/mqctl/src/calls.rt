@@ -2,10 +2,10 @@
 
 ghost use Rattle.std.specs.Prelude.{◌≤◌, length};
 
+use crate::connection::{connect_over_tcp, connect_to_file};
 use ipc_client::{ClientFault, LONGEST_KEY, ProgramFault, client_session};
 use std::alloc::{AllocError, Global};
-use std::io::ErrorKind;
-use std::net::TcpStream;
+use std::io::{Read, Write};
 
 /// Speaks to the server at the address: the command that these words are, or each line of standard input.
 pub fn talk(
@@ -21,7 +21,7 @@ pub fn talk(
     Ok(talk_as(rt, address, key.as_bytes(), command)?)
 }
 
-/// Speaks as the user with this key.
+/// Speaks as the user with this key, to `HOST:PORT` or `unix:PATH`.
 fn talk_as(
     rt: &HostRuntime,
     address: &str,
@@ -30,25 +30,30 @@ fn talk_as(
 ) -> Result<bool, ClientFault>
     requires short_key { length key.now ≤ 65535 }
 {
-    let stream = connect(rt, address)?;
+    if let Some(path) = address.strip_prefix("unix:") {
+        let stream = connect_to_file(rt, path)?;
+        return talk_over(rt, &stream, &stream, key, command);
+    }
+    let stream = connect_over_tcp(rt, address)?;
+    talk_over(rt, &stream, &stream, key, command)
+}
+
+/// Speaks over the two ends of a connection.
+fn talk_over<R: Read + Drop, W: Write + Drop>(
+    rt: &HostRuntime,
+    reader: R,
+    writer: W,
+    key: &[u8],
+    command: &[String],
+) -> Result<bool, ClientFault>
+    requires short_key { length key.now ≤ 65535 }
+{
     if command.is_empty() {
-        return client_session(rt.alloc(), key, &stream, &stream, rt.stdin(), rt.stdout());
+        return client_session(rt.alloc(), key, reader, writer, rt.stdin(), rt.stdout());
     }
     let line = line_of(rt.alloc(), command)?;
     let commands = line.as_str().as_bytes();
-    client_session(rt.alloc(), key, &stream, &stream, commands, rt.stdout())
-}
-
-fn connect(rt: &HostRuntime, address: &str) -> Result<TcpStream, ClientFault> {
-    match TcpStream::connect(rt, address) {
-        Ok(stream) => {
-            // Each request is waited for, so it is sent at once. A connection that is gone shows when it is used.
-            let _ = stream.set_nodelay(true);
-            Ok(stream)
-        }
-        Err(error) if error.kind() == ErrorKind::OutOfMemory => Err(ClientFault::Memory),
-        Err(_) => Err(ClientFault::Net),
-    }
+    client_session(rt.alloc(), key, reader, writer, commands, rt.stdout())
 }
 
 /// The words as one line, parted by single spaces.

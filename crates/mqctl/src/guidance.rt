@@ -13,14 +13,15 @@ const USAGE: &str = "\
 Speaks to mqserve.
 
 Usage:
-  mqctl ADDRESS KEY COMMAND   sends one command to the server at HOST:PORT, as the user with this key
+  mqctl ADDRESS KEY COMMAND   sends one command to the server at HOST:PORT or unix:PATH, as the user with this key
   mqctl ADDRESS KEY           sends each line of standard input
   mqctl                       prints the frame of each line of standard input, in hexadecimal
   mqctl --help                prints this
 
 An answer is a line. Those of a command end with the first that is neither a notice nor `taken`.
 
-Each worker of the server serves one connection at a time. There are 4 by default, so a fifth client waits.
+Without --one-thread each worker of the server serves one connection at a time. There are 4 by default, so a fifth
+client waits.
 
 Commands:";
 

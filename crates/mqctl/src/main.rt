@@ -4,6 +4,7 @@
 #![tactic(auto)]
 
 mod calls;
+mod connection;
 mod guidance;
 
 use calls::talk;
