@@ -5,6 +5,7 @@ ghost use Rattle.std.specs.Io.{ReadsAtMost, WritesAtMost};
 use std::io;
 use std::io::{Read, Write};
 use std::net::{TcpListener, TcpStream};
+use std::os::unix::net::{UnixListener, UnixStream};
 
 /// A connection whose two ends are used by two threads at once.
 pub trait Link {
@@ -45,6 +46,27 @@ impl Listen for TcpListener {
         let (stream, _) = TcpListener::accept(self)?;
         // It fails where the peer is gone, which the first read tells.
         let _ = stream.set_nodelay(true);
+        Ok(stream)
+    }
+}
+
+impl Link for UnixStream {
+    fn read(&self, buffer: &mut [u8]) -> io::Result<usize> {
+        let mut stream = self;
+        Read::read(&mut stream, buffer)
+    }
+
+    fn write(&self, bytes: &[u8]) -> io::Result<usize> {
+        let mut stream = self;
+        Write::write(&mut stream, bytes)
+    }
+}
+
+impl Listen for UnixListener {
+    type Conn = UnixStream;
+
+    fn accept(&self) -> io::Result<UnixStream> {
+        let (stream, _) = UnixListener::accept(self)?;
         Ok(stream)
     }
 }
