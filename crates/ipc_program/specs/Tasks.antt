@@ -11,8 +11,8 @@ use Rattle.ipc_words.specs.Readings.{Meaning, ◌>>=◌, is_given, of_argument, 
 use Rattle.ipc_program.specs.Addresses.{is_unix, mode_of_word}
 use Rattle.ipc_program.specs.Options.{app_of_program}
 use Rattle.ipc_program.specs.Servers.{Serving}
-use Rattle.ipc_program.specs.declared.tasks.Server.{Server}
-use Rattle.ipc_program.specs.declared.tasks.Server.TheVariants.{OneThread, Threads}
+use Rattle.ipc_program.specs.declared.tasks.Threading.{Threading}
+use Rattle.ipc_program.specs.declared.tasks.Threading.TheVariants.{OneThread, Workers}
 use Rattle.ipc_program.specs.declared.tasks.Task.{Task}
 use Rattle.ipc_program.specs.declared.tasks.Task.TheVariants.{Script, Serve}
 
@@ -52,12 +52,12 @@ connections_given rows = limit_at 10000 (codes "connections") rows >>= with_room
 abbrev pub has : Text → List Row → Bool
 has option rows = is_some (first_of option rows)
 
--- what serves: one thread without workers, or workers without a number of connections
-abbrev pub server_given : List Row → Meaning Server
-server_given rows =
+-- one thread without workers, or workers without a number of connections
+abbrev pub threading_given : List Row → Meaning Threading
+threading_given rows =
     if is_given (codes "one-thread") rows
     then (if has (codes "workers") rows then Err (codes "one-thread") else connections_given rows >>= λ connections. Ok (OneThread connections))
-    else (if has (codes "connections") rows then Err (codes "connections") else workers_given rows >>= λ workers. Ok (Threads workers))
+    else (if has (codes "connections") rows then Err (codes "connections") else workers_given rows >>= λ workers. Ok (Workers workers))
 
 -- the permission bits of a socket's file, which stand at no other address, and where none are given 0600
 abbrev pub socket_mode_given : Text → List Row → Meaning ℕ
@@ -70,11 +70,11 @@ abbrev pub serving_given : List Row → Meaning Serving
 serving_given rows =
     word_at (codes "users") rows >>= λ users.
     word_at (codes "address") rows >>= λ address.
-    server_given rows >>= λ server.
+    threading_given rows >>= λ threading.
     option_at (decimal_within (2 ^ 64 - 1)) (codes "stop-after") rows >>= λ stop_after.
     socket_mode_given address rows >>= λ socket_mode.
     limits_given rows >>= λ limits.
-    Ok (record { users = users; address = address; socket_mode = socket_mode; server = server; stop_after = stop_after; limits = limits })
+    Ok (record { users = users; address = address; socket_mode = socket_mode; threading = threading; stop_after = stop_after; limits = limits })
 
 -- the task of a subcommand by its name and what stands behind it
 abbrev pub task_of : Text × List Row → Meaning Task

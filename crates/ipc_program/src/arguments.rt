@@ -8,11 +8,11 @@ ghost use Rattle.ipc_words.specs.Grammar.{flag};
 ghost use Rattle.ipc_words.specs.Readings.{Reads, is_given};
 ghost use Rattle.ipc_program.specs.Options.{Adds, IsSubcommand, app_of_program, limit_options, place, script_shape, serve_shape, server_options, value_option};
 ghost use Rattle.ipc_program.specs.Servers.{IsWithin};
-ghost use Rattle.ipc_program.specs.Tasks.{connections_given, has, limits_given, server_given, serving_given, socket_mode_given, task_asked, task_given, task_of, workers_given};
+ghost use Rattle.ipc_program.specs.Tasks.{connections_given, has, limits_given, threading_given, serving_given, socket_mode_given, task_asked, task_given, task_of, workers_given};
 
 use crate::addresses::{is_unix, read_mode};
 use crate::fault::ProgramFault;
-use crate::tasks::{Server, Serving, Task};
+use crate::tasks::{Serving, Task, Threading};
 use clap::error::ErrorKind;
 use clap::{Arg, ArgAction, ArgMatches, Command};
 use ipc_core::Limits;
@@ -241,7 +241,7 @@ fn serving_of(alloc: Global, options: &ArgMatches) -> Result<Serving, WordFault>
     let Some(address) = optional_word(options, "address") else {
         return Err(WordFault::BadValue("address"));
     };
-    let server = server_of(options)?;
+    let threading = threading_of(options)?;
     let stop_after = optional_number(options, "stop-after")?;
     let socket_mode = socket_mode_of(options, address)?;
     let limits = limits_of(options)?;
@@ -249,27 +249,27 @@ fn serving_of(alloc: Global, options: &ArgMatches) -> Result<Serving, WordFault>
         users: String::from_str(alloc, users)?,
         address: String::from_str(alloc, address)?,
         socket_mode,
-        server,
+        threading,
         stop_after,
         limits,
     })
 }
 
 /// One thread, where its flag is given, and else workers. An option of the other is refused.
-fn server_of(options: &ArgMatches) -> Result<Server, WordFault>
-    ensures reads { Reads (server_given (rows_of (found_of options.now))) result }
+fn threading_of(options: &ArgMatches) -> Result<Threading, WordFault>
+    ensures reads { Reads (threading_given (rows_of (found_of options.now))) result }
     ensures in_range { IfOk result IsWithin }
 {
     if is_flag_given(options, "one-thread") {
         if is_option_given(options, "workers") {
             return Err(WordFault::BadValue("one-thread"));
         }
-        return Ok(Server::OneThread(connections_of(options)?));
+        return Ok(Threading::OneThread(connections_of(options)?));
     }
     if is_option_given(options, "connections") {
         return Err(WordFault::BadValue("connections"));
     }
-    Ok(Server::Threads(workers_of(options)?))
+    Ok(Threading::Workers(workers_of(options)?))
 }
 
 /// Whether a flag was given. Its value is the text `true` or `false`.

@@ -21,17 +21,17 @@ pub struct Serving {
     pub address: String,
     /// The permission bits of that file.
     pub socket_mode: u32,
-    pub server: Server,
+    pub threading: Threading,
     /// After how many connections it ends.
     pub stop_after: Option<u64>,
     pub limits: Limits,
 }
 
-/// What serves connections.
+/// On what threads connections are served.
 #[derive(Clone, Copy, PartialEq, Eq, Drop)]
-pub enum Server {
+pub enum Threading {
     /// So many workers, 1 to 64, of which each serves one connection at a time.
-    Threads(usize),
+    Workers(usize),
     /// One thread, which serves so many connections at most at a time, 1 or more.
     OneThread(usize),
 }
@@ -42,7 +42,7 @@ impl Model for Serving {
 
     ghost Value = { Serving };
 
-    ghost view = { λ s. record { users = string_bytes s.users; address = string_bytes s.address; socket_mode = s.socket_mode; server = s.server; stop_after = s.stop_after; limits = s.limits } };
+    ghost view = { λ s. record { users = string_bytes s.users; address = string_bytes s.address; socket_mode = s.socket_mode; threading = s.threading; stop_after = s.stop_after; limits = s.limits } };
 
-    ghost invariant = { λ s. IsWithin s.server };
+    ghost invariant = { λ s. IsWithin s.threading };
 }

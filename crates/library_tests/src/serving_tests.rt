@@ -3,32 +3,51 @@
 use crate::made::shows;
 use ipc_access::UserFault;
 use ipc_core::{Field, Limits};
-use ipc_program::{ProgramFault, Task, task_of_words};
+use ipc_program::{ProgramFault, Task, Threading, task_of_words};
 use ipc_script::ScriptFault;
 use std::alloc::Global;
 use std::io;
 use std::io::ErrorKind;
 use std::test::Fail;
 
-/// How many workers a server has, after how many connections it ends, and its limits.
-type Told = (usize, Option<u64>, Limits);
+/// On what threads a server serves, after how many connections it ends, and its limits.
+type Told = (Threading, Option<u64>, Limits);
 
 /// The words behind `mqserve serve users.txt 127.0.0.1:7000`, and what they tell the server.
-static TOLD: [(&[&str], Told); 12] = [
-    (&[], (4, None, Limits::STANDARD)),
-    (&["--workers", "1"], (1, None, Limits::STANDARD)),
-    (&["--workers", "64"], (64, None, Limits::STANDARD)),
-    (&["--workers=8"], (8, None, Limits::STANDARD)),
-    (&["--stop-after", "0"], (4, Some(0), Limits::STANDARD)),
-    (&["--stop-after", "5"], (4, Some(5), Limits::STANDARD)),
+static TOLD: [(&[&str], Told); 14] = [
+    (&[], (Threading::Workers(4), None, Limits::STANDARD)),
+    (
+        &["--workers", "1"],
+        (Threading::Workers(1), None, Limits::STANDARD),
+    ),
+    (
+        &["--workers", "64"],
+        (Threading::Workers(64), None, Limits::STANDARD),
+    ),
+    (
+        &["--workers=8"],
+        (Threading::Workers(8), None, Limits::STANDARD),
+    ),
+    (
+        &["--stop-after", "0"],
+        (Threading::Workers(4), Some(0), Limits::STANDARD),
+    ),
+    (
+        &["--stop-after", "5"],
+        (Threading::Workers(4), Some(5), Limits::STANDARD),
+    ),
     (
         &["--stop-after", "18446744073709551615"],
-        (4, Some(18_446_744_073_709_551_615), Limits::STANDARD),
+        (
+            Threading::Workers(4),
+            Some(18_446_744_073_709_551_615),
+            Limits::STANDARD,
+        ),
     ),
     (
         &["--msg-max", "0"],
         (
-            4,
+            Threading::Workers(4),
             None,
             Limits {
                 msg_max: 0,
@@ -39,7 +58,7 @@ static TOLD: [(&[&str], Told); 12] = [
     (
         &["--msgsize-max", "4294967295"],
         (
-            4,
+            Threading::Workers(4),
             None,
             Limits {
                 msgsize_max: 4_294_967_295,
@@ -50,7 +69,7 @@ static TOLD: [(&[&str], Told); 12] = [
     (
         &["--queues-max", "65537"],
         (
-            4,
+            Threading::Workers(4),
             None,
             Limits {
                 queues_max: 65_537,
@@ -59,8 +78,16 @@ static TOLD: [(&[&str], Told); 12] = [
         ),
     ),
     (
+        &["--one-thread"],
+        (Threading::OneThread(10_000), None, Limits::STANDARD),
+    ),
+    (
+        &["--connections", "1", "--stop-after", "2", "--one-thread"],
+        (Threading::OneThread(1), Some(2), Limits::STANDARD),
+    ),
+    (
         &["--stop-after", "3", "--workers", "2"],
-        (2, Some(3), Limits::STANDARD),
+        (Threading::Workers(2), Some(3), Limits::STANDARD),
     ),
     (
         &[
@@ -76,7 +103,7 @@ static TOLD: [(&[&str], Told); 12] = [
             "3",
         ],
         (
-            3,
+            Threading::Workers(3),
             Some(4),
             Limits {
                 msg_max: 5,
@@ -101,7 +128,8 @@ fn tells(task: &Task, told: &Told) -> bool {
     match task {
         Task::Serve(serving) => serving.users.as_str() == "users.txt"
             && serving.address.as_str() == "127.0.0.1:7000"
-            && (serving.workers, serving.stop_after, serving.limits) == *told,
+            && (serving.threading, serving.stop_after, serving.limits) == *told
+            && serving.socket_mode == 0o600,
         Task::Script(_) => false,
     }
 }
@@ -119,8 +147,32 @@ fn words_tell_a_server(rt: HostRuntime) -> Result<(), Fail> {
     Ok(())
 }
 
+/// The words behind `mqserve serve users.txt unix:/run/socket`, and the permission bits that they give its file.
+static MODES: [(&[&str], u32); 4] = [
+    (&[], 0o600),
+    (&["--socket-mode", "0600"], 0o600),
+    (&["--one-thread", "--socket-mode", "0617"], 0o617),
+    (&["--socket-mode", "0000"], 0),
+];
+
+static SERVE_AT_FILE: [&str; 4] = ["mqserve", "serve", "users.txt", "unix:/run/socket"];
+
+#[test]
+fn words_tell_the_mode_of_a_socket(rt: HostRuntime) -> Result<(), Fail> {
+    for (row, (words, mode)) in MODES.iter().enumerate() {
+        let told = match task_behind(rt.alloc(), &SERVE_AT_FILE, words) {
+            Ok(Task::Serve(serving)) => serving.socket_mode,
+            _ => return Err(Fail::new(format_args!("row {row} is no server"))),
+        };
+        if told != *mode {
+            return Err(Fail::new(format_args!("row {row} is {told:o}")));
+        }
+    }
+    Ok(())
+}
+
 /// The words behind `mqserve`, and the first line of why they ask for nothing.
-static REFUSED: [(&[&str], &str); 29] = [
+static REFUSED: [(&[&str], &str); 38] = [
     (&["serve"], MISSING),
     (&["serve", "u"], MISSING),
     (&["serve", "--workers", "4"], MISSING),
@@ -151,6 +203,44 @@ static REFUSED: [(&[&str], &str); 29] = [
     (
         &["serve", "u", "a", "--workers", "2", "--workers", "2"],
         "error: the argument '--workers <N>' cannot be used multiple times",
+    ),
+    (
+        &["serve", "u", "a", "--one-thread", "--workers", "4"],
+        ONE_THREAD,
+    ),
+    (&["serve", "u", "a", "--connections", "1"], CONNECTIONS),
+    (
+        &["serve", "u", "a", "--one-thread", "--connections", "0"],
+        CONNECTIONS,
+    ),
+    (&["serve", "u", "a", "--socket-mode", "0600"], SOCKET_MODE),
+    (
+        &["serve", "u", "unix:a", "--socket-mode", "600"],
+        SOCKET_MODE,
+    ),
+    (
+        &["serve", "u", "unix:a", "--socket-mode", "1600"],
+        SOCKET_MODE,
+    ),
+    (
+        &["serve", "u", "unix:a", "--socket-mode", "0680"],
+        SOCKET_MODE,
+    ),
+    (
+        &["serve", "u", "unix:a", "--socket-mode", "06000"],
+        SOCKET_MODE,
+    ),
+    (
+        &[
+            "serve",
+            "u",
+            "unix:a",
+            "--socket-mode",
+            "x",
+            "--stop-after",
+            "x",
+        ],
+        STOP_AFTER,
     ),
     (&["serve", "u", "a", "--stop-after", "x"], STOP_AFTER),
     (&["serve", "u", "a", "--stop-after", "01"], STOP_AFTER),
@@ -199,6 +289,14 @@ const MISSING: &str = "error: the following required arguments were not provided
 
 const WORKERS: &str =
     "error: invalid value workers: N is 1 to 64, decimal, without sign and leading zeros";
+
+const ONE_THREAD: &str = "error: invalid value one-thread: it has no workers";
+
+const CONNECTIONS: &str =
+    "error: invalid value connections: N is 1 to 4294967295, decimal, without sign and leading zeros, and stands with --one-thread";
+
+const SOCKET_MODE: &str =
+    "error: invalid value socket-mode: OCTAL is a zero and three octal digits, and ADDRESS is unix:PATH";
 
 const STOP_AFTER: &str =
     "error: invalid value stop-after: N is decimal, without sign and leading zeros, at most 18446744073709551615";

@@ -1,7 +1,9 @@
 //! What is told to a person who runs the program.
 
+use ipc_program::ProgramFault;
 use ipc_words::{USAGE_OF_VALUES, usage_of_commands};
 use std::alloc::{AllocError, Global};
+use std::fmt::Display;
 use std::io::IsTerminal;
 
 /// Where standard input is a terminal, says on standard error what is waited for. A standard error
@@ -11,6 +13,14 @@ pub fn hint(rt: &HostRuntime) {
         let _ = eprintln!(rt;
             "mqserve: waiting for a user file, a line `.`, and then steps; see mqserve --help"
         );
+    }
+}
+
+/// Writes a line of two words to standard output.
+pub fn say<R: Print, D: Display + Drop>(rt: &R, verb: &str, what: D) -> Result<(), ProgramFault> {
+    match println!(rt; "{verb} {what}") {
+        Ok(()) => Ok(()),
+        Err(error) => Err(ProgramFault::of_output(&error)),
     }
 }
 
@@ -34,7 +44,9 @@ A step is a label and what its session does:
 
 const SERVER: &str = "\
 A server reads its users, a line for each, from the file USERS. Clients speak to it by mqctl.
-Each worker serves one connection at a time. There are 4 by default, so a fifth client waits.";
+With --one-thread all clients are served, however many are connected (up to --connections), on one processor.
+Without it each worker serves one connection at a time. There are 4 by default, so a fifth client waits. Workers use
+several processors: they answer a few busy clients faster.";
 
 const EXAMPLE: &str = "\
 Example:

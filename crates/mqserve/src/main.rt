@@ -3,6 +3,7 @@
 #![tactic(auto)]
 
 mod guidance;
+mod one_thread;
 mod serving;
 mod ticking;
 

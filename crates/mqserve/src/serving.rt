@@ -1,16 +1,18 @@
-//! Serving connections over TCP.
+//! Serving connections: what both servers have in common, and the one of workers.
 
-ghost use Rattle.std.specs.Prelude.{◌≡◌, ◌^◌, None};
+ghost use Rattle.std.specs.Prelude.{◌≡◌, ◌≤◌, ◌^◌, None};
 
+use crate::guidance::say;
+use crate::one_thread::serve_on_one_thread;
 use crate::ticking::{ServerClock, start_ticker};
 use ipc_access::Users;
 use ipc_book::{Book, Shared};
 use ipc_core::Config;
-use ipc_program::{ProgramFault, Serving};
+use ipc_program::{ProgramFault, Serving, Threading};
 use ipc_script::ScriptFault;
-use ipc_server::{OpenGate, WorkersFault, run_workers};
+use ipc_server::{Link, Listen, OpenGate, WorkersFault, run_workers};
+use ipc_sockets::{listen_at_file, path_of};
 use std::alloc::Global;
-use std::fmt::Display;
 use std::marker::Brand;
 use std::net::{Net, TcpListener, TcpStream};
 use std::rt::Files;
@@ -20,7 +22,7 @@ use std::thread::Threads;
 use std::time::Clock;
 use std::{fs, thread};
 
-/// Serves as many connections as are asked for, or until none can be accepted any more.
+/// Serves as many connections as are asked for, or until none can be accepted any more, and says how many were served.
 pub fn serve<
     R: AllocGlobal
         + Files
@@ -36,35 +38,62 @@ pub fn serve<
         users,
         limits: serving.limits,
     };
-    serve_book::<Brand, R>(rt, serving, config, Blank::new(1 << 63))
+    match serving.threading {
+        Threading::Workers(workers) => serve_book::<Brand, R>(
+            rt,
+            serving,
+            workers,
+            config,
+            Blank::new(1 << 63),
+        )?,
+        Threading::OneThread(connections) => serve_on_one_thread(rt, serving, connections, config)?,
+    }
+    say(rt, "served", serving.stop_after.unwrap_or(u64::MAX))
 }
 
-/// Serves over a new book.
+/// Serves by workers, over a new book.
 fn serve_book<
     L: Ledger + Send + Sync,
     R: AllocGlobal
+        + Files
         + Print
         + Net<Listener = TcpListener, Stream = TcpStream>
         + Threads
         + Wait
         + Clock
         + Sync,
->(rt: &R, serving: &Serving, config: Config, blank: Blank) -> Result<(), ProgramFault>
+>(
+    rt: &R,
+    serving: &Serving,
+    workers: usize,
+    config: Config,
+    blank: Blank,
+) -> Result<(), ProgramFault>
     requires name { blank.name ≡ L.name }
     requires parts { blank.parts ≡ L.parts }
     requires many { blank.parts ≡ 2 ^ 63 }
+    requires somebody { 1 ≤ workers }
 {
     let book: Book<L> = match Book::new(rt.alloc(), config, blank) {
         Ok(book) => book,
         Err(fault) => return Err(ScriptFault::from(fault).into()),
     };
-    let listener = match TcpListener::bind(rt, serving.address.as_str()) {
+    let shared = Shared::new(book);
+    let Some(path) = path_of(serving.address.as_str()) else {
+        let listener = match TcpListener::bind(rt, serving.address.as_str()) {
+            Ok(listener) => listener,
+            Err(error) => return Err(ProgramFault::of_address(&error)),
+        };
+        return work(rt, serving, workers, &listener, &shared);
+    };
+    let listener = match listen_at_file(rt, path, serving.socket_mode) {
         Ok(listener) => listener,
         Err(error) => return Err(ProgramFault::of_address(&error)),
     };
-    say(rt, "serving", serving.address.as_str())?;
-    let shared = Shared::new(book);
-    work(rt, serving, &listener, &shared)
+    let served = work(rt, serving, workers, &listener, &shared);
+    // It may have been removed already.
+    let _ = fs::remove_file(rt, path);
+    served
 }
 
 /// The users of a file.
@@ -79,27 +108,44 @@ fn users_of<R: AllocGlobal + Files>(rt: &R, path: &str) -> Result<Users, Program
     }
 }
 
-/// Serves the connections, and says how many were served.
-fn work<L: Ledger + Send + Sync, R: AllocGlobal + Print + Threads + Wait + Clock + Sync>(
+/// Says that connections are served, and serves them.
+fn work<
+    L: Ledger + Send + Sync,
+    R: AllocGlobal + Print + Threads + Wait + Clock + Sync,
+    C: Link + Send + Sync + Drop,
+    N: Listen<Conn = C>,
+>(
     rt: &R,
     serving: &Serving,
-    listener: &TcpListener,
+    workers: usize,
+    listener: &N,
     shared: &Shared<L>,
-) -> Result<(), ProgramFault> {
-    match serve_and_tick(rt, serving, listener, shared) {
-        Ok(()) => say(rt, "served", serving.stop_after.unwrap_or(u64::MAX)),
+) -> Result<(), ProgramFault>
+    requires { 1 ≤ workers }
+{
+    say(rt, "serving", serving.address.as_str())?;
+    match serve_and_tick(rt, serving.stop_after, workers, listener, shared) {
+        Ok(()) => Ok(()),
         Err(WorkersFault::AcceptFailed) => Err(ProgramFault::Net),
         Err(WorkersFault::NoMemory) => Err(ScriptFault::Memory.into()),
     }
 }
 
 /// Serves the connections by workers. A ticker runs on a thread of its own until they have ended.
-fn serve_and_tick<L: Ledger + Send + Sync, R: AllocGlobal + Threads + Wait + Clock + Sync>(
+fn serve_and_tick<
+    L: Ledger + Send + Sync,
+    R: AllocGlobal + Threads + Wait + Clock + Sync,
+    C: Link + Send + Sync + Drop,
+    N: Listen<Conn = C>,
+>(
     rt: &R,
-    serving: &Serving,
-    listener: &TcpListener,
+    stop_after: Option<u64>,
+    workers: usize,
+    listener: &N,
     shared: &Shared<L>,
-) -> Result<(), WorkersFault> {
+) -> Result<(), WorkersFault>
+    requires { 1 ≤ workers }
+{
     let alloc = rt.alloc();
     let Ok(seat) = shared.seat(rt, alloc) else {
         return Err(WorkersFault::NoMemory);
@@ -109,20 +155,13 @@ fn serve_and_tick<L: Ledger + Send + Sync, R: AllocGlobal + Threads + Wait + Clo
         thread::scope_env(),
         rt,
         |scope| -> Result<(), WorkersFault>
-            requires { seat.sid ≡ None }
+            requires idle { seat.sid ≡ None }
+            requires somebody { 1 ≤ workers }
         {
             let Some(ticker) = start_ticker(scope, &clock, shared, seat) else {
                 return Err(WorkersFault::NoMemory);
             };
-            let served = run_workers(
-                rt,
-                alloc,
-                listener,
-                shared,
-                serving.workers,
-                serving.stop_after,
-                &OpenGate,
-            );
+            let served = run_workers(rt, alloc, listener, shared, workers, stop_after, &OpenGate);
             clock.stop();
             let _seat = ticker.join(rt);
             match served {
@@ -131,12 +170,4 @@ fn serve_and_tick<L: Ledger + Send + Sync, R: AllocGlobal + Threads + Wait + Clo
             }
         },
     )
-}
-
-/// Writes a line of two words.
-fn say<R: Print, D: Display + Drop>(rt: &R, verb: &str, what: D) -> Result<(), ProgramFault> {
-    match println!(rt; "{verb} {what}") {
-        Ok(()) => Ok(()),
-        Err(error) => Err(ProgramFault::of_output(&error)),
-    }
 }

@@ -4,13 +4,14 @@ ghost use Rattle.std.specs.Prelude.{◌≡◌, None};
 
 use ipc_book::{Seat, Shared};
 use ipc_server::{Clock, run_ticker};
+use ipc_sockets::moment;
 use std::alloc::Global;
 use std::sync::Wait;
 use std::sync::atomic::{AtomicBool, Ordering};
 use std::sync::ledger::Ledger;
 use std::thread::{JoinHandle, Scope, sleep};
 use std::time;
-use std::time::{Duration, SystemTime};
+use std::time::Duration;
 
 /// How long a pause is, in milliseconds.
 const PAUSE: u64 = 10;
@@ -39,15 +40,8 @@ impl<'a, R> ServerClock<'a, R> {
 }
 
 impl<R: time::Clock> Clock for ServerClock<'_, R> {
-    /// Milliseconds since 1970, or 0 where the clock can't be read.
     fn moment(&self) -> u64 {
-        let Ok(now) = SystemTime::now(self.rt) else {
-            return 0;
-        };
-        match now.duration_since(SystemTime::UNIX_EPOCH) {
-            Ok(passed) => u64::try_from(passed.as_millis()).unwrap_or(u64::MAX),
-            Err(_) => 0,
-        }
+        moment(self.rt)
     }
 
     fn pause(&self) -> bool {

@@ -1,0 +1,56 @@
+//! Serving connections on one thread.
+
+use crate::guidance::say;
+use ipc_core::Config;
+use ipc_loop::Server;
+use ipc_program::{ProgramFault, Serving};
+use ipc_script::ScriptFault;
+use ipc_sockets::{Sockets, path_of};
+use std::fs;
+use std::net::Net;
+use std::rt::Files;
+use std::sync::Wait;
+use std::time::Clock;
+
+/// Serves at most so many connections at a time, until as many as are asked for have ended.
+pub fn serve_on_one_thread<R: AllocGlobal + Files + Print + Net + Wait + Clock>(
+    rt: &R,
+    serving: &Serving,
+    connections: usize,
+    config: Config,
+) -> Result<(), ProgramFault> {
+    let mut server = match Server::new(rt.alloc(), config, connections, serving.stop_after) {
+        Ok(server) => server,
+        Err(fault) => return Err(ScriptFault::from(fault).into()),
+    };
+    let address = serving.address.as_str();
+    let mut sockets = match Sockets::bind(rt, rt.alloc(), address, serving.socket_mode) {
+        Ok(sockets) => sockets,
+        Err(error) => return Err(ProgramFault::of_address(&error)),
+    };
+    let served = work(rt, address, &mut server, &mut sockets);
+    if let Some(path) = path_of(address) {
+        // It may have been removed already.
+        let _ = fs::remove_file(rt, path);
+    }
+    served
+}
+
+/// Says that connections are served, and serves them in rounds.
+fn work<R: Print + Wait + Clock>(
+    rt: &R,
+    address: &str,
+    server: &mut Server,
+    sockets: &mut Sockets<'_, R>,
+) -> Result<(), ProgramFault> {
+    say(rt, "serving", address)?;
+    for _ in rt.forever() {
+        if server.is_over() {
+            return Ok(());
+        }
+        if server.round(sockets).is_err() {
+            return Err(ProgramFault::Net);
+        }
+    }
+    unreachable!()
+}
