@@ -53,6 +53,7 @@ test:
 # Runs the programs that the gate or a build left, over inputs whose outcome is known: both streams, and statuses.
 rows:
 	@rows/run.py
+	@rows/servers.py
 
 # Plays random scripts through a script and through a server, and compares every answer. `make ways SCRIPTS=1000` plays more.
 SCRIPTS = 50

@@ -1,6 +1,6 @@
 #!/usr/bin/env python3
 """Plays random scripts two ways and compares every answer: once through `mqserve script`, and once step by step through
-`mqserve serve`, where each label is a client with a connection of its own.
+`mqserve serve`, where each label is a client with a connection of its own; by workers and on one thread.
 
 A script has sessions of four users and calls of every kind, most of them sensible. Each answer must come to the same session,
 with the same words. `two_ways.py [COUNT] [SEED]` plays so many scripts, 50 where nothing is given; the last line counts the
@@ -25,6 +25,9 @@ CLIENT = TOP / "crates/mqctl/out/mqctl"
 
 USERS = "root:r00t:0:0::\nann:ka1:1000:1000:50:\nbob:kb1:1001:1001:50,51:\ncy:kc1:1002:1002::\n"
 KEYS = ("r00t", "ka1", "kb1", "kc1", "unknown")
+
+# The words of each server that a script is played at.
+SERVERS = (("--workers", "8"), ("--one-thread",))
 
 # The session that looks whether a step without an answer was recorded. Scripts don't use it.
 WATCH = "watch"
@@ -236,14 +239,14 @@ class Session:
 class Server:
     """A server, the sessions of a script's labels, and the session that watches the trail."""
 
-    def __init__(self, folder):
+    def __init__(self, folder, words):
         with socket.socket() as probe:
             probe.bind(("127.0.0.1", 0))
             self.port = probe.getsockname()[1]
         users = pathlib.Path(folder) / "users"
         users.write_text(USERS)
-        words = [SERVER, "serve", users, f"127.0.0.1:{self.port}", "--workers", "8"]
-        self.process = subprocess.Popen(words, stdin=subprocess.DEVNULL, stdout=subprocess.PIPE, text=True)
+        command = [SERVER, "serve", users, f"127.0.0.1:{self.port}", *words]
+        self.process = subprocess.Popen(command, stdin=subprocess.DEVNULL, stdout=subprocess.PIPE, text=True)
         if not self.process.stdout.readline():
             raise Wrong("the server doesn't start")
         self.sessions, self.records = {}, 0
@@ -303,16 +306,16 @@ class Server:
         return [(to, line_of(*self.sessions[to].answer())) for to, _ in wanted]
 
 
-def by_server(steps, wanted, folder):
-    """Plays the steps at a server, and compares what each is answered."""
+def by_server(steps, wanted, folder, words):
+    """Plays the steps at a server with these words, and compares what each is answered."""
     requests = frames_of([words for _, words in steps])
-    server, compared = Server(folder), 0
+    server, compared = Server(folder, words), 0
     try:
-        for number, ((label, words), request, answers) in enumerate(zip(steps, requests, wanted)):
-            if words.startswith("hello ") or label in server.sessions:
-                came = server.step(label, words, request, answers)
+        for number, ((label, step), request, answers) in enumerate(zip(steps, requests, wanted)):
+            if step.startswith("hello ") or label in server.sessions:
+                came = server.step(label, step, request, answers)
                 if came != answers:
-                    raise Wrong(f"step {number}, {label} {words}: the script has {answers}, the server {came}")
+                    raise Wrong(f"step {number}, {label} {step}: the script has {answers}, the server {came}")
                 compared += len(answers)
         loud = [label for label, session in server.sessions.items() if not session.is_silent()]
         if loud:
@@ -347,11 +350,12 @@ def main():
     for seed in range(given.seed, given.seed + given.count):
         steps = playable(Script(random.Random(seed)).steps)
         with tempfile.TemporaryDirectory(prefix="two-ways-") as folder:
-            try:
-                compared += by_server(steps, by_script(steps), folder)
-            except (Wrong, OSError) as fault:
-                failed += 1
-                print(f"seed {seed}: {type(fault).__name__}: {fault}")
+            for words in SERVERS:
+                try:
+                    compared += by_server(steps, by_script(steps), folder, words)
+                except (Wrong, OSError) as fault:
+                    failed += 1
+                    print(f"seed {seed}, {' '.join(words)}: {type(fault).__name__}: {fault}")
     print(f"{given.count} scripts played two ways, {compared} answers compared, {failed} differ")
     sys.exit(1 if failed or not compared else 0)
 

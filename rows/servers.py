@@ -1,0 +1,274 @@
+#!/usr/bin/env python3
+"""Runs the built servers, over TCP and at a file, and speaks to them by `mqctl` and by sockets. Prints a line for each case
+and a last line with the counts; the status is 1 where one is not as it must be.
+
+`--programs FOLDER` takes `mqserve` and `mqctl` from there, and `--calls COMMAND` puts words in front of each."""
+
+import argparse
+import contextlib
+import os
+import pathlib
+import shlex
+import socket
+import stat
+import struct
+import subprocess
+import sys
+import tempfile
+
+TOP = pathlib.Path(__file__).resolve().parent.parent
+USERS = TOP / "rows" / "mqserve" / "two.users"
+SECONDS = 60
+MANY = 200
+
+HELLO, UMASK, STARTED, MASK = 1, 2, 65, 68
+ONE_THREAD = ["--one-thread"]
+
+
+class Wrong(Exception):
+    """A server does other than it must."""
+
+
+class Programs:
+    """The command of each program."""
+
+    def __init__(self, folder, front):
+        self.front = front
+        self.files = {
+            name: (folder / name if folder else TOP / "crates" / name / "out" / name) for name in ("mqserve", "mqctl")
+        }
+
+    def command(self, name, words):
+        return [*self.front, str(self.files[name]), *words]
+
+
+def is_same(what, found, wanted):
+    if found != wanted:
+        raise Wrong(f"{what}: {found!r}, and not {wanted!r}")
+
+
+# ---- servers and clients
+
+
+@contextlib.contextmanager
+def serving(programs, address, *words):
+    """A server that says that it serves. It is ended if it hasn't ended by itself."""
+    command = programs.command("mqserve", ["serve", str(USERS), address, *words])
+    with subprocess.Popen(command, stdout=subprocess.PIPE, stderr=subprocess.PIPE) as server:
+        try:
+            is_same("the first line", server.stdout.readline(), f"serving {address}\n".encode())
+            yield server
+        finally:
+            server.kill()
+
+
+def ends(server, served):
+    """The server ends by itself, after so many connections."""
+    out, err = server.communicate(timeout=SECONDS)
+    is_same("the last line, faults and status", (out, err, server.returncode), (f"served {served}\n".encode(), b"", 0))
+
+
+def fails(programs, address, *words):
+    """A server that can't have the address."""
+    command = programs.command("mqserve", ["serve", str(USERS), address, "--stop-after", "0", *words])
+    ended = subprocess.run(command, stdout=subprocess.PIPE, stderr=subprocess.PIPE, timeout=SECONDS)
+    is_same("fault and status", (ended.stderr, ended.returncode), (b"mqserve: net\n", 4))
+
+
+def told(programs, address, *words):
+    """What a client prints."""
+    command = programs.command("mqctl", [address, *words])
+    return subprocess.run(command, stdin=subprocess.DEVNULL, stdout=subprocess.PIPE, timeout=SECONDS).stdout
+
+
+def free_port():
+    with socket.create_server(("127.0.0.1", 0)) as probe:
+        return probe.getsockname()[1]
+
+
+def connect(address):
+    """A connection to `HOST:PORT` or `unix:PATH`."""
+    if address.startswith("unix:"):
+        stream = socket.socket(socket.AF_UNIX)
+        stream.settimeout(SECONDS)
+        stream.connect(address[len("unix:") :])
+        return stream
+    host, port = address.rsplit(":", 1)
+    return socket.create_connection((host, int(port)), SECONDS)
+
+
+def frame(opcode, fields):
+    return struct.pack(">IB", 1 + len(fields), opcode) + fields
+
+
+def answer(stream):
+    """The next answer's opcode and fields."""
+    return frame_body(stream, int.from_bytes(exactly(stream, 4), "big"))
+
+
+def frame_body(stream, size):
+    body = exactly(stream, size)
+    return body[0], body[1:]
+
+
+def exactly(stream, size):
+    data = b""
+    while len(data) < size:
+        piece = stream.recv(size - len(data))
+        if not piece:
+            raise Wrong("the server hung up")
+        data += piece
+    return data
+
+
+# ---- cases
+
+
+def two_clients(programs, address, *words):
+    """A client makes a queue, and another may not use its description."""
+    with serving(programs, address, "--stop-after", "2", *words) as server:
+        is_same("opened", told(programs, address, "ka1", "mq-open", "/jobs", "rw", "--create"), b"opened 0\n")
+        is_same("refused", told(programs, address, "r00t", "mq-getattr", "0"), b"refused 8 EBADF BadDescr\n")
+        ends(server, 2)
+
+
+def many_at_once(programs, address, *words):
+    """Many clients at once, each with a call that is answered while all others stay."""
+    with serving(programs, address, "--stop-after", str(MANY), *words) as server, contextlib.ExitStack() as stack:
+        streams = [stack.enter_context(connect(address)) for _ in range(MANY)]
+        for stream in streams:
+            stream.sendall(frame(HELLO, b"\0\3ka1"))
+        sessions = {int.from_bytes(is_answer(stream, STARTED), "big") for stream in streams}
+        is_same("how many sessions", len(sessions), MANY)
+        for mask, stream in enumerate(streams):
+            stream.sendall(frame(UMASK, struct.pack(">H", mask)) + frame(UMASK, b"\0\0"))
+        for mask, stream in enumerate(streams):
+            is_same("mask", is_answer(stream, MASK), b"\0\x12")
+            is_same("mask", is_answer(stream, MASK), struct.pack(">H", mask))
+        stack.pop_all().close()
+        ends(server, MANY)
+
+
+def is_answer(stream, opcode):
+    """The fields of the next answer, which has this opcode."""
+    found, fields = answer(stream)
+    is_same("opcode", found, opcode)
+    return fields
+
+
+def third_waits(programs, address, *words):
+    """Who connects while there are as many as there may be is served once one has ended."""
+    with serving(programs, address, "--stop-after", "3", *words) as server, contextlib.ExitStack() as stack:
+        first, second = [stack.enter_context(connect(address)) for _ in range(2)]
+        for stream in (first, second):
+            stream.sendall(frame(HELLO, b"\0\3ka1"))
+            is_answer(stream, STARTED)
+        with connect(address) as third:
+            third.sendall(frame(HELLO, b"\0\3ka1"))
+            third.settimeout(0.3)
+            try:
+                raise Wrong(f"a third is answered {answer(third)}")
+            except socket.timeout:
+                third.settimeout(SECONDS)
+            first.close()
+            is_answer(third, STARTED)
+        second.close()
+        ends(server, 3)
+
+
+def mode_of(path):
+    return stat.S_IMODE(os.stat(path).st_mode)
+
+
+def mode_and_end(programs, address, *words):
+    """The file's mode is 0600 or what is asked for, and the file goes with the server."""
+    path = address[len("unix:") :]
+    for options, mode in (((), 0o600), (("--socket-mode", "0666"), 0o666), (("--socket-mode", "0060"), 0o060)):
+        with serving(programs, address, "--stop-after", "1", *options, *words) as server:
+            is_same("mode", mode_of(path), mode)
+            connect(address).close()
+            ends(server, 1)
+        is_same("the file is there", os.path.lexists(path), False)
+
+
+def left_over(programs, address, *words):
+    """A socket that nobody listens at is replaced."""
+    with socket.socket(socket.AF_UNIX) as gone:
+        gone.bind(address[len("unix:") :])
+    two_clients(programs, address, *words)
+
+
+def taken(programs, address, *words):
+    """A socket that somebody listens at stays, and its server goes on; also where that accepts nobody."""
+    with serving(programs, address, "--stop-after", "3", *words) as server:
+        for others in ([], ONE_THREAD):
+            fails(programs, address, *others)
+        is_same("refused", told(programs, address, "ka1", "mq-getattr", "0"), b"refused 8 EBADF BadDescr\n")
+        ends(server, 3)
+
+
+def no_socket(programs, address, *words):
+    """A file that is no socket stays, and a link to one."""
+    path = pathlib.Path(address[len("unix:") :])
+    path.write_text("kept")
+    fails(programs, address, *words)
+    link = path.with_suffix(".link")
+    link.symlink_to(path)
+    fails(programs, f"unix:{link}", *words)
+    is_same("the file", path.read_text(), "kept")
+
+
+KINDS = {"workers": [], "one thread": ONE_THREAD}
+ANYWHERE = {
+    "two clients": (two_clients, KINDS),
+    f"{MANY} clients at once": (many_at_once, {"one thread": ONE_THREAD}),
+    "a third client waits": (third_waits, {"workers": ["--workers", "2"], "one thread": [*ONE_THREAD, "--connections", "2"]}),
+}
+AT_A_FILE = {
+    "the file's mode and its end": (mode_and_end, KINDS),
+    "a socket that is left over": (left_over, KINDS),
+    "a socket that is in use": (taken, KINDS),
+    "a file that is no socket": (no_socket, KINDS),
+}
+
+
+def all_cases():
+    """The name of each case, what it does, the place, and the words of its server."""
+    for what, (case, kinds) in ANYWHERE.items():
+        for kind, words in kinds.items():
+            for place in ("TCP", "a file"):
+                yield f"{what}, {kind}, over {place}", case, place, words
+    for what, (case, kinds) in AT_A_FILE.items():
+        for kind, words in kinds.items():
+            yield f"{what}, {kind}", case, "a file", words
+
+
+def judged(programs, case, place, words):
+    """Returns what is other than it must be, or nothing."""
+    with tempfile.TemporaryDirectory() as room:
+        address = f"unix:{room}/socket" if place == "a file" else f"127.0.0.1:{free_port()}"
+        try:
+            case(programs, address, *words)
+        except (Wrong, OSError, subprocess.TimeoutExpired) as fault:
+            return f"{type(fault).__name__}: {fault}"
+    return ""
+
+
+def main():
+    parser = argparse.ArgumentParser(description=__doc__)
+    parser.add_argument("--programs", type=pathlib.Path, help="where mqserve and mqctl are")
+    parser.add_argument("--calls", default="", help="words in front of each command")
+    given = parser.parse_args()
+    programs = Programs(given.programs and given.programs.resolve(), shlex.split(given.calls))
+    cases = list(all_cases())
+    failed = 0
+    for name, case, place, words in cases:
+        difference = judged(programs, case, place, words)
+        failed += bool(difference)
+        print(f"server: {name}: {difference or 'as it must be'}", flush=True)
+    print(f"{len(cases) - failed} as they must be, {failed} not")
+    return 1 if failed else 0
+
+
+if __name__ == "__main__":
+    sys.exit(main())
