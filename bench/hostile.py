@@ -135,6 +135,8 @@ class Setup(NamedTuple):
     program: Path
     room: Path
     is_short: bool
+    # All connections on one thread, in place of workers.
+    is_one_thread: bool
     dice: random.Random
     # Each fault of a malformed stream, how many streams had it, and how many answers came before the hang-up.
     faults: list
@@ -171,7 +173,8 @@ def serving(setup, stop_after=None, workers=WORKERS, files=None):
     port, users = free_port(), setup.room / "users"
     output, faults = setup.room / f"{port}.out", setup.room / f"{port}.err"
     users.write_text(USERS)
-    words = [setup.program, "serve", users, f"{HOST}:{port}", "--workers", str(workers)]
+    words = [setup.program, "serve", users, f"{HOST}:{port}"]
+    words += ["--one-thread"] if setup.is_one_thread else ["--workers", str(workers)]
     if stop_after:
         words += ["--stop-after", str(stop_after)]
     with output.open("w") as out, faults.open("w") as err:
@@ -264,10 +267,11 @@ def silence(setup):
             before, waiting = server.memory(), silent_client(server.port, 2, stack)
             streams = connect_all(server.port, many, stack)
             time.sleep(0.2)
-            cost = f"{connected(streams) + 1:,} connected by the kernel, none served; {server.cost(before)}"
+            served = "all served" if setup.is_one_thread else "none served"
+            cost = f"{connected(streams) + 1:,} connected by the kernel, {served}; {server.cost(before)}"
             yield measured(server, pair, f"{many + 1:,} more", lambda: setup.pause() or cost)
-            if select.select([waiting.stream], [], [], 0)[0]:
-                raise Wrong("more connections than workers were served")
+            if bool(select.select([waiting.stream], [], [], 0)[0]) != setup.is_one_thread:
+                raise Wrong("more connections than workers were served, or on one thread not all")
             yield Row("then all leave", let_go(server, few, waiting, streams))
         serve_to_the_end(server, "silence")
 
@@ -543,6 +547,39 @@ def is_unanswered(port, stack):
 
 
 def files_used_up(setup):
+    if setup.is_one_thread:
+        yield from files_used_on_one_thread(setup)
+        return
+    yield from files_used_by_workers(setup)
+    yield from files_enough(setup)
+
+
+def files_used_on_one_thread(setup):
+    """More clients than the server may open files: those that wait are served once others have left."""
+    with serving(setup, None, files=MOST_FILES) as server:
+        with pair_at(server.port) as pair, contextlib.ExitStack() as stack:
+            clients = [stack.enter_context(Client(server.port)) for _ in range(MOST_FILES + 6)]
+            for client in clients:
+                client.send(hello())
+
+            def work():
+                wait_until(lambda: server.files() == MOST_FILES, "the files are not used up")
+                used = server.processor_seconds()
+                setup.pause()
+                used = server.processor_seconds() - used
+                answered = [client for client in clients if select.select([client.stream], [], [], 0)[0]]
+                for client in answered[:20]:
+                    client.stream.close()
+                for client in clients:
+                    if client not in answered[:20]:
+                        client.answer()
+                return f"{len(answered)} were served, the others once files were free; {used:.2f} s of processor time meanwhile"
+
+            yield measured(server, pair, f"{len(clients)} with {MOST_FILES} files", work)
+        fresh(server.port)
+
+
+def files_used_by_workers(setup):
     """As many workers as the server may open files, and more clients than that."""
     with serving(setup, None, MOST_FILES, MOST_FILES) as server:
         with pair_at(server.port) as pair, contextlib.ExitStack() as stack:
@@ -562,7 +599,6 @@ def files_used_up(setup):
         status = server.process.wait(SECONDS)
         if status != 4 or server.faults.read_text() != "mqserve: net\n":
             raise Wrong(f"status {status}, {server.faults.read_text()!r}")
-    yield from files_enough(setup)
 
 
 def files_enough(setup):
@@ -739,6 +775,7 @@ def prepare():
 def main():
     parser = argparse.ArgumentParser(description=__doc__)
     parser.add_argument("--program", type=Path, default=PROGRAM, help="another mqserve")
+    parser.add_argument("--one-thread", action="store_true", help="mqserve serve --one-thread")
     parser.add_argument("--short", action="store_true", help="a hundredth of the counts")
     parser.add_argument("--seed", type=int, default=1, help="of the malformed streams; 1 where none is given")
     parser.add_argument("--parts", default=",".join(PARTS), help="some parts, of " + ",".join(PARTS))
@@ -750,7 +787,8 @@ def main():
         sys.exit("no program was built yet: run `make build` first")
     prepare()
     with tempfile.TemporaryDirectory() as room:
-        setup = Setup(given.program.resolve(), Path(room), given.short, random.Random(given.seed), [])
+        dice = random.Random(given.seed)
+        setup = Setup(given.program.resolve(), Path(room), given.short, given.one_thread, dice, [])
         rows, wrong = run(setup, names)
     print_tables(rows, setup.faults)
     passed = sum(row.passed.messages for row in rows if row.passed)

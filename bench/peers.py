@@ -41,8 +41,19 @@ PEERS = {
     "echo": "C echo",
     "least": "least C server of the frames",
     "mqserve": "mqserve",
+    "unix": "mqserve, at a Unix socket",
+    "one-thread": "mqserve --one-thread",
+    "one-thread-unix": "mqserve --one-thread, at a Unix socket",
     "redis": "Redis",
     "beanstalkd": "beanstalkd",
+}
+
+# mqserve's words, and whether it listens at a file; None stands for as many workers as are wanted.
+OURS = {
+    "mqserve": (None, False),
+    "unix": (None, True),
+    "one-thread": (["--one-thread"], False),
+    "one-thread-unix": (["--one-thread"], True),
 }
 
 # Those that come from elsewhere: Debian's packages have the same names.
@@ -82,13 +93,20 @@ class Figure(NamedTuple):
     cost: float  # the server's processor time a message, in microseconds; NaN without a server
 
 
+def is_at_file(peer):
+    return OURS.get(peer, (None, False))[1]
+
+
 def command_of(peer, room, program, port, connections):
     """How its server is started, None for the kernel."""
+    if peer in OURS:
+        address = f"unix:{room / 'socket'}" if is_at_file(peer) else f"127.0.0.1:{port}"
+        words = OURS[peer][0] or ["--workers", max(4, connections)]
+        return [program, "serve", room / "users", address, *words]
     return {
         "kernel": None,
         "echo": [room / "echo_server", port],
         "least": [room / "least_server", port],
-        "mqserve": [program, "serve", room / "users", f"127.0.0.1:{port}", "--workers", max(4, connections)],
         "redis": [SERVERS["redis"], "--bind", "127.0.0.1", "--port", port, "--save", "", "--appendonly", "no"],
         "beanstalkd": [SERVERS["beanstalkd"], "-l", "127.0.0.1", "-p", port],
     }[peer]
@@ -100,19 +118,20 @@ def free_port():
         return probe.getsockname()[1]
 
 
-def wait_until_ready(server, port, log):
-    """Returns when the server takes connections."""
+def wait_until_ready(server, place, log):
+    """Returns when the server takes connections, on a port or at a file."""
     end = time.monotonic() + 10
+    family, address = (socket.AF_INET, ("127.0.0.1", place)) if isinstance(place, int) else (socket.AF_UNIX, str(place))
     while server.poll() is None and time.monotonic() < end:
-        with socket.socket() as probe:
-            if probe.connect_ex(("127.0.0.1", port)) == 0:
+        with socket.socket(family) as probe:
+            if probe.connect_ex(address) == 0:
                 return
         time.sleep(0.01)
     sys.exit(f"{server.args[0]} takes no connections: {log.read_text().strip()}")
 
 
 @contextmanager
-def serving(command, port, room):
+def serving(command, place, room):
     """The server as a process, None without a command. It is ended by its id, by peers.sh where this program can't."""
     if command is None:
         yield None
@@ -124,7 +143,7 @@ def serving(command, port, room):
     note = room / f"{server.pid}.server"
     try:
         note.touch()
-        wait_until_ready(server, port, log)
+        wait_until_ready(server, place, log)
         yield server
     finally:
         server.terminate()
@@ -148,9 +167,10 @@ def processor_seconds(server):
 def measured(peer, work, room, program, seconds):
     """One figure, of a server that is started for it."""
     port = free_port()
-    protocol = "mqserve" if peer == "least" else peer
-    words = [room / "client", protocol, str(port), work.word, str(work.connections), str(seconds)]
-    with serving(command_of(peer, room, program, port, work.connections), port, room) as server:
+    place = room / "socket" if is_at_file(peer) else port
+    protocol = "mqserve" if peer == "least" or peer in OURS else peer
+    words = [room / "client", protocol, str(place), work.word, str(work.connections), str(seconds)]
+    with serving(command_of(peer, room, program, port, work.connections), place, room) as server:
         before = processor_seconds(server)
         client = subprocess.run(words, capture_output=True, text=True, timeout=MOST_SECONDS)
         if client.returncode:
@@ -242,7 +262,7 @@ def check_programs(peers, program):
     missing = [SERVERS[peer] for peer in peers if peer in SERVERS and not shutil.which(SERVERS[peer])]
     if missing:
         sys.exit(WANTED.format(missing=" and ".join(missing), all=",".join(PEERS)))
-    if "mqserve" in peers and not program.exists():
+    if set(OURS) & set(peers) and not program.exists():
         sys.exit("no program was built yet: run `make build` first")
 
 
@@ -282,7 +302,7 @@ def main():
     for line in aims(figures):
         print(line, file=sys.stderr)
     if given.plot:
-        given.plot.write_text(plot(WORKS, PEERS, figures))
+        given.plot.write_text(plot(WORKS, PEERS, OURS, figures))
 
 
 if __name__ == "__main__":

@@ -3,10 +3,10 @@
 import math
 import statistics
 
-LEFT, WIDTH, RIGHT = 200, 420, 90
+LEFT, WIDTH, RIGHT = 250, 420, 90
 TOP, ROW, GAP, BOTTOM = 20, 18, 44, 46
 
-OURS, OTHERS = "#d95f02", "#555555"
+OUR_COLOUR, OTHERS = "#d95f02", "#555555"
 
 
 def shown_count(number):
@@ -30,7 +30,7 @@ def line(x1, y1, x2, y2, colour, width):
     return f'<line {ends} stroke="{colour}" stroke-width="{width}"/>'
 
 
-def plot(works, peers, figures):
+def plot(works, peers, ours, figures):
     """A panel for each work: a line from the least rate of each peer to the greatest, and a dot for the median."""
     low, high = decades(figures)
 
@@ -44,7 +44,7 @@ def plot(works, peers, figures):
             y += ROW
             rates = [it.rate for it in figures[work, peer]]
             median = statistics.median(rates)
-            colour = OURS if peer == "mqserve" else OTHERS
+            colour = OUR_COLOUR if peer in ours else OTHERS
             marks.append(text(LEFT - 10, y + 4, peers[peer], "end"))
             marks.append(line(across(min(rates)), y, across(max(rates)), y, colour, 2))
             marks.append(f'<circle cx="{across(median):.1f}" cy="{y}" r="4" fill="{colour}"/>')

@@ -176,9 +176,11 @@ int main(int count, char **words)
 {
     const struct peer *peer = count == 6 ? peer_of(words[1]) : NULL;
     if (!peer) {
-        fprintf(stderr, "client PEER PORT WORK CONNECTIONS SECONDS\n");
+        fprintf(stderr, "client PEER PORT|PATH WORK CONNECTIONS SECONDS\n");
         return 2;
     }
+    if (words[2][0] == '/')
+        dialled_file = words[2];
     int port = atoi(words[2]), connections = atoi(words[4]);
     double seconds = atof(words[5]), rate;
     int is_pong = !strcmp(words[3], "pong"), is_batch = !strcmp(words[3], "batch");

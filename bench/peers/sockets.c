@@ -7,7 +7,9 @@
 #include <stdint.h>
 #include <stdio.h>
 #include <stdlib.h>
+#include <string.h>
 #include <sys/socket.h>
+#include <sys/un.h>
 
 /* A connection that waits longer for an answer has failed. */
 static const struct timeval PATIENCE = {.tv_sec = 10};
@@ -33,15 +35,36 @@ static void send_without_delay(int socket)
         fail("TCP_NODELAY");
 }
 
-int dial(int port)
+static int dial_port(int port)
 {
     struct sockaddr_in address = loopback(port);
     int made = socket(AF_INET, SOCK_STREAM, 0);
     if (made < 0 || connect(made, (struct sockaddr *)&address, sizeof address))
         fail("connect");
+    send_without_delay(made);
+    return made;
+}
+
+static int dial_file(const char *path)
+{
+    struct sockaddr_un address = {.sun_family = AF_UNIX};
+    size_t length = strlen(path);
+    if (length >= sizeof address.sun_path)
+        fail("path");
+    memcpy(address.sun_path, path, length + 1);
+    int made = socket(AF_UNIX, SOCK_STREAM, 0);
+    if (made < 0 || connect(made, (struct sockaddr *)&address, sizeof address))
+        fail("connect");
+    return made;
+}
+
+const char *dialled_file;
+
+int dial(int port)
+{
+    int made = dialled_file ? dial_file(dialled_file) : dial_port(port);
     if (setsockopt(made, SOL_SOCKET, SO_RCVTIMEO, &PATIENCE, sizeof PATIENCE))
         fail("SO_RCVTIMEO");
-    send_without_delay(made);
     return made;
 }
 

@@ -1,4 +1,4 @@
-/* Connections over TCP on loopback. */
+/* Connections over TCP on loopback, or at a file. */
 #ifndef SOCKETS_H
 #define SOCKETS_H
 
@@ -7,7 +7,10 @@
 /* Says what could not be done, and ends the program with status 1. */
 _Noreturn void fail(const char *what);
 
-/* A connection to a server on this port. */
+/* The path of the Unix socket that dial connects to in place of a port, if it isn't null. */
+extern const char *dialled_file;
+
+/* A connection to a server on this port, or at that file. */
 int dial(int port);
 
 /* Serves connections on this port until the program is ended, each by a thread of its own. */
