@@ -1,6 +1,5 @@
 use Rattle.std.proofs.Common.{◌≡◌, ◌∙◌, ◌||◌, Bool, ap, ap₂, codes}
 use Rattle.clap.specs.Simple.{app_of, with_rule}
-use Rattle.clap.specs.declared.builder.command.Command.{Command}
 use Rattle.ipc_program.specs.Options.{value_option}
 use Rattle.ipc_program.proofs.arguments.with_limits.Goals as goal
 
