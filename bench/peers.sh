@@ -3,7 +3,7 @@
 # Compiles the client and two servers into a temporary folder, and installs nothing.
 set -eu
 
-# A whole run takes two to three minutes; one that hangs is ended.
+# A whole run takes three to five minutes; one that hangs is ended.
 MOST_SECONDS=1800
 
 here=$(cd "$(dirname "$0")" && pwd)
