@@ -93,9 +93,9 @@ impl Write for Screen<'_> {
 /// How a session ends whose connection and output take so many bytes.
 fn written(alloc: Global, sends: usize, prints: usize) -> Result<bool, ClientFault> {
     let (sent, shown) = (Cell::new(0), Cell::new(0));
-    let connection = Screen::with_room(sends, &sent);
+    let mut connection = Screen::with_room(sends, &sent);
     let output = Screen::with_room(prints, &shown);
-    client_session(alloc, b"ka1", GIVEN, connection, COMMANDS, output)
+    client_session(alloc, b"ka1", GIVEN, &mut connection, COMMANDS, output)
 }
 
 /// Bytes that the connection and the output take, and how the session ends.

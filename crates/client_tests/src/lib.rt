@@ -2,6 +2,8 @@
 #![tactic(auto)]
 
 #[cfg(test)]
+mod by_name_tests;
+#[cfg(test)]
 mod fault_tests;
 #[cfg(test)]
 mod made;

@@ -1,4 +1,4 @@
-//! What a session sends, prints and ends with, and a reader of which one read fails.
+//! What a session sends, prints and ends with, in rows and in pieces, and a reader of which one read fails.
 
 use ipc_client::{ClientFault, client_session};
 use std::alloc::Global;
@@ -29,6 +29,35 @@ pub(crate) fn run_session<R: Read + Drop, C: Read + Drop>(
         sent,
         printed,
     }
+}
+
+/// Commands, the frames that come, the frames that are sent after the hello, what is printed, and how the session ends.
+pub(crate) type Row<'a> = (
+    &'a str,
+    &'a [u8],
+    &'a [u8],
+    &'a str,
+    Result<bool, ClientFault>,
+);
+
+/// Whether the row's session goes so over a connection that gives its frames.
+pub(crate) fn goes<R: Read + Drop>(alloc: Global, row: &Row<'_>, connection: R) -> bool {
+    let (commands, _, sent, printed, outcome) = row;
+    let ended = run_session(alloc, connection, commands.as_bytes());
+    ended.outcome == *outcome
+        && ended.printed.as_slice() == printed.as_bytes()
+        && ended.sent.as_slice().strip_prefix(HELLO) == Some(*sent)
+}
+
+/// The same, where the answers come in two pieces, cut at each byte in turn.
+pub(crate) fn goes_cut(alloc: Global, row: &Row<'_>) -> bool {
+    for cut in 0..=row.1.len() {
+        let (one, two) = row.1.split_at(cut);
+        if !goes(alloc, row, one.chain(two)) {
+            return false;
+        }
+    }
+    true
 }
 
 /// A reader that gives its bytes a few at a time, of which one read fails.

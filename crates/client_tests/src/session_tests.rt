@@ -1,19 +1,9 @@
 //! Sessions over connections of bytes: what is sent, what is printed, and how they end.
 
-use crate::made::{HELLO, run_session};
+use crate::made::{HELLO, Row, goes, goes_cut, run_session};
 use ipc_client::{ClientFault, LONGEST_KEY, client_session};
-use std::alloc::Global;
 use std::io::Read;
 use std::test::Fail;
-
-/// Commands, the frames that come, the frames that are sent after the hello, what is printed, and how the session ends.
-type Row<'a> = (
-    &'a str,
-    &'a [u8],
-    &'a [u8],
-    &'a str,
-    Result<bool, ClientFault>,
-);
 
 static SESSIONS: [Row<'static>; 21] = [
     // A command that is refused.
@@ -166,15 +156,6 @@ static SESSIONS: [Row<'static>; 21] = [
     ),
 ];
 
-/// Whether the row's session goes so over a connection that gives its frames.
-fn goes<R: Read + Drop>(alloc: Global, row: &Row<'_>, connection: R) -> bool {
-    let (commands, _, sent, printed, outcome) = row;
-    let ended = run_session(alloc, connection, commands.as_bytes());
-    ended.outcome == *outcome
-        && ended.printed.as_slice() == printed.as_bytes()
-        && ended.sent.as_slice().strip_prefix(HELLO) == Some(*sent)
-}
-
 #[test]
 fn sessions_go_so(rt: HostRuntime) -> Result<(), Fail> {
     for (number, row) in SESSIONS.iter().enumerate() {
@@ -185,21 +166,10 @@ fn sessions_go_so(rt: HostRuntime) -> Result<(), Fail> {
     Ok(())
 }
 
-/// The same, where the answers come in two pieces.
-fn goes_in_pieces(alloc: Global, row: &Row<'_>) -> bool {
-    for cut in 0..=row.1.len() {
-        let (one, two) = row.1.split_at(cut);
-        if !goes(alloc, row, one.chain(two)) {
-            return false;
-        }
-    }
-    true
-}
-
 #[test]
 fn answers_come_cut_at_any_byte(rt: HostRuntime) -> Result<(), Fail> {
     for (number, row) in SESSIONS.iter().enumerate() {
-        if !goes_in_pieces(rt.alloc(), row) {
+        if !goes_cut(rt.alloc(), row) {
             return Err(Fail::new(format_args!("session {number} goes otherwise")));
         }
     }
@@ -218,6 +188,19 @@ fn bad_lines_end_it(rt: HostRuntime) {
     assert!(rt;
         ended.sent.as_slice().strip_prefix(HELLO) == Some(b"\0\0\0\x03\x02\0\0".as_slice())
     );
+}
+
+/// The longest line is a command, and one byte more ends the session before anything of it is sent.
+#[test]
+fn longer_lines_end_it(rt: HostRuntime) -> Result<(), Fail> {
+    let bytes = Vec::from_elem(rt.alloc(), b'#', 1_048_577)?;
+    let longest = run_session(rt.alloc(), MASK, &bytes[1..]);
+    assert!(rt; longest.outcome == Ok(false));
+    assert!(rt; longest.printed.as_slice() == b"fault usage\n".as_slice());
+    let longer = run_session(rt.alloc(), MASK, b"umask 000\n".chain(bytes.as_slice()));
+    assert!(rt; longer.outcome == Err(ClientFault::Line(2)));
+    assert!(rt; longer.printed.as_slice() == b"mask 022\n".as_slice());
+    Ok(())
 }
 
 /// A name that has no frame is a fault of its command, and nothing of it is sent.

@@ -1,3 +1,5 @@
 pub mod Greeting
 pub mod StreamLemmas
+pub mod TalkLemmas
+pub mod CommandLemmas
 pub mod EndLemmas

@@ -1,15 +1,15 @@
 -- Bytes that come later change nothing of the answers before them.
-use Rattle.std.proofs.Common.{ℕ, zero, suc, Bool, List, [], ◌++◌, sym, ap, subst, append_assoc, append-nil, inl, inr}
+use Rattle.std.proofs.Common.{ℕ, zero, suc, List, [], ◌++◌, sym, ap, subst, append_assoc, append-nil}
 use Rattle.std.proofs.KnownBytes.{Consumes-nil, Consumes-trans}
 use Rattle.ipc_terms.specs.declared.call.Answer.{Answer}
 use Rattle.ipc_fields.proofs.FrontLemmas.{front_grow}
 use Rattle.ipc_wire.specs.Answers.{answer_at}
 use Rattle.ipc_client.specs.Connections.{Incoming, IsNext, Reads}
-use Rattle.ipc_client.specs.Sessions.{AreNotices, CommandEnds, CommandsEnd, HelloEnds, IsAnswered, NoticesStand, SoManyEnd}
+use Rattle.ipc_client.specs.Dialogues.{AreNotices, IsAnswered, NoticesStand}
 
--- what holds of bytes and of their rest, and then of the rest
-abbrev pub Then : (List ℕ → List ℕ → Type 0) → (List ℕ → List ℕ → Type 0) → List ℕ → List ℕ → Type 0
-Then P Q bytes rest = (between : List ℕ) × P bytes between × Q between rest
+-- first this, and then that
+abbrev pub ReadThen : (List ℕ → List ℕ → Type 0) → (List ℕ → List ℕ → Type 0) → List ℕ → List ℕ → Type 0
+ReadThen P Q bytes rest = (between : List ℕ) × P bytes between × Q between rest
 
 -- it holds also where more follows
 abbrev pub IsOpen : (List ℕ → List ℕ → Type 0) → Type 0
@@ -29,27 +29,12 @@ notices_open bytes rest more (n, stand) = (n, so_many_notices_open n bytes rest 
 pub answered_open : (answer : Answer) → IsOpen (IsAnswered answer)
 answered_open answer bytes rest more (between, notices, next, is) = (between ++ more, notices_open bytes between more notices, next_open answer between rest more next, is)
 
-pub hello_open : (has_started : Bool) → IsOpen (HelloEnds has_started)
-hello_open has_started bytes rest more (answer, answered, is) = (answer, answered_open answer bytes rest more answered, is)
-
-pub command_open : (words : List (List ℕ)) (is_done : Bool) → IsOpen (CommandEnds words is_done)
-command_open words is_done bytes rest more (inl (frame, answer, spelled, answered, is)) = inl (frame, answer, spelled, answered_open answer bytes rest more answered, is)
-command_open words is_done bytes rest more (inr (fault, at_fault, e, is)) = inr (fault, at_fault, ap (λ (b : List ℕ). b ++ more) e, is)
-
-so_many_open : (n : ℕ) (all_are_done : Bool) → IsOpen (SoManyEnd n all_are_done)
-unfolding SoManyEnd
-so_many_open zero all_are_done bytes rest more (is, e) = (is, ap (λ (b : List ℕ). b ++ more) e)
-so_many_open (suc n) all_are_done bytes rest more (words, earlier_are_done, is_done, between, earlier, ends, is) = (words, earlier_are_done, is_done, between ++ more, so_many_open n earlier_are_done bytes between more earlier, command_open words is_done between rest more ends, is)
-
-pub commands_open : (all_are_done : Bool) → IsOpen (CommandsEnd all_are_done)
-commands_open all_are_done bytes rest more (n, end) = (n, so_many_open n all_are_done bytes rest more end)
-
 -- ---- reading one after another
 
 pub read_nothing : (P : List ℕ → List ℕ → Type 0) (i : Incoming) → P i.waiting i.waiting → Reads P i i
 read_nothing P i holds = ([], Consumes-nil i.unread, subst (λ (bytes : List ℕ). P bytes i.waiting) (sym (append-nil i.waiting)) holds)
 
-pub read_then : (P Q : List ℕ → List ℕ → Type 0) → IsOpen P → (a b c : Incoming) → Reads P a b → Reads Q b c → Reads (Then P Q) a c
+pub read_then : (P Q : List ℕ → List ℕ → Type 0) → IsOpen P → (a b c : Incoming) → Reads P a b → Reads Q b c → Reads (ReadThen P Q) a c
 read_then P Q more a b c (first, given, p) (second, given_then, q) = (
   first ++ second,
   Consumes-trans a.unread b.unread c.unread first second given given_then,

@@ -9,15 +9,15 @@ use Rattle.ipc_client.specs.declared.fault.ClientFault.{ClientFault}
 use Rattle.ipc_client.specs.declared.fault.ClientFault.TheVariants.{Net, Memory}
 
 -- how many more reads are made at most
-abbrev pub reads_left : {R W : Type 0} → Connection R W → ℕ
+abbrev pub reads_left : {R : Type 0} → Connection R → ℕ
 reads_left connection = connection.left
 
 -- the bytes that came and are not yet read as answers
-abbrev pub waiting : {R W : Type 0} → Connection R W → List ℕ
+abbrev pub waiting : {R : Type 0} → Connection R → List ℕ
 waiting connection = connection.waiting.items
 
 -- the bytes that the reader gives from here on, where they are known
-abbrev pub unread : {R W : Type 0} → (R → Option (List ℕ)) → Connection R W → Option (List ℕ)
+abbrev pub unread : {R : Type 0} → (R → Option (List ℕ)) → Connection R → Option (List ℕ)
 unread remaining connection = remaining connection.reader
 
 -- what a connection has to give
@@ -25,7 +25,7 @@ pub record Incoming : Type 0 where
   pub waiting : List ℕ
   pub unread : Option (List ℕ)
 
-abbrev pub incoming : {R W : Type 0} → (R → Option (List ℕ)) → Connection R W → Incoming
+abbrev pub incoming : {R : Type 0} → (R → Option (List ℕ)) → Connection R → Incoming
 incoming remaining connection = record { waiting = waiting connection; unread = unread remaining connection }
 
 -- nothing came yet of what is given

@@ -1,6 +1,7 @@
-//! A connection to the server, over a bounded number of reads.
+//! What comes from the server, over a bounded number of reads, and what is sent to it.
 
 ghost use Rattle.std.specs.Prelude.{◌≡◌, ◌+◌, IfErr, IfOk, OnOk};
+ghost use Rattle.std.specs.Io.KnownBytes.{Appends};
 ghost use Rattle.std.specs.IoError.{error_kind};
 ghost use Rattle.ipc_client.specs.Faults.{IsOfConnection, of_connection};
 ghost use Rattle.ipc_client.specs.Connections.{IsNext, Reads, Takes, TakesNone, incoming, new_incoming, reads_left, unread, waiting};
@@ -18,11 +19,10 @@ const MOST_READS: u64 = 1_000_000_000;
 /// How many bytes a read asks for.
 const PIECE: usize = 8_192;
 
-/// A connection. Its answers come in the order of their frames.
+/// What comes over a connection. Its answers come in the order of their frames.
 #[derive(Drop)]
-pub(crate) struct Connection<R: Read + Drop, W: Write + Drop> {
+pub(crate) struct Connection<R: Read + Drop> {
     reader: R,
-    writer: W,
     /// The bytes that came and are not yet read as answers.
     waiting: Vec<u8>,
     /// What the next read fills.
@@ -31,28 +31,18 @@ pub(crate) struct Connection<R: Read + Drop, W: Write + Drop> {
     left: u64,
 }
 
-impl<R: Read + Drop, W: Write + Drop> Connection<R, W> {
-    /// Reads and writes nothing yet.
-    pub(crate) fn new(alloc: Global, reader: R, writer: W) -> Result<Self, NoMemory>
+impl<R: Read + Drop> Connection<R> {
+    /// Reads nothing yet.
+    pub(crate) fn new(alloc: Global, reader: R) -> Result<Self, NoMemory>
         ensures bounded { IfOk result (λ connection. reads_left connection ≡ 1000000000) }
         ensures new { IfOk result (λ connection. incoming R.remaining connection ≡ new_incoming (R.remaining reader)) }
     {
         Ok(Connection {
             reader,
-            writer,
             waiting: Vec::new(alloc),
             piece: Vec::from_elem(alloc, 0, PIECE)?,
             left: MOST_READS,
         })
-    }
-
-    /// Writes a request's frame.
-    pub(crate) fn send(&mut self, frame: &[u8]) -> Result<(), ClientFault>
-        ensures kept { incoming R.remaining self.new ≡ incoming R.remaining self.old }
-        ensures fault { IfErr result IsOfConnection }
-    {
-        self.writer.write_all(frame).map_err(fault_of_connection)?;
-        self.writer.flush().map_err(fault_of_connection)
     }
 
     /// The next answer, which is waited for. What came behind it is kept.
@@ -106,6 +96,16 @@ impl<R: Read + Drop, W: Write + Drop> Connection<R, W> {
             Err(error) => Err(fault_of_connection(error)),
         }
     }
+}
+
+/// Writes a request's frame.
+pub(crate) fn send<W: Write>(writer: &mut W, frame: &[u8]) -> Result<(), ClientFault>
+    ensures sent { OnOk result (Appends (W.contents writer.old) (W.contents writer.new) frame.now) }
+    ensures fault { IfErr result IsOfConnection }
+{
+    writer.write_all(frame).map_err(fault_of_connection)?;
+    writer.flush().map_err(fault_of_connection)?;
+    Ok(())
 }
 
 /// Want of memory is `Memory`, and every other error of the connection `Net`.

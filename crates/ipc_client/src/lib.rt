@@ -1,13 +1,17 @@
 //! The client's work: commands as request frames, and sessions over a connection.
 #![tactic(auto)]
 
+mod acts;
 mod connection;
 mod encode;
 mod fault;
 mod frame;
+mod key;
+mod listing;
 mod session;
 
 pub use encode::encode_lines;
 pub use fault::{ClientFault, ProgramFault};
 pub use frame::frame_of_words;
+pub use key::key_in;
 pub use session::{LONGEST_KEY, client_session};

@@ -42,18 +42,25 @@ fn talk_as(
 fn talk_over<R: Read + Drop, W: Write + Drop>(
     rt: &HostRuntime,
     reader: R,
-    writer: W,
+    mut writer: W,
     key: &[u8],
     command: &[String],
 ) -> Result<bool, ClientFault>
     requires short_key { length key.now ≤ 65535 }
 {
     if command.is_empty() {
-        return client_session(rt.alloc(), key, reader, writer, rt.stdin(), rt.stdout());
+        return client_session(
+            rt.alloc(),
+            key,
+            reader,
+            &mut writer,
+            rt.stdin(),
+            rt.stdout(),
+        );
     }
     let line = line_of(rt.alloc(), command)?;
     let commands = line.as_str().as_bytes();
-    client_session(rt.alloc(), key, reader, writer, commands, rt.stdout())
+    client_session(rt.alloc(), key, reader, &mut writer, commands, rt.stdout())
 }
 
 /// The words as one line, parted by single spaces.

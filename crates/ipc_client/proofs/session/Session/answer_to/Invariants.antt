@@ -1,5 +1,5 @@
 use Rattle.ipc_client.specs.Connections.{Reads}
-use Rattle.ipc_client.specs.Sessions.{AreNotices, incoming_of}
+use Rattle.ipc_client.specs.Dialogues.{AreNotices, incoming_of}
 use Rattle.ipc_client.proofs.session.Session.answer_to.Given as goal
 
 -- nothing but notices came so far

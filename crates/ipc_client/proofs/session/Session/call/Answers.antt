@@ -1,9 +1,10 @@
-use Rattle.std.proofs.Common.{ℕ, List, map, not, ap, Bor}
-use Rattle.ipc_client.specs.Sessions.{incoming_of}
-use Rattle.ipc_client.proofs.EndLemmas.{command_answered}
+use Rattle.std.proofs.Common.{ℕ, List, map, ap, ◌∙◌, Bor}
+use Rattle.ipc_client.specs.Dialogues.{bytes_of, incoming_of, last_after, link}
+use Rattle.ipc_client.proofs.CommandLemmas.{called}
 use Rattle.ipc_client.proofs.session.Session.call.Goals as goal
 
-pub returns-in_ok-write_answer-in-Ok : goal.returns-in_ok-write_answer-in-Ok
-returns-in_ok-write_answer-in-Ok g c =
+pub returns : goal.returns
+returns g c =
     let words : List (List ℕ) = map (λ (w : Bor (List ℕ)). w.now) c.args.words.now in
-    command_answered words c.in-Ok.frame.items (incoming_of g.R.Read.remaining c.args.self.now) (incoming_of g.R.Read.remaining c.answer_to.new.self) (incoming_of g.R.Read.remaining c.write_answer.new.self) c.in_ok-answer-in-Ok.answer (not c.is_refusal.result) c.in-Ok.ensures.spelled c.in_ok-answer-in-Ok.ensures c.write_answer.ensures (ap not c.is_refusal.ensures)
+    called c.args.last.now c.last_after.result words (bytes_of c.frame_of_command-frame.result) c.in_ok-outcome.outcome (link g.R.Read.remaining g.W.Write.contents c.args.self.now c.args.writer.now) (link g.R.Read.remaining g.W.Write.contents c.ask.new.self c.ask.new.writer) (incoming_of g.R.Read.remaining c.show.new.self) c.show.result
+    c.frame_of_command-frame.ensures c.in_ok-outcome.ensures c.show.ensures.kept (c.last_after.ensures ∙ ap (λ o. last_after o c.args.last.now) c.opened_by.ensures) c.show.ensures.done
