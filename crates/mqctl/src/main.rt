@@ -1,15 +1,17 @@
 //! The client's program. `mqctl` without arguments reads commands from standard input, one a line, and writes the
-//! frames of their requests to standard output. `mqctl ADDRESS KEY` sends them to a server and writes its answers;
-//! words behind the key are the only command.
+//! frames of their requests to standard output. `mqctl ADDRESS KEY` does what they ask for at a server, and writes its
+//! answers; words behind the key are the only command. `mqctl --key-file FILE ADDRESS` reads the key from a file.
 #![tactic(auto)]
 
 mod calls;
 mod connection;
 mod guidance;
+mod keys;
 
 use calls::talk;
 use guidance::help_text;
 use ipc_client::{ClientFault, ProgramFault, encode_lines};
+use keys::{key_in_environment, key_in_file};
 use std::env;
 use std::io::ErrorKind;
 use std::process::ExitCode;
@@ -32,8 +34,24 @@ fn run(rt: &HostRuntime) -> Result<bool, ProgramFault> {
     match words.as_slice() {
         [] | [_] => Ok(encode_lines(rt.alloc(), rt.stdin(), rt.stdout())?),
         [_, word] if word.as_str() == "--help" => show_help(rt),
-        [_, _] => Err(ProgramFault::Arguments),
+        [_, option, rest @ ..] if option.as_str() == "--key-file" => talk_by_file(rt, rest),
+        [_, address, key, command @ ..] if key.as_str() == "-" => {
+            let key = key_in_environment(rt)?;
+            talk(rt, address.as_str(), key.as_str(), command)
+        }
         [_, address, key, command @ ..] => talk(rt, address.as_str(), key.as_str(), command),
+        _ => Err(ProgramFault::Arguments),
+    }
+}
+
+/// Speaks with the key of a file, by the words behind `--key-file`.
+fn talk_by_file(rt: &HostRuntime, words: &[String]) -> Result<bool, ProgramFault> {
+    match words {
+        [file, address, command @ ..] => {
+            let key = key_in_file(rt, file.as_str())?;
+            talk(rt, address.as_str(), key.as_str(), command)
+        }
+        _ => Err(ProgramFault::Arguments),
     }
 }
 
