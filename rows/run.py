@@ -76,6 +76,7 @@ def made_cases():
     told = b"serving ADDRESS\nserved 2\nopened 0\nrefused 8 EBADF BadDescr\n"
     calls_of_two = ([b"ka1", b"mq-open", b"/jobs", b"rw", b"--create"], [b"r00t", b"mq-getattr", b"0"])
     yield Case("mqserve a server with two clients", "mqserve", two, b"", told, clients=calls_of_two)
+    yield by_name_case()
     yield Case("mqserve an argument that is not UTF-8", "mqserve", [b"\xff"], b"", b"", b"error: an argument is not UTF-8\n", 2)
     yield Case("mqctl 100,000 commands", "mqctl", [], b"interrupt\n" * calls, b"0000000117\n" * calls)
     yield Case("mqctl the longest line", "mqctl", [], comment, b"fault usage\n", b"", 1)
@@ -84,6 +85,17 @@ def made_cases():
     yield Case("mqctl a reader that fails", "mqctl", [], TOP, b"", b"mqctl: read\n", 4)
     yield Case("mqctl a writer that fails", "mqctl", [], b"interrupt\n", b"", b"mqctl: write\n", 4, "/dev/full")
     yield from served_cases()
+
+
+def by_name_case():
+    """A message and a post pass between clients that each open by name."""
+    making = ([b"ka1", b"mq-open", b"/jobs", b"rw", b"--create"], [b"ka1", b"sem-open", b"/done", b"--create"])
+    using = ([b"ka1", b"send", b"/jobs", b"5", b"hello"], [b"ka1", b"post", b"/done"], [b"ka1", b"list"])
+    taking = ([b"r00t", b"receive", b"/jobs"], [b"r00t", b"wait", b"/done"], [b"r00t", b"send", b"/none", b"5", b"hello"])
+    eight = [b"serve", b"rows/mqserve/two.users", b"ADDRESS", b"--stop-after", b"8"]
+    told = b"serving ADDRESS\nserved 8\nopened 0\nopened 1\nsent\ndone\n"
+    told += b"mq /jobs 1000 1000 0600 1\nsem /done 1000 1000 0600 1\nreceived 5 hello\ndone\nrefused 13 ENOENT Absent\n"
+    return Case("mqctl by name", "mqserve", eight, b"", told, clients=(*making, *using, *taking))
 
 
 def frame(body):
@@ -101,6 +113,10 @@ def served_cases():
     yield Case("mqctl a server that leaves", "mqctl", [b"ka1"], lines, b"mask 022\n", b"mqctl: net\n", 4, "", started + mask, twice)
     gone = b"refused 31 EACCES BadKey\n"
     yield Case("mqctl a refused hello", "mqctl", [b"ka1"], lines, gone, b"", 1, "", frame(b"\x4c\0\x1f"), hello)
+    opened, done = frame(b"\x43" + bytes(8)), frame(b"\x42")
+    post = hello + frame(b"\x0b\0\2/s\0\1\x80" + bytes(4)) + frame(b"\x0e" + bytes(8)) + frame(b"\x0c" + bytes(8))
+    words = [b"ka1", b"post", b"/s"]
+    yield Case("mqctl a post by name", "mqctl", words, b"", b"done\n", b"", 0, "", started + opened + done + done, post)
     feed = [b"ka1", b"umask\n000"]
     yield Case("mqctl a word with a line feed", "mqctl", [b"127.0.0.1:1", *feed], b"", b"", b"mqctl: arguments\n", 2)
 
