@@ -1,19 +1,26 @@
-.PHONY: demo build install uninstall test rows ways docs exhaust clients clients-test conformance
+.PHONY: demo run build install uninstall test rows ways docs exhaust clients clients-test conformance
 
 PREFIX = /usr/local
 
-PROGRAMS = crates/mqserve/out/mqserve crates/mqctl/out/mqctl
+# Whom `make run` serves, and where.
+USERS = demo/users
+ADDRESS = 127.0.0.1:7000
 
-# A server on loopback and two clients, over the built programs: under a second. Where they are missing they are proved
-# and built first, which takes some 40 minutes on four cores.
-demo: $(PROGRAMS)
+# How many crates `make build` proves at a time. A proof takes up to 3 GB of memory.
+JOBS = 4
+
+# A server on loopback and two clients: under a second over proved programs. Where none stand, `rt try` first builds unproved
+# ones, which takes some two minutes and is done once.
+demo:
 	@demo/run.py
 
-$(PROGRAMS):
-	@$(MAKE) --no-print-directory build
+# A server of one's own, over the same programs: make run USERS=FILE ADDRESS=HOST:PORT. Ctrl-C ends it.
+run:
+	@tools/programs.py serve $(USERS) $(ADDRESS)
 
-# Proves the programs and the crates below them, and builds them.
+# Proves every crate but tests and wrong bodies, and builds the two programs.
 build:
+	@rt all check --jobs $(JOBS)
 	@cd crates/mqserve && rt run -- --version
 	@cd crates/mqctl && rt run < /dev/null
 

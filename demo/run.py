@@ -1,16 +1,16 @@
 #!/usr/bin/env python3
 """Starts a server on loopback and two clients, and prints what each client wrote and got. Ends by itself.
 
-The programs have to be built: `make demo` sees to that."""
+Where no proved programs stand, it builds unproved ones first."""
 
 import pathlib
-import socket
 import subprocess
 import sys
 
 ROOT = pathlib.Path(__file__).resolve().parent.parent
-SERVER = ROOT / "crates/mqserve/out/mqserve"
-CLIENT = ROOT / "crates/mqctl/out/mqctl"
+sys.path.insert(0, str(ROOT / "tools"))
+from programs import free_port, programs
+
 USERS = "demo/users"
 
 # Who writes what, and who gets an answer next. None where the call parks.
@@ -22,12 +22,6 @@ STEPS = [
     ("ann", "mq-send 0 5 build-7", ["ann", "bob"]),
     ("bob", "mq-unlink /jobs", ["bob"]),
 ]
-
-
-def free_port():
-    with socket.socket() as probe:
-        probe.bind(("127.0.0.1", 0))
-        return probe.getsockname()[1]
 
 
 def start(*words):
@@ -46,13 +40,18 @@ def play(clients):
 
 
 def main():
+    try:
+        found = programs()
+    except OSError as fault:
+        print(fault, file=sys.stderr)
+        return 1
     address = f"127.0.0.1:{free_port()}"
     print(f"$ mqserve serve {USERS} {address} --stop-after 2")
-    server = start(SERVER, "serve", USERS, address, "--stop-after", "2")
+    server = start(found["mqserve"], "serve", USERS, address, "--stop-after", "2")
     if not server.stdout.readline():
         return server.wait()
     print(f"$ mqctl {address} ka1        # ann\n$ mqctl {address} kb1        # bob")
-    clients = {"ann": start(CLIENT, address, "ka1"), "bob": start(CLIENT, address, "kb1")}
+    clients = {"ann": start(found["mqctl"], address, "ka1"), "bob": start(found["mqctl"], address, "kb1")}
     try:
         play(clients)
         for client in clients.values():
