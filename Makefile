@@ -1,4 +1,4 @@
-.PHONY: demo run build install uninstall test rows ways docs exhaust clients clients-test conformance
+.PHONY: demo run quick build install uninstall test rows ways docs exhaust clients clients-test conformance
 
 PREFIX = /usr/local
 
@@ -17,6 +17,11 @@ demo:
 # A server of one's own, over the same programs: make run USERS=FILE ADDRESS=HOST:PORT. Ctrl-C ends it.
 run:
 	@tools/programs.py serve $(USERS) $(ADDRESS)
+
+# Tells in minutes whether a change is good, without proof. With CRATE=NAME it proves that crate too, and runs only the tests
+# that stand on it.
+quick:
+	@tools/quick.py $(CRATE)
 
 # Proves every crate but tests and wrong bodies, and builds the two programs.
 build:

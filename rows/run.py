@@ -2,11 +2,15 @@
 """Runs the built programs over inputs whose outcome is known, and compares standard output, standard error and exit
 status with it. Prints a line for each case and a last line with the counts; the status is 1 where one differs.
 
+The programs are looked for in crates/NAME/out; `--programs FOLDER` gives another folder. `--calls N` makes the long inputs
+shorter, for programs that are built with checks.
+
 A case is NAME.in in one of the folders of FOLDERS, beside NAME.args (one argument a line), NAME.out, NAME.err and
 NAME.status; what is missing is empty, and the status 0. It is run in that folder. Other cases are made below, where a
 file can't show them.
 """
 
+import argparse
 import dataclasses
 import os
 import pathlib
@@ -44,6 +48,8 @@ class Case:
     folder: pathlib.Path = TOP
     # The words of clients that speak in turn to the server that this is, at ADDRESS. What they print comes last.
     clients: tuple = ()
+    # The folder of the programs, where it isn't that of builds.
+    programs: pathlib.Path = None
 
 
 def cases_of(folder, program):
@@ -61,10 +67,9 @@ def cases_of(folder, program):
         )
 
 
-def made_cases():
-    """What no file shows: long inputs, and ends that fail."""
-    calls = 100_000
-    yield Case("mqserve 100,000 steps", "mqserve", [], USERS + b"a umask 022\n" * calls, STARTED + b"a mask 022\n" * calls)
+def made_cases(calls):
+    """What no file shows: long inputs of so many calls, and ends that fail."""
+    yield Case(f"mqserve {calls:,} steps", "mqserve", [], USERS + b"a umask 022\n" * calls, STARTED + b"a mask 022\n" * calls)
     comment = b"#" + b"x" * 1_048_575 + b"\n"
     yield Case("mqserve the longest line", "mqserve", [], USERS + comment, STARTED)
     yield Case("mqserve a longer line", "mqserve", [], USERS + b"#" + comment, STARTED, b"mqserve: line 4\n", 6)
@@ -78,7 +83,7 @@ def made_cases():
     yield Case("mqserve a server with two clients", "mqserve", two, b"", told, clients=calls_of_two)
     yield by_name_case()
     yield Case("mqserve an argument that is not UTF-8", "mqserve", [b"\xff"], b"", b"", b"error: an argument is not UTF-8\n", 2)
-    yield Case("mqctl 100,000 commands", "mqctl", [], b"interrupt\n" * calls, b"0000000117\n" * calls)
+    yield Case(f"mqctl {calls:,} commands", "mqctl", [], b"interrupt\n" * calls, b"0000000117\n" * calls)
     yield Case("mqctl the longest line", "mqctl", [], comment, b"fault usage\n", b"", 1)
     yield Case("mqctl a longer line", "mqctl", [], b"interrupt\n#" + comment, b"0000000117\n", b"mqctl: line 2\n", 6)
     yield Case("mqctl a line that is not UTF-8", "mqctl", [], b"\xff\n", b"", b"mqctl: line 1\n", 6)
@@ -160,7 +165,7 @@ def run_with_clients(case):
     with subprocess.Popen(command, stdout=subprocess.PIPE, stderr=subprocess.PIPE, cwd=case.folder) as server:
         try:
             serving = server.stdout.readline()
-            shown = [run(Case("", "mqctl", [address, *words], b""))[0] for words in case.clients]
+            shown = [run(Case("", "mqctl", [address, *words], b"", programs=case.programs))[0] for words in case.clients]
             served, err = server.communicate(timeout=SECONDS)
         finally:
             server.kill()
@@ -168,7 +173,8 @@ def run_with_clients(case):
 
 
 def command_of(case):
-    return [os.fsencode(TOP / "crates" / case.program / "out" / case.program), *case.arguments]
+    folder = case.programs or TOP / "crates" / case.program / "out"
+    return [os.fsencode(folder / case.program), *case.arguments]
 
 
 def run(case):
@@ -212,11 +218,16 @@ def judged(case):
 
 
 def main():
+    parser = argparse.ArgumentParser(description="Runs the programs over inputs whose outcome is known.")
+    parser.add_argument("--programs", type=pathlib.Path, metavar="FOLDER", help="where the programs are")
+    parser.add_argument("--calls", type=int, default=100_000, metavar="N", help="how many calls the long inputs have")
+    asked = parser.parse_args()
+    programs = asked.programs and asked.programs.resolve()
     cases = [case for folder, program in FOLDERS.items() for case in cases_of(folder, program)]
-    cases += [readme_case(), *made_cases()]
+    cases += [readme_case(), *made_cases(asked.calls)]
     failed = 0
     for case in cases:
-        difference = judged(case)
+        difference = judged(dataclasses.replace(case, programs=programs))
         failed += bool(difference)
         print(f"{case.name}: {difference or 'as written'}", flush=True)
     print(f"{len(cases) - failed} as written, {failed} not")
