@@ -82,16 +82,19 @@ def keep_program(name, words, connection_now, to):
                 connection = connection_now()
                 if connection:
                     with connection:
-                        programs_there = [file for file in pathlib.Path(room).rglob("*") if is_program(file)]
-                        shutil.copyfile(programs_there[0], to)
+                        shutil.copyfile(program_in(room), to)
                         return
                 time.sleep(0.2)
         said.seek(0)
         raise OSError(f"`rt try` built no {name} (status {tried.returncode}):\n{said.read().decode(errors='replace')}")
 
 
-def is_program(file):
-    return file.is_file() and file.stat().st_mode & 0o100
+def program_in(room):
+    """The one file of this folder that may be executed."""
+    for file in pathlib.Path(room).rglob("*"):
+        if file.is_file() and file.stat().st_mode & 0o100:
+            return file
+    raise OSError("`rt try` runs a program that isn't in its folder")
 
 
 def build(name):

@@ -22,8 +22,8 @@ use Rattle.ipc_book.specs.contracts.seat.Seat as seat
 use Rattle.ipc_book.proofs.seat.Seat.TheSendSync as seats
 use Rattle.ipc_server.specs.contracts.workers.Crew as crew
 
-pub desk_sync : (a : NamedLft) (L B G : RattleType) (l : Ghosts L.Denot) (b : Origins B.Denot) → IsSend L → IsSync L → IsSend B → IsSync B → IsSync G → IsSync (desk.the_row a L B G l b)
-desk_sync a L B G l b sl yl sb yb yg = search (sendable, shared_sync, chair.the_sync, arc.the_sync, bell.the_send, bell.the_sync, global.the_send, global.the_sync, globals.the_frees) depth 20
+pub desk_sync : (a : NamedLft) (L B G J : RattleType) (l : Ghosts L.Denot) (b : Origins B.Denot) → IsSend L → IsSync L → IsSend B → IsSync B → IsSync G → IsSync J → IsSync (desk.the_row a L B G J l b)
+desk_sync a L B G J l b sl yl sb yb yg yj = search (sendable, shared_sync, chair.the_sync, arc.the_sync, bell.the_send, bell.the_sync, global.the_send, global.the_sync, globals.the_frees) depth 20
 
 -- what a closure holds that borrows two values and owns a third: it may go to another thread if the two may be shared, and the third may go
 pub borrows_send : (ν : Sym) (ℓ ℓ' : Lifetime) (κ κ' : Lft) (R S O : RattleType) → IsSync R → IsSync S → IsSend O → IsSend (TupleAt ν (ShrRef ℓ κ R ∷ ShrRef ℓ' κ' S ∷ O ∷ []))
@@ -35,5 +35,5 @@ pub seat_send : (L : RattleType) (l : Ghosts L.Denot) → IsSend L → IsSend (s
 seat_send L l sl = search (sendable, seats.the_send) depth 20
 
 -- what workers share
-pub crew_sync : (a : NamedLft) (L C G : RattleType) (l : Ghosts L.Denot) → IsSend L → IsSync L → IsSend C → IsSync G → IsSync (crew.the_row a L C G l)
-crew_sync a L C G l sl yl sc yg = search (sendable, shared_sync, receiver.the_sync, global.the_send, global.the_sync, globals.the_frees) depth 20
+pub crew_sync : (a : NamedLft) (L C G J : RattleType) (l : Ghosts L.Denot) → IsSend L → IsSync L → IsSend C → IsSync G → IsSync J → IsSync (crew.the_row a L C G J l)
+crew_sync a L C G J l sl yl sc yg yj = search (sendable, shared_sync, receiver.the_sync, global.the_send, global.the_sync, globals.the_frees) depth 20

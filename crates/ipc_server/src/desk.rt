@@ -28,16 +28,17 @@ pub(crate) struct Chair<L: Ledger, B: Origin> {
 }
 
 #[derive(Drop)]
-pub(crate) struct Desk<'a, L: Ledger, B: Origin, G> {
+pub(crate) struct Desk<'a, L: Ledger, B: Origin, G, J> {
     pub(crate) shared: &'a Shared<L>,
     pub(crate) chair: &'a Chair<L, B>,
     pub(crate) bell: &'a Arc<Bell, Global>,
     pub(crate) gate: &'a G,
+    pub(crate) journal: &'a J,
     pub(crate) conn: u64,
     pub(crate) alloc: Global,
 }
 
-impl<L: Ledger, B: Origin, G> Desk<'_, L, B, G> {
+impl<L: Ledger, B: Origin, G, J> Desk<'_, L, B, G, J> {
     /// Tells the writer that nothing more is stepped.
     pub(crate) fn finish<R: Wait>(&self, rt: &R) {
         self.chair.place.lock(rt).is_over = true;

@@ -4,7 +4,7 @@ ghost use Rattle.std.specs.Io.{ReadsAtMost, WritesAtMost};
 
 use std::io;
 use std::io::{Read, Write};
-use std::net::{TcpListener, TcpStream};
+use std::net::{SocketAddr, TcpListener, TcpStream};
 use std::os::unix::net::{UnixListener, UnixStream};
 
 /// A connection whose two ends are used by two threads at once.
@@ -16,6 +16,11 @@ pub trait Link {
     /// As `Write::write`: how many of the bytes were written.
     fn write(&self, bytes: &[u8]) -> io::Result<usize>
         ensures bound { WritesAtMost result bytes.now };
+
+    /// Who is at the other end, where that is known.
+    fn peer(&self) -> Option<SocketAddr> {
+        None
+    }
 }
 
 /// What gives connections, one after the other.
@@ -35,6 +40,10 @@ impl Link for TcpStream {
     fn write(&self, bytes: &[u8]) -> io::Result<usize> {
         let mut stream = self;
         Write::write(&mut stream, bytes)
+    }
+
+    fn peer(&self) -> Option<SocketAddr> {
+        self.peer_addr().ok()
     }
 }
 

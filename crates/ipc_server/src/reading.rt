@@ -4,6 +4,7 @@ use crate::desk::Desk;
 use crate::ending::Ending;
 use crate::gate::Gate;
 use crate::held::Origin;
+use crate::journal::Journal;
 use ipc_book::{OfferFault, StepFault};
 use ipc_terms::{Answer, Call, NoMemory, Rule};
 use ipc_wire::{Frames, Request};
@@ -21,9 +22,9 @@ const MOST_UNTAKEN: usize = 256;
 const MOST_TRIES: u32 = 100;
 
 /// Reads and steps until the connection ends, and says why it does.
-pub(crate) fn read_and_step<L: Ledger, B: Origin, R: Wait, I: Read + Drop, G: Gate>(
+pub(crate) fn read_and_step<L: Ledger, B: Origin, R: Wait, I: Read + Drop, G: Gate, J: Journal>(
     rt: &R,
-    desk: &Desk<'_, L, B, G>,
+    desk: &Desk<'_, L, B, G, J>,
     mut reader: I,
 ) -> Ending {
     let Ok(mut buffer) = vec![in desk.alloc; 0u8; PIECE] else {
@@ -49,9 +50,9 @@ pub(crate) fn read_and_step<L: Ledger, B: Origin, R: Wait, I: Read + Drop, G: Ga
 }
 
 /// Steps the requests that a piece of the stream completes. None where the connection goes on.
-fn step_piece<L: Ledger, B: Origin, R: Wait, G: Gate>(
+fn step_piece<L: Ledger, B: Origin, R: Wait, G: Gate, J: Journal>(
     rt: &R,
-    desk: &Desk<'_, L, B, G>,
+    desk: &Desk<'_, L, B, G, J>,
     frames: &mut Frames,
     piece: &[u8],
 ) -> Option<Ending> {
@@ -73,10 +74,23 @@ fn step_piece<L: Ledger, B: Origin, R: Wait, G: Gate>(
     frames.fault().map(Ending::Wire)
 }
 
-/// Steps the hello. Whoever's step answers the session from now on rings for its writer.
-fn greet<L: Ledger, B: Origin, R: Wait, G: Gate>(
+/// Steps the hello, and tells the journal where it was accepted.
+fn greet<L: Ledger, B: Origin, R: Wait, G: Gate, J: Journal>(
     rt: &R,
-    desk: &Desk<'_, L, B, G>,
+    desk: &Desk<'_, L, B, G, J>,
+    key: &[u8],
+) -> Option<Ending> {
+    let ending = hello(rt, desk, key);
+    if ending.is_none() {
+        desk.journal.greeted(desk.conn, key);
+    }
+    ending
+}
+
+/// Steps the hello. Whoever's step answers the session from now on rings for its writer.
+fn hello<L: Ledger, B: Origin, R: Wait, G: Gate, J: Journal>(
+    rt: &R,
+    desk: &Desk<'_, L, B, G, J>,
     key: &[u8],
 ) -> Option<Ending> {
     let mut place = desk.chair.place.lock(rt);
@@ -100,9 +114,9 @@ fn greet<L: Ledger, B: Origin, R: Wait, G: Gate>(
 }
 
 /// Steps a call, once there is room for its answers.
-fn step<L: Ledger, B: Origin, R: Wait, G: Gate>(
+fn step<L: Ledger, B: Origin, R: Wait, G: Gate, J: Journal>(
     rt: &R,
-    desk: &Desk<'_, L, B, G>,
+    desk: &Desk<'_, L, B, G, J>,
     call: Call,
 ) -> Option<Ending> {
     let mut call = call;

@@ -8,6 +8,7 @@ use crate::desk::{Chair, Desk, Place};
 use crate::ending::{Ending, Served};
 use crate::gate::Gate;
 use crate::held::{Held, Origin};
+use crate::journal::{Journal, NoJournal};
 use crate::reading::read_and_step;
 use crate::writing::write_answers;
 use ipc_book::{Bell, Seat, Shared, StepFault};
@@ -49,23 +50,42 @@ pub fn serve_connection<
     let connection = Connection {
         shared,
         gate,
+        journal: &NoJournal,
         conn,
         alloc,
         reader,
         writer,
     };
-    serve_from::<L, Brand, R, I, O, G>(rt, connection, seat)
+    serve_told(rt, connection, seat)
+}
+
+/// Does the same, and tells the journal of it.
+pub(crate) fn serve_told<
+    L: Ledger + Send + Sync,
+    R: Threads + Wait + Sync,
+    I: Read + Drop,
+    O: Write + Send + Drop,
+    G: Gate + Sync,
+    J: Journal + Sync,
+>(rt: &R, connection: Connection<'_, L, G, J, I, O>, seat: Seat<L>) -> Served<L>
+    requires { seat.sid ≡ None }
+    ensures kept { BeginsWith seat.list result.seat.list }
+    ensures hung_up { result.ending ≢ StillLive → result.seat.sid ≡ None }
+{
+    serve_from::<L, Brand, R, I, O, G, J>(rt, connection, seat)
 }
 
 /// A connection, and what it is served with.
 #[derive(Drop)]
-struct Connection<'a, L: Ledger, G, I, O> {
-    shared: &'a Shared<L>,
-    gate: &'a G,
-    conn: u64,
-    alloc: Global,
-    reader: I,
-    writer: O,
+pub(crate) struct Connection<'a, L: Ledger, G, J, I, O> {
+    pub(crate) shared: &'a Shared<L>,
+    pub(crate) gate: &'a G,
+    pub(crate) journal: &'a J,
+    /// How many connections were accepted before it.
+    pub(crate) conn: u64,
+    pub(crate) alloc: Global,
+    pub(crate) reader: I,
+    pub(crate) writer: O,
 }
 
 fn serve_from<
@@ -75,13 +95,16 @@ fn serve_from<
     I: Read + Drop,
     O: Write + Send + Drop,
     G: Gate + Sync,
->(rt: &R, connection: Connection<'_, L, G, I, O>, seat: Seat<L>) -> Served<L>
+    J: Journal + Sync,
+>(rt: &R, connection: Connection<'_, L, G, J, I, O>, seat: Seat<L>) -> Served<L>
     requires none { seat.sid ≡ None }
     requires origin { seat.list ≡ B.list }
     ensures kept { BeginsWith B.list result.seat.list }
     ensures hung_up { result.ending ≢ StillLive → result.seat.sid ≡ None }
 {
+    let (journal, conn, before) = (connection.journal, connection.conn, seat.len());
     let Ok(bell) = Arc::new(connection.alloc, Bell::new()) else {
+        journal.ended(conn, 0, Ending::NoMemory);
         return Served {
             seat,
             ending: Ending::NoMemory,
@@ -102,17 +125,27 @@ fn serve_from<
         chair: &chair,
         bell: &bell,
         gate: connection.gate,
-        conn: connection.conn,
+        journal,
+        conn,
         alloc: connection.alloc,
     };
     let ending = desk.serve(rt, connection.reader, connection.writer);
     let Chair { place, has_room: _ } = chair;
     let Place { held, failure, .. } = place.into_inner();
     let ending = failure.unwrap_or(ending);
-    hang_up(rt, connection.alloc, connection.shared, held, ending)
+    let requests = held.seat.len().saturating_sub(before);
+    let served = hang_up(rt, connection.alloc, connection.shared, held, ending);
+    journal.ended(conn, requests, served.ending);
+    served
 }
 
-impl<L: Ledger + Send + Sync, B: Origin + Send + Sync, G: Gate + Sync> Desk<'_, L, B, G> {
+impl<L: Ledger + Send + Sync, B: Origin + Send + Sync, G: Gate + Sync, J: Journal + Sync> Desk<
+    '_,
+    L,
+    B,
+    G,
+    J,
+> {
     /// Reads and steps on this thread, and writes on another.
     fn serve<R: Threads + Wait + Sync, I: Read + Drop, O: Write + Send + Drop>(
         &self,

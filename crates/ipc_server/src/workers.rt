@@ -2,9 +2,11 @@
 
 ghost use Rattle.std.specs.Prelude.{◌≡◌, ◌≤◌, ◌+◌, true, IfOk, vec_len, vec_capacity};
 
+use crate::ending::Ending;
 use crate::gate::Gate;
+use crate::journal::{Journal, NoJournal};
 use crate::links::{Link, LinkReader, LinkWriter, Listen};
-use crate::serve::serve_connection;
+use crate::serve::{Connection, serve_told};
 use crossbeam_channel::{Receiver, Sender, bounded};
 use ipc_book::{Seat, Shared};
 use std::alloc::Global;
@@ -32,10 +34,11 @@ pub(crate) struct Accepted<C> {
 
 /// What the workers share.
 #[derive(Drop)]
-pub(crate) struct Crew<'a, L: Ledger, C, G> {
+pub(crate) struct Crew<'a, L: Ledger, C, G, J> {
     shared: &'a Shared<L>,
     accepted: Receiver<Accepted<C>>,
     gate: &'a G,
+    journal: &'a J,
     alloc: Global,
 }
 
@@ -61,6 +64,32 @@ pub fn run_workers<
     requires { 1 ≤ workers }
     ensures { IfOk result (λ seats. vec_len seats ≡ workers) }
 {
+    run_workers_with_journal(
+        rt, alloc, listener, shared, workers, stop_after, gate, &NoJournal,
+    )
+}
+
+/// Does the same as `run_workers`, and tells the journal of each connection.
+pub fn run_workers_with_journal<
+    L: Ledger + Send + Sync,
+    R: Threads + Wait + Sync,
+    C: Link + Send + Sync + Drop,
+    N: Listen<Conn = C>,
+    G: Gate + Sync,
+    J: Journal + Sync,
+>(
+    rt: &R,
+    alloc: Global,
+    listener: &N,
+    shared: &Shared<L>,
+    workers: usize,
+    stop_after: Option<u64>,
+    gate: &G,
+    journal: &J,
+) -> Result<Vec<Seat<L>>, (WorkersFault, Vec<Seat<L>>)>
+    requires { 1 ≤ workers }
+    ensures { IfOk result (λ seats. vec_len seats ≡ workers) }
+{
     let (seats, is_whole) = seat_all(rt, alloc, shared, workers);
     if !is_whole {
         return Err((WorkersFault::NoMemory, seats));
@@ -75,6 +104,7 @@ pub fn run_workers<
         shared,
         accepted,
         gate,
+        journal,
         alloc,
     };
     let (seats, result) = crew.serve_accepted(rt, listener, sender, stop_after, seats, handles);
@@ -106,7 +136,13 @@ fn seat_all<L: Ledger, R: Wait>(
     (seats, true)
 }
 
-impl<L: Ledger + Send + Sync, C: Link + Send + Sync + Drop, G: Gate + Sync> Crew<'_, L, C, G> {
+impl<L: Ledger + Send + Sync, C: Link + Send + Sync + Drop, G: Gate + Sync, J: Journal + Sync> Crew<
+    '_,
+    L,
+    C,
+    G,
+    J,
+> {
     /// Starts the workers, accepts connections for them, and waits for their ends.
     fn serve_accepted<R: Threads + Wait + Sync, N: Listen<Conn = C>>(
         &self,
@@ -162,25 +198,24 @@ impl<L: Ledger + Send + Sync, C: Link + Send + Sync + Drop, G: Gate + Sync> Crew
         accepted: Accepted<C>,
     ) -> Seat<L> {
         let mut seat = seat;
+        self.journal.begun(accepted.number, accepted.link.peer());
         if seat.sid().is_some() {
             let _ = self.shared.hang_up(rt, self.alloc, &mut seat);
         }
         if seat.sid().is_some() {
+            self.journal.ended(accepted.number, 0, Ending::StillLive);
             return seat;
         }
-        let reader = LinkReader(&accepted.link);
-        let writer = LinkWriter(&accepted.link);
-        let served = serve_connection(
-            rt,
-            self.alloc,
-            self.shared,
-            seat,
-            accepted.number,
-            reader,
-            writer,
-            self.gate,
-        );
-        served.seat
+        let connection = Connection {
+            shared: self.shared,
+            gate: self.gate,
+            journal: self.journal,
+            conn: accepted.number,
+            alloc: self.alloc,
+            reader: LinkReader(&accepted.link),
+            writer: LinkWriter(&accepted.link),
+        };
+        serve_told(rt, connection, seat).seat
     }
 }
 
@@ -193,10 +228,11 @@ fn start_all<
     R: Threads + Wait + Sync,
     C: Link + Send + Sync + Drop,
     G: Gate + Sync,
+    J: Journal + Sync,
 >(
     rt: &'s R,
     scope: &'s Scope<'s, E>,
-    crew: &'s Crew<'s, L, C, G>,
+    crew: &'s Crew<'s, L, C, G, J>,
     sender: Sender<Accepted<C>>,
     seats: &mut Vec<Seat<L>>,
     handles: &mut Vec<JoinHandle<Seat<L>>>,

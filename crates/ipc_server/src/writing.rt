@@ -11,9 +11,9 @@ use std::sync::Wait;
 use std::sync::ledger::Ledger;
 
 /// Writes what is untaken whenever the bell rings, until the reader is done and all is written, or a write fails.
-pub(crate) fn write_answers<L: Ledger, B: Origin, R: Wait, O: Write + Drop, G: Gate>(
+pub(crate) fn write_answers<L: Ledger, B: Origin, R: Wait, O: Write + Drop, G: Gate, J>(
     rt: &R,
-    desk: &Desk<'_, L, B, G>,
+    desk: &Desk<'_, L, B, G, J>,
     mut writer: O,
 ) {
     let mut bytes = Vec::new(desk.alloc);
@@ -36,9 +36,9 @@ pub(crate) fn write_answers<L: Ledger, B: Origin, R: Wait, O: Write + Drop, G: G
 }
 
 /// What is untaken, and whether nothing more is stepped. The reader may step again.
-fn take<L: Ledger, B: Origin, R: Wait, G: Gate>(
+fn take<L: Ledger, B: Origin, R: Wait, G: Gate, J>(
     rt: &R,
-    desk: &Desk<'_, L, B, G>,
+    desk: &Desk<'_, L, B, G, J>,
 ) -> (Vec<Answer>, Option<Answer>, bool) {
     let mut place = desk.chair.place.lock(rt);
     let is_over = place.is_over;
@@ -60,8 +60,8 @@ fn spell(bytes: &mut Vec<u8>, answers: &[Answer], last: &Option<Answer>) -> Resu
 }
 
 /// Writes the buffer and empties it. Says whether it was written.
-fn write<L: Ledger, B: Origin, O: Write + Drop, G: Gate>(
-    desk: &Desk<'_, L, B, G>,
+fn write<L: Ledger, B: Origin, O: Write + Drop, G: Gate, J>(
+    desk: &Desk<'_, L, B, G, J>,
     writer: &mut O,
     bytes: &mut Vec<u8>,
 ) -> bool {

@@ -3,6 +3,7 @@
 mod books;
 mod fault_tests;
 mod hold_tests;
+mod journal_tests;
 mod loopback_tests;
 mod memory_tests;
 mod pairs;
