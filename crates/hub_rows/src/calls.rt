@@ -37,17 +37,20 @@ fn fed_some(alloc: Global, hub: &mut Hub, conn: Conn, words: &str) -> Result<Str
     Ok(line_of(alloc, hub, conn, call)?)
 }
 
-/// The answer to a line: `open`, `next`, or `feed`, `feed_some`, `hang_up`, `take`, `take_into` or `look` with a
-/// connection's number, and the digits of what is fed, or `tick` or `due` with a moment.
+/// The answer to a line: `open`, `next`, or a call and what it is made with.
 fn answer_to(alloc: Global, hub: &mut Hub, line: &str) -> Result<String> {
     let (call, rest) = line.split_once(' ').unwrap_or((line, ""));
+    match call {
+        "open" => Ok(open_line(alloc, hub)?),
+        "next" => Ok(next_line(alloc, hub)?),
+        _ => answer_with(alloc, hub, call, rest),
+    }
+}
+
+/// The answer to `feed`, `feed_some`, `hang_up`, `take`, `take_into` or `look` with a connection's number, and the
+/// digits of what is fed, or to `tick` or `due` with a moment.
+fn answer_with(alloc: Global, hub: &mut Hub, call: &str, rest: &str) -> Result<String> {
     let (number, digits) = rest.split_once(' ').unwrap_or((rest, ""));
-    if call == "open" {
-        return Ok(open_line(alloc, hub)?);
-    }
-    if call == "next" {
-        return Ok(next_line(alloc, hub)?);
-    }
     let number = number.parse::<u64>()?;
     let conn = Conn(number);
     let answer = match call {
