@@ -86,6 +86,9 @@ MOST_SECONDS, MOST_STREAMING = 290, 120
 # A server is to serve so many more than are planned; fresh clients come for the rest.
 SPARE = 10
 
+# What the server keeps on one thread of frames that aren't whole.
+MOST_UNFINISHED = 2**26
+
 LITTLE_ROOM = 4_096  # the room in the kernel that a client asks for which reads nothing
 
 
@@ -298,24 +301,30 @@ def comes_back(after, unit):
 
 
 def unfinished(setup):
-    """Clients that announce the longest frame, send all of it but the last byte, and break off."""
+    """Clients that announce the longest frame, send all of it but the last byte, and break off.
+
+    On one thread some are hung up, where their unfinished frames are more together than it keeps."""
     body, turns = setup.count(LONGEST - 1), 6
     with serving(setup, 2 + 2 * turns * FREE + SPARE) as server:
 
         def work():
-            after = []
+            after, ended = [], 0
             for _ in range(turns):
                 with contextlib.ExitStack() as stack:
                     clients = [stack.enter_context(Client(server.port, EVE)) for _ in range(FREE)]
                     for client in clients:
                         client.send(struct.pack(">IB", LONGEST, MQ_SEND) + bytes(body - 1))
                     setup.pause()
+                    ended += len(select.select([client.stream for client in clients], [], [], 0)[0])
                     for client in clients:
                         client.break_off()
                 all_free(server.port, FREE)
                 after.append(server.memory())
+            if bool(ended) != (setup.is_one_thread and FREE * body > MOST_UNFINISHED):
+                raise Wrong(f"{ended} were hung up")
             # The C library may keep what a turn took and give it to the next.
-            return comes_back(after, 16 + 2 * FREE * body / 2**20)
+            taken = comes_back(after, 16 + 2 * FREE * body / 2**20)
+            return f"{taken}; {ended} were hung up" if ended else taken
 
         with pair_at(server.port) as pair:
             yield measured(server, pair, f"{FREE} send {body:,} bytes of a frame of {LONGEST:,}, {turns} times", work)
