@@ -10,7 +10,7 @@ ADDRESS = 127.0.0.1:7000
 JOBS = 4
 
 # A server on loopback and two clients: under a second over proved programs. Where none stand, `rt try` first builds unproved
-# ones, which takes some two minutes and is done once.
+# ones, which takes some minutes and is done once.
 demo:
 	@demo/run.py
 

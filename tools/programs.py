@@ -19,7 +19,7 @@ TOP = pathlib.Path(__file__).resolve().parent.parent
 CRATES = TOP / "crates"
 UNPROVED = TOP / "out" / "unproved"
 NAMES = ["mqserve", "mqctl"]
-UNPROVED_SAYS = "Not proved: `rt try` builds these programs with checks, once, in some two minutes. `make build` proves them."
+UNPROVED_SAYS = "Not proved: `rt try` builds these programs with checks, once, in some minutes. `make build` proves them."
 
 
 def uses():
