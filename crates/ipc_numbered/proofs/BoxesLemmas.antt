@@ -1,8 +1,8 @@
 -- Values in boxes: what their list has at a number, and a change of it.
-use Rattle.std.proofs.Common.{◌≡◌, ◌-◌, ℕ, zero, suc, List, [], ◌∷◌, length, take, map, Option, Some, None, option_map, refl, sym, ap, ◌∙◌}
+use Rattle.std.proofs.Common.{◌≡◌, ◌-◌, ℕ, zero, suc, List, [], ◌∷◌, length, take, map, Option, option_map, refl, sym, ap, ◌∙◌}
 use Rattle.std.proofs.lemmas.List.{take-map, length-map}
 use Rattle.ipc_terms.specs.Lists.{changed}
-use Rattle.ipc_numbered.specs.Slots.{at, emptied}
+use Rattle.ipc_numbered.specs.Slots.{at}
 
 pub at_map : {X V : Type 0} (v : X → V) (xs : List (Option X)) (n : ℕ) → at (map (option_map v) xs) n ≡ option_map v (at xs n)
 at_map v [] n = refl

@@ -1,3 +1,3 @@
 pub mod SlotsLemmas
-pub mod PagesLemmas
+pub mod NumbersLemmas
 pub mod BoxesLemmas

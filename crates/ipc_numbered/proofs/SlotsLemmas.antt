@@ -1,11 +1,12 @@
 -- What is found in a slot, and what taking it or writing there leaves.
-use Rattle.std.proofs.Common.{◌≡◌, ◌≢◌, ℕ, zero, suc, ◌<◌, ◌≤◌, List, [], ◌∷◌, ◌++◌, length, set, get_or, Option, Some, None, refl, sym, ap, subst, ◌∙◌, slice_get, arith}
+use Rattle.std.proofs.Common.{◌≡◌, ℕ, zero, suc, ◌+◌, ◌≤◌, List, [], ◌∷◌, ◌++◌, length, set, drop, ◌<◌, true, rules, Option, Some, None, refl, sym, ap, ◌∙◌, slice_get, arith}
 use Rattle.std.specs.Borrow.{MutBor}
+use Rattle.std.specs.Bool.{if◌then◌else◌}
 use Rattle.std.specs.List.{IsItemAtMut}
-use Rattle.std.specs.Option.{OnSome, option_copied_mut}
-use Rattle.std.proofs.lemmas.Option.{slice_get_past, slice_get_read, slice_get-get_or}
+use Rattle.std.specs.Option.{OnSome, IsSome, is_some, option_copied_mut}
+use Rattle.std.proofs.lemmas.Option.{slice_get_past, slice_get_read}
 use Rattle.ipc_terms.specs.Lists.{changed}
-use Rattle.ipc_numbered.specs.Slots.{at, emptied, SetsAt}
+use Rattle.ipc_numbered.specs.Slots.{at, emptied, how_many_filled, is_sparse}
 
 -- what `get_mut` found
 pub found : {X : Type 0} (rows : List X) (s : ℕ) (r : Option (MutBor X)) → IsItemAtMut rows s r → slice_get rows s ≡ option_copied_mut r
@@ -37,54 +38,79 @@ past change (x ∷ xs) (suc n) e = ap (λ l. x ∷ l) (past change xs n e)
 pub past_length : {X : Type 0} (change : X → X) (xs : List X) (n : ℕ) → length xs ≤ n → changed change xs n ≡ xs
 past_length change xs n l = past change xs n (slice_get_past xs n l)
 
--- what is at each number, once one slot was changed
-changed_here : {X : Type 0} (x : Option X) (xs : List (Option X)) (n : ℕ) → n < length xs → at (changed (λ y. x) xs n) n ≡ x
-changed_here x [] n l = absurd (omega arith)
-changed_here x (y ∷ xs) zero l = refl
-changed_here x (y ∷ xs) (suc n) l = changed_here x xs n (omega arith)
-
-emptied_here : {X : Type 0} (xs : List (Option X)) (n : ℕ) → at (changed emptied xs n) n ≡ None
-emptied_here [] n = refl
-emptied_here (y ∷ xs) zero = refl
-emptied_here (y ∷ xs) (suc n) = emptied_here xs n
-
-changed_others : {X : Type 0} (change : Option X → Option X) (xs : List (Option X)) (n i : ℕ) → i ≢ n → at (changed change xs n) i ≡ at xs i
-changed_others change [] n i apart = refl
-changed_others change (y ∷ xs) zero zero apart = absurd (apart refl)
-changed_others change (y ∷ xs) zero (suc i) apart = refl
-changed_others change (y ∷ xs) (suc n) zero apart = refl
-changed_others change (y ∷ xs) (suc n) (suc i) apart = changed_others change xs n i (λ same. apart (ap suc same))
-
-pub changed_sets : {X : Type 0} (x : Option X) (xs : List (Option X)) (n : ℕ) → n < length xs → SetsAt (at xs) (at (changed (λ y. x) xs n)) n x
-changed_sets x xs n l = (changed_here x xs n l, changed_others (λ y. x) xs n)
-
--- a slot that is emptied need not be there
-pub emptied_sets : {X : Type 0} (xs : List (Option X)) (n : ℕ) → SetsAt (at xs) (at (changed emptied xs n)) n None
-emptied_sets xs n = (emptied_here xs n, changed_others emptied xs n)
-
--- an empty slot more at the end gives nothing
-pub at_more : {X : Type 0} (xs : List (Option X)) (i : ℕ) → at (xs ++ None ∷ []) i ≡ at xs i
-at_more [] zero = refl
-at_more [] (suc i) = refl
-at_more (x ∷ xs) zero = refl
-at_more (x ∷ xs) (suc i) = at_more xs i
-
-pub set_sets : {X : Type 0} (x : Option X) (xs : List (Option X)) (n : ℕ) → n < length xs → SetsAt (at xs) (at (set xs n x)) n x
-set_sets x xs n l = subst (λ slots. SetsAt (at xs) (at slots) n x) (sym (written (λ y. x) xs n x (get_or xs n None) (slice_get-get_or xs n None l) refl)) (changed_sets x xs n l)
-
 -- where there is no value none is taken
 pub emptied_none : {X : Type 0} (xs : List (Option X)) (n : ℕ) → at xs n ≡ None → changed emptied xs n ≡ xs
 emptied_none [] n none = refl
 emptied_none (x ∷ xs) zero none = ap (λ y. y ∷ xs) (sym none)
 emptied_none (x ∷ xs) (suc n) none = ap (λ ys. x ∷ ys) (emptied_none xs n none)
 
--- a value stands within the slots
-pub at_within : {X : Type 0} (xs : List (Option X)) (n : ℕ) (x : X) → at xs n ≡ Some x → n < length xs
-at_within [] n x e = absurd cc
-at_within (y ∷ xs) zero x e = omega arith
-at_within (y ∷ xs) (suc n) x e = let l : n < length xs = at_within xs n x e in omega arith
-
 -- it holds wherever something is lent
 pub where_lent : {X : Type 0} {P Q : Type 0} (r : Option (MutBor X)) (w : Option X) → option_copied_mut r ≡ w → ((x : X) → w ≡ Some x → Q → P) → OnSome r Q → OnSome r P
 where_lent None w e k q = tt
 where_lent (Some r) w e k q = k r.now (sym e) q
+
+-- and where a value is lent
+pub if_lent : {X : Type 0} {P : Type 0} (r : Option (MutBor X)) (w : Option X) → option_copied_mut r ≡ w → ((x : X) → w ≡ Some x → P) → OnSome r P
+if_lent None w e k = tt
+if_lent (Some r) w e k = k r.now (sym e)
+
+pub some_found : {A : Type 0} (found : Option A) (x : A) → found ≡ Some x → IsSome found
+some_found found x is = rw is (search rules)
+
+-- ---- the first slot
+
+pub first_emptied : {X : Type 0} (xs : List (Option X)) → 0 < length xs → slice_get (changed emptied xs 0) 0 ≡ Some None
+first_emptied [] some = absurd (omega arith)
+first_emptied (x ∷ xs) some = refl
+
+-- its value is put back
+pub first_restored : {X : Type 0} (xs : List (Option X)) (x : X) → at xs 0 ≡ Some x → changed (λ o. Some x) (changed emptied xs 0) 0 ≡ xs
+first_restored [] x e = absurd cc
+first_restored (y ∷ xs) x e = ap (λ o. o ∷ xs) (sym e)
+
+pub first_and_rest : {X : Type 0} (xs : List (Option X)) → 0 < length xs → xs ≡ at xs 0 ∷ drop 1 (changed emptied xs 0)
+first_and_rest [] some = absurd (omega arith)
+first_and_rest (x ∷ xs) some = refl
+
+-- where most slots are empty there are some
+pub sparse_some : {X : Type 0} (xs : List (Option X)) → is_sparse xs ≡ true → 0 < length xs
+sparse_some [] e = absurd cc
+sparse_some (x ∷ xs) e = omega arith
+
+-- ---- how many slots have a value
+
+pub filled_within : {X : Type 0} (xs : List (Option X)) → how_many_filled xs ≤ length xs
+filled_within [] = omega arith
+filled_within (None ∷ xs) = let rest : how_many_filled xs ≤ length xs = filled_within xs in omega arith
+filled_within (Some x ∷ xs) = let rest : how_many_filled xs ≤ length xs = filled_within xs in omega arith
+
+pub filled_push : {X : Type 0} (xs : List (Option X)) (x : X) → how_many_filled (xs ++ Some x ∷ []) ≡ how_many_filled xs + 1
+filled_push [] x = refl
+filled_push (None ∷ xs) x = filled_push xs x
+filled_push (Some y ∷ xs) x = let rest : how_many_filled (xs ++ Some x ∷ []) ≡ how_many_filled xs + 1 = filled_push xs x in omega arith
+
+filled_more : {X : Type 0} (xs : List (Option X)) → how_many_filled (xs ++ None ∷ []) ≡ how_many_filled xs
+filled_more [] = refl
+filled_more (None ∷ xs) = filled_more xs
+filled_more (Some y ∷ xs) = ap suc (filled_more xs)
+
+-- the last slot goes
+pub filled_popped : {X : Type 0} (xs rest : List (Option X)) (slot : Option X) → xs ≡ rest ++ slot ∷ [] → how_many_filled xs ≡ (if is_some slot then how_many_filled rest + 1 else how_many_filled rest)
+filled_popped xs rest None e = ap how_many_filled e ∙ filled_more rest
+filled_popped xs rest (Some x) e = ap how_many_filled e ∙ filled_push rest x
+
+-- one value is taken
+pub filled_emptied : {X : Type 0} (xs : List (Option X)) (n : ℕ) (x : X) → slice_get xs n ≡ Some (Some x) → how_many_filled xs ≡ how_many_filled (changed emptied xs n) + 1
+filled_emptied [] n x e = absurd cc
+filled_emptied (None ∷ xs) zero x e = absurd cc
+filled_emptied (Some y ∷ xs) zero x e = omega arith
+filled_emptied (None ∷ xs) (suc n) x e = filled_emptied xs n x e
+filled_emptied (Some y ∷ xs) (suc n) x e = let rest : how_many_filled xs ≡ how_many_filled (changed emptied xs n) + 1 = filled_emptied xs n x e in omega arith
+
+-- one value is changed
+pub filled_changed : {X : Type 0} (xs : List (Option X)) (n : ℕ) (x y : X) → slice_get xs n ≡ Some (Some x) → how_many_filled (changed (λ o. Some y) xs n) ≡ how_many_filled xs
+filled_changed [] n x y e = absurd cc
+filled_changed (None ∷ xs) zero x y e = absurd cc
+filled_changed (Some z ∷ xs) zero x y e = refl
+filled_changed (None ∷ xs) (suc n) x y e = filled_changed xs n x y e
+filled_changed (Some z ∷ xs) (suc n) x y e = ap suc (filled_changed xs n x y e)

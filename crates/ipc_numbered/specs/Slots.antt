@@ -1,7 +1,7 @@
--- Values at numbers.
-use Rattle.std.specs.Prelude.{◌≡◌, ◌≢◌, ℕ, List, Option, None, slice_get, option_and_then}
+-- Values in slots.
+use Rattle.std.specs.Prelude.{ℕ, zero, suc, ◌+◌, ◌&&◌, nat_lt, Bool, List, [], ◌∷◌, length, Option, Some, None, slice_get, option_and_then}
 
--- the value at a number, where there is one
+-- the value in a slot, where there is one
 abbrev pub at : {V : Type 0} → List (Option V) → ℕ → Option V
 at slots n = option_and_then (λ x. x) (slice_get slots n)
 
@@ -9,6 +9,12 @@ at slots n = option_and_then (λ x. x) (slice_get slots n)
 abbrev pub emptied : {V : Type 0} → Option V → Option V
 emptied x = None
 
--- this stands at the number, and what stood there at each other
-abbrev pub SetsAt : {A : Type 0} → (ℕ → A) → (ℕ → A) → ℕ → A → Type 0
-SetsAt old new n x = (new n ≡ x) × ((other : ℕ) → other ≢ n → new other ≡ old other)
+-- how many slots have a value
+abbrev pub how_many_filled : {V : Type 0} → List (Option V) → ℕ
+how_many_filled [] = zero
+how_many_filled (None ∷ slots) = how_many_filled slots
+how_many_filled (Some x ∷ slots) = suc (how_many_filled slots)
+
+-- there are over 64 slots, and more than half of them are empty
+abbrev pub is_sparse : {V : Type 0} → List (Option V) → Bool
+is_sparse slots = nat_lt 64 (length slots) && nat_lt (how_many_filled slots + how_many_filled slots) (length slots)

@@ -1,36 +1,42 @@
-//! Values at their numbers, in pages.
+//! Values at their numbers: the newest in slots, the older ones in a map.
 
-ghost use Rattle.std.specs.Prelude.{◌≡◌, ◌-◌, [], ◌∷◌, ◌++◌, length, take, Some, OnOk, OnErr};
+ghost use Rattle.std.specs.Prelude.{◌≡◌, ◌<◌, ◌-◌, ◌^◌, [], ◌∷◌, ◌++◌, length, take, Some, None, OnOk, OnErr};
+ghost use Rattle.std.specs.BTreeMap.{get};
 ghost use Rattle.std.specs.Option.{OnSome, option_copied, option_copied_mut};
+ghost use Rattle.std.specs.Ordering.{nat_cmp};
 ghost use Rattle.ipc_terms.specs.Lists.{changed};
+ghost use Rattle.ipc_numbered.specs.Numbers.{SetsAt};
 ghost use Rattle.ipc_numbered.specs.Slots.{at, emptied};
 
-use crate::page::Page;
+use crate::recent::Recent;
 use ipc_terms::NoMemory;
 use std::alloc::Global;
 use std::collections::BTreeMap;
 use std::marker::Model;
 
-/// How many numbers have their slots in one page.
-const PAGE: usize = 32;
+/// Numbers are below this, so that no sum of two wraps.
+const MOST: usize = 0x7fff_ffff_ffff_ffff;
 
-/// Values at the numbers that they were given in turn. A number's slot stands in the page of the number by 32, and a page
-/// goes with its last value. A look-up takes as long as to find a page, and a value is reached there by an index.
+/// Values at the numbers that they were given in turn. Those from `base` on have a slot each, so they are found by an
+/// index. Where there are over 64 slots and most are empty, each push first moves two: an empty one goes, and a value
+/// enters the map. So a push adds a slot only to 64 or fewer, or where half of them have a value.
 #[derive(Drop)]
 pub struct Numbered<V: Drop> {
-    alloc: Global,
-    pages: BTreeMap<usize, Page<V>>,
-    /// The number of the next value.
-    next: usize,
+    older: BTreeMap<usize, V>,
+    /// The number of the first of the recent slots.
+    base: usize,
+    recent: Recent<V>,
 }
 
 impl<V: Drop> Model for Numbered<V> {
-    ghost use Rattle.std.specs.Prelude.{List, Option};
-    ghost use Rattle.ipc_numbered.specs.Pages.{listed, stored};
+    ghost use Rattle.std.specs.Prelude.{◌++◌, ◌<◌, ◌^◌, List, Option};
+    ghost use Rattle.ipc_numbered.specs.Numbers.{older_slots, AllBelow};
 
     ghost Value = { List (Option V) };
 
-    ghost view = { λ a. listed (stored a.pages) a.next };
+    ghost view = { λ a. older_slots a.older a.base ++ a.recent };
+
+    ghost invariant = { λ a. AllBelow a.older a.base × (a.base < 2 ^ 63) };
 }
 
 impl<V: Drop> Numbered<V> {
@@ -42,9 +48,9 @@ impl<V: Drop> Numbered<V> {
         ensures { result ≡ [] }
     {
         Numbered {
-            alloc,
-            pages: BTreeMap::new(alloc),
-            next: 0,
+            older: BTreeMap::new(alloc),
+            base: 0,
+            recent: Recent::new(alloc),
         }
     }
 
@@ -52,17 +58,17 @@ impl<V: Drop> Numbered<V> {
     pub fn next_number(&self) -> usize
         ensures { result ≡ length self.now }
     {
-        self.next
+        self.base + self.recent.len()
     }
 
     /// The value of the number, if it wasn't taken.
     pub fn get(&self, number: usize) -> Option<&V>
         ensures { option_copied result ≡ at self.now number }
     {
-        if number >= self.next {
-            return None;
+        match number.checked_sub(self.base) {
+            Some(slot) => self.recent.get(slot),
+            None => self.older.get(&number),
         }
-        self.pages.get(&(number / PAGE))?.get(number % PAGE)
     }
 
     /// Gives the value the next number. An `Err` changes nothing.
@@ -70,19 +76,12 @@ impl<V: Drop> Numbered<V> {
         ensures ok { OnOk result (self.new ≡ self.old ++ Some value ∷ []) }
         ensures err { OnErr result (self.new ≡ self.old) }
     {
-        let Some(next) = self.next.checked_add(1) else {
+        if self.next_number() >= MOST {
             return Err(NoMemory);
-        };
-        let slot = self.next % PAGE;
-        match self.pages.get_mut(&(self.next / PAGE)) {
-            Some(page) => page.put(slot, value)?,
-            None => {
-                let mut page = Page::new(self.alloc);
-                page.put(slot, value)?;
-                self.pages.insert(self.next / PAGE, page)?;
-            }
         }
-        self.next = next;
+        self.settle()?;
+        self.settle()?;
+        self.recent.push(value)?;
         Ok(())
     }
 
@@ -90,9 +89,12 @@ impl<V: Drop> Numbered<V> {
     pub fn undo_push(&mut self)
         ensures { self.new ≡ take (length self.old - 1) self.old }
     {
-        if let Some(last) = self.next.checked_sub(1) {
-            self.take(last);
-            self.next = last;
+        if self.recent.pop() {
+            return;
+        }
+        if let Some(last) = self.base.checked_sub(1) {
+            self.older.remove(&last);
+            self.base = last;
         }
     }
 
@@ -101,15 +103,10 @@ impl<V: Drop> Numbered<V> {
         ensures value { result ≡ at self.old number }
         ensures rest { self.new ≡ changed emptied self.old number }
     {
-        if number >= self.next {
-            return None;
+        match number.checked_sub(self.base) {
+            Some(slot) => self.recent.take(slot),
+            None => self.older.remove(&number),
         }
-        let page = self.pages.get_mut(&(number / PAGE))?;
-        let value = page.take(number % PAGE)?;
-        if page.is_empty() {
-            self.pages.remove(&(number / PAGE));
-        }
-        Some(value)
     }
 
     /// The value of the number, if it wasn't taken, to be changed.
@@ -117,9 +114,48 @@ impl<V: Drop> Numbered<V> {
         ensures* writes_back { sem 𝓛 (LendsSo (the_row V.row) V.row self.entry result (λ after v. OnSome result (after ≡ changed (λ x. Some v) self.old number)) (λ after. after ≡ self.old)) }
         ensures value { option_copied_mut result ≡ at self.old number }
     {
-        if number >= self.next {
-            return None;
+        match number.checked_sub(self.base) {
+            Some(slot) => self.recent.get_mut(slot),
+            None => self.older.get_mut(&number),
         }
-        self.pages.get_mut(&(number / PAGE))?.get_mut(number % PAGE)
+    }
+
+    /// Where most of the recent slots are empty, the first of them goes, and its value enters the map. An `Err` changes nothing.
+    fn settle(&mut self) -> Result<(), NoMemory>
+        requires { length self.old < 2 ^ 63 }
+        ensures { self.new ≡ self.old }
+    {
+        if !self.recent.is_sparse() {
+            return Ok(());
+        }
+        move_first(&mut self.older, self.base, &mut self.recent)?;
+        self.recent.drop_first();
+        self.base += 1;
+        Ok(())
+    }
+}
+
+/// The value of the first slot, if there is one, goes to its number in the map, at which none stands. An `Err` changes
+/// nothing.
+fn move_first<V: Drop>(
+    older: &mut BTreeMap<usize, V>,
+    number: usize,
+    recent: &mut Recent<V>,
+) -> Result<(), NoMemory>
+    requires absent { get nat_cmp older.old number ≡ None }
+    requires some { 0 < length recent.old }
+    ensures older { OnOk result (SetsAt older.old older.new number (at recent.old 0)) }
+    ensures recent { OnOk result (recent.new ≡ changed emptied recent.old 0) }
+    ensures unchanged { OnErr result ((older.new.entries ≡ older.old.entries) × (recent.new ≡ recent.old)) }
+{
+    let Some(value) = recent.take(0) else {
+        return Ok(());
+    };
+    match older.insert(number, value) {
+        Ok(_) => Ok(()),
+        Err(refused) => {
+            recent.put_first(refused.value.1);
+            Err(NoMemory)
+        }
     }
 }

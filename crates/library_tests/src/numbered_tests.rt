@@ -21,11 +21,13 @@ enum Step {
     PushTo(u32),
     /// Takes the values at the numbers from the one to below the other.
     TakeAll(usize, usize),
+    /// So many values come and go, one at a time.
+    ComeAndGo(u32),
 }
 
-use Step::{Get, New, NextNumber, Push, PushTo, Set, Take, TakeAll, Undo};
+use Step::{ComeAndGo, Get, New, NextNumber, Push, PushTo, Set, Take, TakeAll, Undo};
 
-static STEPS: [Step; 61] = [
+static STEPS: [Step; 84] = [
     // No values.
     New,
     NextNumber(0),
@@ -74,7 +76,7 @@ static STEPS: [Step; 61] = [
     New,
     Undo,
     NextNumber(0),
-    // Values are found across pages, and where a page went.
+    // Values are found among many, of which most are taken in the end.
     PushTo(70),
     Get(31, Some(31)),
     Get(32, Some(32)),
@@ -93,6 +95,30 @@ static STEPS: [Step; 61] = [
     Get(70, Some(7)),
     Get(38, None),
     Get(6, None),
+    // Two values outlive many that stand behind them.
+    New,
+    PushTo(3),
+    Take(0, Some(0)),
+    ComeAndGo(200),
+    NextNumber(203),
+    Get(0, None),
+    Get(1, Some(1)),
+    Get(2, Some(2)),
+    Get(3, None),
+    Get(202, None),
+    Set(1, 11),
+    Get(1, Some(11)),
+    Push(9, 203),
+    Get(203, Some(9)),
+    Undo,
+    NextNumber(203),
+    Get(203, None),
+    Take(1, Some(11)),
+    Get(1, None),
+    Take(1, None),
+    Get(2, Some(2)),
+    Push(8, 203),
+    Get(203, Some(8)),
 ];
 
 /// Pushes the value, and says whether it got this number.
@@ -119,6 +145,16 @@ fn take_all(values: &mut Numbered<u32>, from: usize, to: usize) {
     }
 }
 
+/// So many values come and go, one at a time.
+fn come_and_go(values: &mut Numbered<u32>, count: u32) -> Result<(), NoMemory> {
+    for value in 0..count {
+        let number = values.next_number();
+        values.push(value)?;
+        values.take(number);
+    }
+    Ok(())
+}
+
 /// Puts another value at the number, if one stands there.
 fn set(values: &mut Numbered<u32>, number: usize, next: u32) {
     if let Some(value) = values.get_mut(number) {
@@ -137,6 +173,7 @@ fn gives(alloc: Global, values: &mut Numbered<u32>, step: &Step) -> Result<bool,
         Undo => values.undo_push(),
         PushTo(next) => return pushes_to(values, next),
         TakeAll(from, to) => take_all(values, from, to),
+        ComeAndGo(count) => come_and_go(values, count)?,
         NextNumber(wanted) => return Ok(values.next_number() == wanted),
     }
     Ok(true)

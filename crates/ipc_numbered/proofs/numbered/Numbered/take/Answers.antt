@@ -1,59 +1,34 @@
-use Rattle.std.proofs.Common.{◌≡◌, ◌∙◌, refl, sym, ap, arith, rules, Some}
-use Rattle.std.specs.Option.{option_copied_mut}
-use Rattle.std.specs.Ordering.{nat_cmp}
-use Rattle.std.specs.BTreeMap.{get}
-use Rattle.ipc_numbered.specs.Slots.{at, emptied, SetsAt}
-use Rattle.ipc_numbered.specs.Pages.{stored, listed}
-use Rattle.ipc_numbered.proofs.SlotsLemmas.{past_length, emptied_none}
-use Rattle.ipc_numbered.proofs.PagesLemmas.{some_found, listed_length, listed_changed, at_past, at_stored, emptied_page, removed_page}
+use Rattle.std.proofs.Common.{◌++◌, ◌∙◌, None, refl, sym, ap, arith}
+use Rattle.ipc_numbered.specs.Slots.{emptied}
+use Rattle.ipc_numbered.specs.Numbers.{older_slots}
+use Rattle.ipc_numbered.proofs.NumbersLemmas.{recent_at, recent_changed, value_at, value_changed, still_below, under}
 use Rattle.ipc_numbered.proofs.numbered.Numbered.take.Goals as goal
-use Rattle.ipc_numbered.proofs.numbered.Numbered.take.Goals.{then-is_empty+in-Some-1, then-is_empty+in-None-1, else-is_empty}
 
-pub returns-then-number-self-clause-value : goal.returns-then-number-self-clause-value
-returns-then-number-self-clause-value g c = rw (← c.self.view_is) (sym (at_past (stored c.self.inside.pages) c.self.inside.next c.args.number c.if-number-self.true))
-
-pub returns-then-number-self-clause-rest : goal.returns-then-number-self-clause-rest
-returns-then-number-self-clause-rest g c =
+pub returns-in-Some-clause-value : goal.returns-in-Some-clause-value
+returns-in-Some-clause-value g c =
     let inside = c.self.inside in
-    let past = c.if-number-self.true in
-    rw (← c.self.view_is) (sym (past_length emptied (listed (stored inside.pages) inside.next) c.args.number (let l = listed_length (stored inside.pages) inside.next in omega arith)))
+    let low = c.in-Some.ensures.0 in
+    let slot = c.in-Some.ensures.1 in
+    rw (← c.self.view_is) (c.take.ensures.value ∙ sym (recent_at inside.older inside.recent inside.base c.in-Some.slot c.args.number (omega arith)))
 
-pub returns-in_err-page-clause-value : goal.returns-in_err-page-clause-value
-returns-in_err-page-clause-value g c =
-    let absent = sym c.get_mut.ensures.value ∙ ap option_copied_mut c.in_err-page.was in
-    rw (← c.self.view_is, c.from_residual.ensures) (sym (at_stored c.self.inside.pages c.self.inside.next c.args.number _ c.if-number-self.false absent))
-
-pub returns-in_err-page-clause-rest : goal.returns-in_err-page-clause-rest
-returns-in_err-page-clause-rest g c =
+pub returns-in-Some-clause-rest : goal.returns-in-Some-clause-rest
+returns-in-Some-clause-rest g c =
     let inside = c.self.inside in
-    let absent = sym c.get_mut.ensures.value ∙ ap option_copied_mut c.in_err-page.was in
-    let none = at_stored inside.pages inside.next c.args.number _ c.if-number-self.false absent in
-    rw (← c.self.view_is) (ap (λ pages. listed (stored pages) inside.next) c.get_mut.follows.holds-at-none ∙ sym (emptied_none (listed (stored inside.pages) inside.next) c.args.number none))
+    let low = c.in-Some.ensures.0 in
+    let slot = c.in-Some.ensures.1 in
+    rw (← c.self.view_is) (ap (λ slots. older_slots inside.older inside.base ++ slots) c.take.ensures.rest ∙ sym (recent_changed emptied inside.older inside.recent inside.base c.in-Some.slot c.args.number (omega arith)))
 
-pub returns-in_err-value-clause-value : goal.returns-in_err-value-clause-value
-returns-in_err-value-clause-value g c =
-    let there = sym c.get_mut.ensures.value ∙ ap option_copied_mut c.in_ok-page.was in
-    rw (← c.self.view_is) (c.from_residual-in_err-value.ensures ∙ sym c.in_err-value.was ∙ c.take.ensures.value ∙ sym (at_stored c.self.inside.pages c.self.inside.next c.args.number _ c.if-number-self.false there))
-
-pub returns-in_err-value-clause-rest : goal.returns-in_err-value-clause-rest
-returns-in_err-value-clause-rest g c =
+pub invariant_of-self-in-None : goal.invariant_of-self-in-None
+invariant_of-self-in-None g c =
     let inside = c.self.inside in
-    let there = sym c.get_mut.ensures.value ∙ ap option_copied_mut c.in_ok-page.was in
-    let changes = ((c.get_mut.follows.holds c.take.new.self).3 (some_found _ _ there)).0 in
-    rw (← c.self.view_is) (listed_changed emptied (stored inside.pages) _ c.args.number inside.next (emptied_page inside.pages _ c.args.number _ _ there c.take.ensures.rest changes))
+    (still_below inside.older c.remove.new.self inside.base c.args.number None (under c.args.number inside.base c.in-None.ensures) c.remove.ensures.updates.0 c.self.invariant.0, c.self.invariant.1)
 
-pub returns-clause-value : goal.returns-clause-value
-returns-clause-value g c =
-    let there = sym c.get_mut.ensures.value ∙ ap option_copied_mut c.in_ok-page.was in
-    rw (← c.self.view_is) (sym c.in_ok-value.was ∙ c.take.ensures.value ∙ sym (at_stored c.self.inside.pages c.self.inside.next c.args.number _ c.if-number-self.false there))
-
-pub returns-clause-rest : goal.returns-clause-rest
-returns-clause-rest g c =
+pub returns-in-None-clause-value : goal.returns-in-None-clause-value
+returns-in-None-clause-value g c =
     let inside = c.self.inside in
-    let there = sym c.get_mut.ensures.value ∙ ap option_copied_mut c.in_ok-page.was in
-    let changes = ((c.get_mut.follows.holds c.take.new.self).3 (some_found _ _ there)).0 in
-    rw (← c.self.view_is) (elim c.if-is_empty.branch [
-      | then-is_empty+in-Some-1 w ↦ w.self-is ∙ listed_changed emptied (stored inside.pages) (stored w.remove.new.self) c.args.number inside.next (removed_page inside.pages (c.get_mut.follows.lender c.take.new.self) w.remove.new.self c.args.number _ _ there c.take.ensures.rest changes (c.is_empty.ensures w.if-is_empty.true) w.remove.ensures.updates.0)
-      | then-is_empty+in-None-1 w ↦ w.self-is ∙ listed_changed emptied (stored inside.pages) (stored w.remove.new.self) c.args.number inside.next (removed_page inside.pages (c.get_mut.follows.lender c.take.new.self) w.remove.new.self c.args.number _ _ there c.take.ensures.rest changes (c.is_empty.ensures w.if-is_empty.true) w.remove.ensures.updates.0)
-      | else-is_empty w ↦ w.self-is ∙ listed_changed emptied (stored inside.pages) _ c.args.number inside.next (emptied_page inside.pages _ c.args.number _ _ there c.take.ensures.rest changes)
-    ])
+    rw (← c.self.view_is) (c.remove.ensures.value ∙ sym (value_at inside.older inside.recent inside.base c.args.number (under c.args.number inside.base c.in-None.ensures)))
+
+pub returns-in-None-clause-rest : goal.returns-in-None-clause-rest
+returns-in-None-clause-rest g c =
+    let inside = c.self.inside in
+    rw (← c.self.view_is) (value_changed emptied inside.older c.remove.new.self inside.recent inside.base c.args.number None (under c.args.number inside.base c.in-None.ensures) c.remove.ensures.updates.0 refl)

@@ -1,7 +1,14 @@
 use Rattle.std.proofs.Common.{◌∙◌, sym, ap, refl, Some}
 use Rattle.std.specs.Option.{option_copied_mut}
-use Rattle.ipc_numbered.proofs.SlotsLemmas.{found, written, unwritten, at_slot}
-use Rattle.ipc_numbered.proofs.page.Page.get_mut.Goals as goal
+use Rattle.ipc_numbered.specs.Slots.{how_many_filled}
+use Rattle.ipc_numbered.proofs.SlotsLemmas.{found, written, unwritten, at_slot, filled_changed}
+use Rattle.ipc_numbered.proofs.recent.Recent.get_mut.Goals as goal
+
+pub invariant_of-self-lent : goal.invariant_of-self-lent
+invariant_of-self-lent g c w =
+    let there = found _ _ _ c.get_mut.ensures.item ∙ ap option_copied_mut c.in_ok-value.was in
+    let slots = c.self.inside.slots.items in
+    rw c.in-Some.is (c.self.invariant ∙ sym (ap how_many_filled (written (λ x. Some w) slots c.args.slot (Some w) _ there refl) ∙ filled_changed slots c.args.slot _ w (there ∙ ap Some c.in-Some.is)))
 
 pub returns-in-Some : goal.returns-in-Some
 returns-in-Some g c =

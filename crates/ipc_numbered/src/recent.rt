@@ -1,0 +1,133 @@
+//! The slots of the newest numbers.
+
+ghost use Rattle.std.specs.Prelude.{◌≡◌, ◌<◌, ◌-◌, ◌^◌, [], ◌∷◌, ◌++◌, length, take, drop, slice_get, Some, None, true, false, OnOk, OnErr};
+ghost use Rattle.std.specs.Option.{OnSome, option_copied, option_copied_mut};
+ghost use Rattle.ipc_terms.specs.Lists.{changed};
+ghost use Rattle.ipc_numbered.specs.Slots.{at, emptied, is_sparse};
+
+use ipc_terms::NoMemory;
+use std::alloc::Global;
+use std::collections::VecDeque;
+use std::marker::Model;
+
+/// So many slots stay, however few of them have a value.
+const FEW: usize = 64;
+
+/// Slots in a row, some of them empty.
+#[derive(Drop)]
+pub struct Recent<V: Drop> {
+    slots: VecDeque<Option<V>>,
+    /// How many have a value.
+    filled: usize,
+}
+
+impl<V: Drop> Model for Recent<V> {
+    ghost use Rattle.std.specs.Prelude.{◌≡◌, List, Option};
+    ghost use Rattle.ipc_numbered.specs.Slots.{how_many_filled};
+
+    ghost Value = { List (Option V) };
+
+    ghost view = { λ a. a.slots.items };
+
+    ghost invariant = { λ a. a.filled ≡ how_many_filled a.slots.items };
+}
+
+impl<V: Drop> Recent<V> {
+    ghost use Rattle.std.specs.Borrow.{LendsSo, sem};
+    ghost use Rattle.ipc_numbered.specs.contracts.recent.Recent.{the_row};
+
+    /// No slots. Takes no memory.
+    pub fn new(alloc: Global) -> Self
+        ensures { result ≡ [] }
+    {
+        Recent {
+            slots: VecDeque::new(alloc),
+            filled: 0,
+        }
+    }
+
+    /// How many slots there are.
+    pub fn len(&self) -> usize
+        ensures count { result ≡ length self.now }
+        ensures small { result < 2 ^ 63 }
+    {
+        self.slots.len()
+    }
+
+    /// Whether there are many slots, and more than half of them are empty.
+    pub fn is_sparse(&self) -> bool
+        ensures { result ≡ is_sparse self.now }
+    {
+        self.slots.len() > FEW && self.filled < self.slots.len() - self.filled
+    }
+
+    /// The value in the slot, if there is one.
+    pub fn get(&self, slot: usize) -> Option<&V>
+        ensures { option_copied result ≡ at self.now slot }
+    {
+        self.slots.get(slot)?.as_ref()
+    }
+
+    /// The value in the slot, if there is one, to be changed.
+    pub fn get_mut(&mut self, slot: usize) -> Option<&mut V>
+        ensures* writes_back { sem 𝓛 (LendsSo (the_row V.row) V.row self.entry result (λ after v. OnSome result (after ≡ changed (λ x. Some v) self.old slot)) (λ after. after ≡ self.old)) }
+        ensures value { option_copied_mut result ≡ at self.old slot }
+    {
+        match self.slots.get_mut(slot)? {
+            Some(value) => Some(value),
+            None => None,
+        }
+    }
+
+    /// One slot more, with this value. An `Err` changes nothing.
+    pub fn push(&mut self, value: V) -> Result<(), NoMemory>
+        ensures ok { OnOk result (self.new ≡ self.old ++ Some value ∷ []) }
+        ensures err { OnErr result (self.new ≡ self.old) }
+    {
+        self.slots.push_back(Some(value))?;
+        self.filled += 1;
+        Ok(())
+    }
+
+    /// The last slot goes. False if there is none. Takes no memory.
+    pub fn pop(&mut self) -> bool
+        ensures rest { self.new ≡ take (length self.old - 1) self.old }
+        ensures none { result ≡ false → length self.old ≡ 0 }
+        ensures some { result ≡ true → 0 < length self.old }
+    {
+        let Some(slot) = self.slots.pop_back() else {
+            return false;
+        };
+        if slot.is_some() {
+            self.filled -= 1;
+        }
+        true
+    }
+
+    /// Takes the value out of the slot, if there is one. Takes no memory.
+    pub fn take(&mut self, slot: usize) -> Option<V>
+        ensures value { result ≡ at self.old slot }
+        ensures rest { self.new ≡ changed emptied self.old slot }
+    {
+        let value = self.slots.get_mut(slot)?.take()?;
+        self.filled -= 1;
+        Some(value)
+    }
+
+    /// Puts a value into the first slot, which is empty. Takes no memory.
+    pub fn put_first(&mut self, value: V)
+        requires { slice_get self.old 0 ≡ Some None }
+        ensures { self.new ≡ changed (λ x. Some value) self.old 0 }
+    {
+        self.slots[0] = Some(value);
+        self.filled += 1;
+    }
+
+    /// The first slot goes, which is empty. Takes no memory.
+    pub fn drop_first(&mut self)
+        requires { slice_get self.old 0 ≡ Some None }
+        ensures { self.new ≡ drop 1 self.old }
+    {
+        self.slots.pop_front();
+    }
+}
