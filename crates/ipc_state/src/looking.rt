@@ -107,7 +107,7 @@ pub fn facts_in(row: Option<&ObjectRow>) -> Option<Facts>
     row.map(|row| row.facts)
 }
 
-/// Whether calls by the description are refused where they would block.
+/// Whether calls by the description are refused where they would park.
 pub fn is_nonblock_in(row: Option<&Row>) -> bool
     ensures { result ≡ is_some_and (λ row. row.nonblock) (option_copied row.entry) }
 {

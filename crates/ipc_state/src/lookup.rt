@@ -262,7 +262,7 @@ impl<'a> Lookup<'a> {
         facts_in(self.named)
     }
 
-    /// Whether the caller holds the description that the event names, and calls by it are refused where they would block.
+    /// Whether the caller holds the description that the event names, and calls by it are refused where they would park.
     pub fn is_nonblock(&self) -> bool
         ensures { result ≡ (is_some (by_description (holds self.now.history) self.now.event) && is_some_and (λ x. is_nonblock self.now.history x.desc.0) (description self.now.event)) }
     {
