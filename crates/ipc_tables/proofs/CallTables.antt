@@ -1,32 +1,54 @@
--- What the calls on queues and semaphores do to the tables, by what becomes of a send, a receive, a post and a wait.
-use Rattle.std.proofs.Common.{◌≡◌, ℕ, List, slice_get, Option, Some, None, refl, ap, ◌∙◌}
+-- What a call on a queue or a semaphore does to the tables: what stands in an object changes, and a session parks or is
+-- parked no more.
+use Rattle.std.proofs.Common.{◌≡◌, ℕ, List, slice_get, Option, Some, None, refl, sym, ap, ◌∙◌}
 use Rattle.std.specs.Prelude.{option_and_then}
-use Rattle.ipc_terms.specs.Lists.{first, changed, changed_first}
+use Rattle.std.specs.Borrow.{MutBor}
+use Rattle.std.specs.Option.{OnSome, option_copied_mut}
+use Rattle.ipc_terms.specs.Lists.{changed, changed_first}
 use Rattle.ipc_terms.specs.declared.ids.Sid.{Sid}
-use Rattle.ipc_queue.specs.declared.queue.Ticket.{Ticket}
-use Rattle.ipc_queue.specs.declared.queue.SendOutcome.{SendOutcome}
-use Rattle.ipc_queue.specs.declared.queue.ReceiveOutcome.{ReceiveOutcome}
-use Rattle.ipc_queue.specs.Tickets.{Tickets, send_outcome, receive_outcome, sent, received}
-use Rattle.ipc_sem.specs.declared.semaphore.WaitOutcome.{WaitOutcome}
-use Rattle.ipc_sem.specs.Counters.{Counter, posted, wait_outcome, waited}
-use Rattle.ipc_tables.specs.declared.rows.Session.{Session}
+use Rattle.ipc_tables.specs.contracts.tables.Tables.{the_view}
+use Rattle.ipc_tables.specs.declared.objects.Objects.{Objects}
+use Rattle.ipc_tables.specs.declared.rows.Body.{Body}
 use Rattle.ipc_tables.specs.declared.rows.ObjectRow.{ObjectRow}
-use Rattle.ipc_tables.specs.Objects.{is_number, queue_at, semaphore_at, with_queue, with_semaphore, with_withdrawal}
+use Rattle.ipc_tables.specs.declared.rows.Session.{Session}
+use Rattle.ipc_tables.specs.declared.tables.Tables.TheInside.{Inside}
+use Rattle.ipc_tables.specs.Lending.{HasRows}
+use Rattle.ipc_tables.specs.Objects.{is_number, with_withdrawal}
+use Rattle.ipc_tables.specs.Standing.{rows_in, IsStanding}
+use Rattle.ipc_tables.specs.Steps.{with_parked, after_withdrawal}
 use Rattle.ipc_tables.specs.TablesView.{TablesView, parked_on_at}
-use Rattle.ipc_tables.specs.Steps.{with_parked, parked_by_send, parked_by_receive, parked_by_post, parked_by_wait, after_send, after_receive, after_post, after_wait, after_withdrawal}
+use Rattle.ipc_tables.proofs.Parts.{IsPart, part_at, part_changed, part_same, with_changed}
+use Rattle.ipc_tables.proofs.StandingLemmas.{Keeps, changed_stands, unchanged_stands}
+use Rattle.ipc_tables.proofs.TableChanges.{seen}
 
--- what a send, a receive, a post and a wait make of the tables
-pub after_send_is : (t : TablesView) (o : ℕ) (ticket : Ticket) (sid : Sid) (ss : List Session) (q : Tickets) (out : SendOutcome) → queue_at t.objects o ≡ Some q → out ≡ send_outcome q → ss ≡ parked_by_send o sid (Some out) t.sessions → record t { sessions = ss; objects = changed_first (is_number o) (with_queue (sent ticket sid)) t.objects } ≡ after_send t o ticket sid
-after_send_is t o ticket sid ss q out there is parked = rw (there, ← is, parked) refl
+-- what a call makes of the tables: all stands, and they are `next`, where the sessions are what its outcome makes of them
+pub record Called {W : Type 0} (inside : Inside) (after : Objects) (outcome : W) (parked_by : W → List Session → List Session) (next : TablesView) : Type 0 where
+  pub stands : IsStanding inside.queues inside.semaphores inside.descriptions.rows after
+  pub tables : (w : W) (ss : List Session) → outcome ≡ w → ss ≡ parked_by w inside.sessions → the_view (record inside { sessions = ss; objects = after }) ≡ next
 
-pub after_receive_is : (t : TablesView) (o : ℕ) (sid : Sid) (ss : List Session) (q : Tickets) (out : ReceiveOutcome) → queue_at t.objects o ≡ Some q → out ≡ receive_outcome q → ss ≡ parked_by_receive o sid (Some out) t.sessions → record t { sessions = ss; objects = changed_first (is_number o) (with_queue (received sid)) t.objects } ≡ after_receive t o sid
-after_receive_is t o sid ss q out there is parked = rw (there, ← is, parked) refl
+-- what stands in object o changes, and the outcome is of what stood there
+abbrev pub after_call : {A W : Type 0} → (Body → Option A) → ((A → A) → Body → Body) → ℕ → (A → A) → (Option A → W) → (W → List Session → List Session) → TablesView → TablesView
+after_call of with_part o change outcome_of parked_by t = record t { sessions = parked_by (outcome_of (part_at of t.objects o)) t.sessions; objects = with_changed o (with_part change) t.objects }
 
-pub after_post_is : (t : TablesView) (o : ℕ) (ss : List Session) (q : Counter) (served : Option Sid) → semaphore_at t.objects o ≡ Some q → served ≡ first q.waiters → ss ≡ parked_by_post served t.sessions → record t { sessions = ss; objects = changed_first (is_number o) (with_semaphore posted) t.objects } ≡ after_post t o
-after_post_is t o ss q served there is parked = rw (there, ← is, parked) refl
+-- a call that touches one object: what stands there was lent, as x, and is w since
+module _ {A : Type 0} {of : Body → Option A} {make : A → Body} {with_part : (A → A) → Body → Body} (part : IsPart of make with_part) (o : ℕ) (inside : Inside) {after : Objects} {r : Option (MutBor A)} {t : TablesView} (x : MutBor A) (w : A) (value : option_copied_mut r ≡ part_at of (rows_in inside.objects) o) (is : r ≡ Some x) (holds : OnSome r (HasRows (with_changed o (with_part (λ y. w)) (rows_in inside.objects)) inside.objects after)) (stood : IsStanding inside.queues inside.semaphores inside.descriptions.rows inside.objects) (was : the_view inside ≡ t) where
+  pub called : {W : Type 0} (change : A → A) (outcome_of : Option A → W) (parked_by : W → List Session → List Session) (outcome : W) → Keeps inside.descriptions.rows o (λ row. record row { body = with_part change row.body }) → w ≡ change x.now → outcome ≡ outcome_of (Some x.now) → Called inside after outcome parked_by (after_call of with_part o change outcome_of parked_by t)
+  called change outcome_of parked_by outcome keeps changes comes =
+      let has = part_changed part o inside.objects after r value change x w is changes holds in
+      let there : Some x.now ≡ part_at of (rows_in inside.objects) o = sym (ap option_copied_mut is) ∙ value in
+      record {
+        stands = changed_stands inside o _ after keeps has stood;
+        tables = λ v ss so parked.
+            seen inside ss _ after has
+            ∙ ap (λ (s : List Session). record (the_view inside) { sessions = s; objects = with_changed o (with_part change) (rows_in inside.objects) }) (parked ∙ ap (λ k. parked_by k inside.sessions) (sym so ∙ comes ∙ ap outcome_of there))
+            ∙ ap (after_call of with_part o change outcome_of parked_by) was;
+      }
 
-pub after_wait_is : (t : TablesView) (o : ℕ) (sid : Sid) (ss : List Session) (q : Counter) (out : WaitOutcome) → semaphore_at t.objects o ≡ Some q → out ≡ wait_outcome q → ss ≡ parked_by_wait o sid (Some out) t.sessions → record t { sessions = ss; objects = changed_first (is_number o) (with_semaphore (waited sid)) t.objects } ≡ after_wait t o sid
-after_wait_is t o sid ss q out there is parked = rw (there, ← is, parked) refl
+  -- where memory is refused nothing changes
+  pub refused : w ≡ x.now → IsStanding inside.queues inside.semaphores inside.descriptions.rows after × (the_view (record inside { objects = after }) ≡ t)
+  refused same =
+      let has = part_same part o inside.objects after r value x w is same holds in
+      (unchanged_stands inside after has stood, seen inside inside.sessions _ after has ∙ was)
 
 -- a withdrawal, where the session was parked
 pub parked_row : (xs : List Session) (s : ℕ) (row : Session) (o : ℕ) → slice_get xs s ≡ Some row → row.parked_on ≡ Some o → parked_on_at xs s ≡ Some o
