@@ -129,6 +129,15 @@ feeds old piece c whole kept n first w e len k f =
     let new_is : record { kept = kept; first = first; fault = c.fault } ≡ stream_after old.first c = rw (rest, f) refl in
     record { requests_are = ap (λ (x : Cut). x.requests) cut_is_c; stream_is = new_is ∙ ap (stream_after old.first) cut_is_c }
 
+-- a piece before which nothing is kept is the stream's cut by itself
+pub feeds_first : (old : Stream) (piece : List ℕ) (c : Cut) (kept : List ℕ) (first : Bool) → old.kept ≡ [] → cut old.first piece ≡ c → kept ≡ old.kept ++ c.rest → first ≡ still_first old.first c.requests
+    → Feeds old piece c.requests (record { kept = kept; first = first; fault = c.fault })
+feeds_first old piece c kept first none e k f =
+    let cut_is_c : c ≡ cut old.first (old.kept ++ piece) = sym e ∙ ap (λ (l : List ℕ). cut old.first (l ++ piece)) (sym none) in
+    let rest : kept ≡ c.rest = k ∙ ap (λ (l : List ℕ). l ++ c.rest) none in
+    let new_is : record { kept = kept; first = first; fault = c.fault } ≡ stream_after old.first c = rw (rest, f) refl in
+    record { requests_are = ap (λ (x : Cut). x.requests) cut_is_c; stream_is = new_is ∙ ap (stream_after old.first) cut_is_c }
+
 -- ---- a stream in two pieces
 
 -- cutting w, and then its rest and v, gives together what cutting w and v gives

@@ -156,6 +156,9 @@ impl Frames {
         if self.fault.is_some() {
             return Ok(Vec::new(alloc));
         }
+        if self.kept.is_empty() {
+            return self.feed_first(alloc, piece);
+        }
         let kept_before = self.kept.len();
         self.kept.extend_from_slice(piece)?;
         match cut_of(alloc, self.first, &self.kept) {
@@ -171,5 +174,18 @@ impl Frames {
                 Err(NoMemory)
             }
         }
+    }
+
+    /// Takes a piece before which nothing is kept: it is cut where it lies, and its rest alone is kept.
+    fn feed_first(&mut self, alloc: Global, piece: &[u8]) -> Result<Vec<Request>, NoMemory>
+        requires { self.old.kept ≡ [] }
+        ensures cut { IfOk result (λ requests. Feeds self.old piece.now requests.items self.new) }
+        ensures err { OnErr result (self.new ≡ self.old) }
+    {
+        let (requests, rest, fault) = cut_of(alloc, self.first, piece)?;
+        self.kept.extend_from_slice(rest)?;
+        self.first = still_first(self.first, &requests);
+        self.fault = fault;
+        Ok(requests)
     }
 }
