@@ -1,4 +1,4 @@
-.PHONY: demo run quick build install uninstall test rows ways docs exhaust clients clients-test conformance
+.PHONY: demo run quick build install uninstall test rows ways docs faults clients clients-test conformance
 
 PREFIX = /usr/local
 
@@ -74,9 +74,9 @@ ways:
 
 # Compares the documents with what they speak of.
 docs:
-	@docs/check.py
+	@tools/documents.py
 
 # Refuses each growth in turn, and disturbs each read and write in turn, in the programs that the gate left. The last line
 # counts the allocations refused and the runs that failed.
-exhaust:
-	@exhaust/run.py
+faults:
+	@faults/run.py

@@ -22,7 +22,7 @@ import threading
 
 TOP = pathlib.Path(__file__).resolve().parent.parent
 FOLDERS = {
-    "crates/worked_rows/data": "mqserve",
+    "crates/test_rows/data/scripts": "mqserve",
     "rows/mqserve": "mqserve",
     "rows/mqctl": "mqctl",
 }

@@ -15,7 +15,7 @@ import time
 
 from programs import CRATES, NAMES, TOP, UNPROVED, below, unproved, uses
 
-TESTS = ["library_tests", "server_tests", "client_tests"]
+TESTS = ["test_library", "test_server", "test_client"]
 # How many calls the long inputs have: the unproved programs check each access, and take a millisecond a call.
 CALLS = "2000"
 # What a test may take: 60 seconds are too few for the longest ones beside other work.
@@ -48,7 +48,7 @@ def layout(names):
 
 
 def documents():
-    status, out, said = run("docs/check.py", cwd=TOP)
+    status, out, said = run("tools/documents.py", cwd=TOP)
     return status == 0, last_line(out), said
 
 
@@ -71,12 +71,13 @@ def rows():
     return status == 0, last_line(out), "\n".join(wrong)
 
 
-def hub_rows():
-    """Runs the program that feeds streams to a hub, over its data."""
-    folder = CRATES / "hub_rows"
-    data = [word for file in sorted((folder / "data").iterdir()) for word in ("--data", f"{file.name}={file}")]
-    status, out, said = run("rt", "try", *data, cwd=folder)
-    return status == 0 and out == (folder / "stdout").read_text(), f"{len(out.splitlines())} streams", said
+def streams():
+    """Runs the program that feeds streams to a hub, over its data. The scripts that it runs too are rows of mqserve."""
+    folder = CRATES / "test_rows"
+    data = [word for file in sorted(folder.glob("data/streams/*")) for word in ("--data", f"streams/{file.name}={file}")]
+    status, out, said = run("rt", "try", *data, "--", "streams", cwd=folder)
+    wanted = (folder / "stdout").read_text()
+    return status == 0 and out and wanted.endswith(out), f"{len(out.splitlines())} streams", said
 
 
 def proof(name):
@@ -96,8 +97,8 @@ def parts_for(crate):
         yield "rows", rows
     for name in filter(stand_on_it, TESTS):
         yield name, lambda name=name: tests(name)
-    if stand_on_it("hub_rows"):
-        yield "hub_rows", hub_rows
+    if stand_on_it("test_rows"):
+        yield "streams", streams
     yield "layout", lambda: layout([crate] if crate else lines)
     yield "documents", documents
 
@@ -128,7 +129,7 @@ def main():
             passed += done.result()[0]
             failed += not done.result()[0]
     proofs = f"proofs but that of {asked.crate}" if asked.crate else "all proofs"
-    print(f"Left out: {proofs}, wrong bodies, growth_tests, workloads, and the programs as proved. `make test` has them.")
+    print(f"Left out: {proofs}, wrong bodies, test_memory, workloads, and the programs as proved. `make test` has them.")
     print(f"{passed} passed, {failed} failed")
     return 1 if failed else 0
 

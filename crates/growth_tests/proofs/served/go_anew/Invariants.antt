@@ -1,4 +1,0 @@
-use Rattle.growth_tests.proofs.served.go_anew.Given as goal
-
-abbrev pub ghosts-serve_in : goal.ghosts-serve_in
-ghosts-serve_in g a = record { name = a.blank.name; parts = a.blank.parts }

@@ -1,4 +1,0 @@
-use Rattle.server_tests.proofs.tests.journal_tests.serve_streams.Given as goal
-
-abbrev pub ghosts-serve_in : goal.ghosts-serve_in
-ghosts-serve_in g a = record { name = a.blank.name; parts = a.blank.parts }

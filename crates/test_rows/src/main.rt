@@ -1,0 +1,18 @@
+//! Runs rows of data whose outcome is known, and prints for each whether it comes out so: scripts, and streams through a hub.
+//! With the word `streams` it runs these alone.
+#![tactic(auto)]
+
+mod files;
+mod scripts;
+mod streams;
+
+use anyhow::Result;
+use std::env;
+
+fn main(rt: HostRuntime) -> Result<()> {
+    let words: Vec<String> = env::args(&rt)?.collect(rt.alloc())?;
+    if words.get(1).is_none_or(|word| word.as_str() != "streams") {
+        scripts::run(&rt)?;
+    }
+    streams::run(&rt)
+}

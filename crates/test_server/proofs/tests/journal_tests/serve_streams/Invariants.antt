@@ -1,0 +1,4 @@
+use Rattle.test_server.proofs.tests.journal_tests.serve_streams.Given as goal
+
+abbrev pub ghosts-serve_in : goal.ghosts-serve_in
+ghosts-serve_in g a = record { name = a.blank.name; parts = a.blank.parts }

@@ -1,0 +1,197 @@
+#!/usr/bin/env python3
+"""Refuses each growth of memory in turn, and disturbs each read and write in turn, in the programs that the gate or a
+build left. A run refuses one growth, the first run the first, and so on until a run meets none any more; likewise a read
+or a write fails, comes short, or is interrupted. Where a program ends once memory is refused, all growths from one on are
+refused too. Each run is judged by itself:
+
+- test_memory makes again what is refused: it prints its `stdout`, with status 0.
+- mqserve and mqctl, over NAME.in, print NAME.out; or, where memory is refused or a read or a write fails, they end with
+  the status and the words of that, and what they have printed by then are the first lines of NAME.out.
+- mqserve serve, with two clients one after the other, ends so too, or with status 0: then each client got the first of
+  its answers. mqctl ADDRESS KEY has a server that answers at once.
+- A short or interrupted read or write changes nothing.
+
+Of mqserve serve, growths are also refused so many times one after another that the server's last try of a hello, a step or a
+hang-up is the first that is granted, or the last that is refused: `tries`. And of many connections, one after another, no
+allocation may be left: `kept`.
+
+Prints a line for each way, one for each run that fails, and the counts; the status is 1 where one failed, or where few
+were met. The programs are looked for in crates/NAME/out; `--programs FOLDER` gives another folder.
+"""
+
+import argparse
+import concurrent.futures
+import itertools
+import os
+import pathlib
+import subprocess
+import sys
+import tempfile
+
+from programs import Program
+from served import Client, Server, answers_of, frame, short_talk
+from tries import tries_differences
+
+HERE = pathlib.Path(__file__).resolve().parent
+TOP = HERE.parent
+# A whole run that meets fewer growths, or fewer reads and writes, shows nothing.
+LEAST = 1_000
+# The most bytes of a read or a write, where these are disturbed: so there are many.
+PIECE = 7
+# More growths than a run asks for.
+ALL = 10**9
+
+ALLOCATION = "allocation"
+# How each way is said, and the program's words and exit status where it can't go on. A connection's reads and writes are the
+# network's.
+MEMORY = (["memory"], 5)
+FAILING = {"read-fails": (["read", "net"], 4), "write-fails": (["write", "net"], 4)}
+HARMLESS = ["read-short", "read-interrupted", "write-short", "write-interrupted"]
+
+# How many connections a server has whose allocations are counted, and how many allocations more a hundred may leave.
+FEW, MANY, LEFT = 10, 110, 20
+
+
+def programs(folder):
+    """The programs, in `folder` or else where builds leave them."""
+    at = lambda name: folder / name if folder else TOP / "crates" / name / "out" / name
+    beside = lambda name, ending: (HERE / name).with_suffix(ending).read_bytes()
+    tests = TOP / "crates" / "test_memory" / "stdout"
+    yield Program("test_memory", at("test_memory"), [], b"", tests.read_bytes(), 0, again=True)
+    script = ["script", "--queues-max", "256"]
+    yield Program("mqserve", at("mqserve"), script, beside("mqserve", ".in"), beside("mqserve", ".out"), 0)
+    yield Program("mqctl", at("mqctl"), [], beside("mqctl", ".in"), beside("mqctl", ".out"), 1)
+    yield server(at("mqserve"))
+    refused = frame(b"\x4c\0\x08")
+    lines, printed = b"umask 000\nmq-close 7\n-\n", b"mask 022\nrefused 8 EBADF BadDescr\nfault usage\n"
+    answers = answers_of(short_talk(0)) + refused
+    yield Client("mqctl ADDRESS KEY", at("mqctl"), ["ka1"], lines, printed, 1, answers=answers)
+
+
+def server(file, **more):
+    out = b"serving ADDRESS\nserved %d\n" % len(more.get("talks", Server.talks))
+    return Server("mqserve serve", file, [TOP / "demo" / "users"], b"", out, 0, **more)
+
+
+def library_in(room):
+    """Builds the library to preload in this folder."""
+    made = pathlib.Path(room) / "refuse.so"
+    command = ["gcc", "-O2", "-Wall", "-Wextra", "-shared", "-fPIC", "-o", made, HERE / "refuse.c"]
+    subprocess.run(command, check=True)
+    return made
+
+
+def run(program, library, what, at, times=1):
+    """Runs the program with so many calls disturbed, from this one on. How it ended, and what the library told."""
+    reader, writer = os.pipe()
+    told = {"DISTURB_WHAT": what, "DISTURB_AT": str(at), "DISTURB_TIMES": str(times), "DISTURB_TOLD": str(writer)}
+    if what in FAILING or what in HARMLESS:
+        told["DISTURB_PIECE"] = str(PIECE)
+    try:
+        ended = program.run({**os.environ, **told, "LD_PRELOAD": str(library)}, [writer])
+    finally:
+        os.close(writer)
+        with os.fdopen(reader, "rb") as end:
+            said = end.read()
+    return ended, said
+
+
+def judged(program, library, what, fault, at, times):
+    """Whether the call was met, and where the run does other than it may, or nothing."""
+    try:
+        ended, said = run(program, library, what, at, times)
+    except subprocess.TimeoutExpired:
+        return True, "takes too long"
+    return bool(said), program.difference(ended, fault)
+
+
+def each_in_turn(pool, jobs, judge):
+    """Judges a run with the first call disturbed, the second, and so on until none is met; each that was met."""
+    numbers = itertools.count(1)
+    while True:
+        batch = list(itertools.islice(numbers, 16 * jobs))
+        for at, (is_met, verdict) in zip(batch, pool.map(judge, batch)):
+            if not is_met:
+                return
+            yield at, verdict
+
+
+def disturbed(pool, jobs, program, library, way):
+    """Disturbs each such call in turn; how many were met, and how many runs failed."""
+    what, fault, times = way
+    judge = lambda at: judged(program, library, what, fault, at, times)
+    said = what if times == 1 else f"{what}s from there on"
+    met, failed = 0, 0
+    for at, why in each_in_turn(pool, jobs, judge):
+        met += 1
+        failed += bool(why)
+        if why:
+            print(f"{program.name}, {said} {at}: {why}", flush=True)
+    print(f"{program.name}, {said}: {met} met, {failed} failed", flush=True)
+    return met, failed
+
+
+def ways_of(program):
+    """The ways in which calls of the program are disturbed: each with its fault, if it is one, and how many calls."""
+    yield ALLOCATION, MEMORY, 1
+    if not program.again:
+        yield ALLOCATION, MEMORY, ALL
+        yield from ((what, fault, 1) for what, fault in FAILING.items())
+    yield from ((what, None, 1) for what in HARMLESS)
+
+
+def kept_difference(file, library):
+    """Where connections that are over leave allocations, or nothing."""
+    most = []
+    for count in (FEW, MANY):
+        program = server(file, talks=(short_talk,) * count)
+        ended, said = run(program, library, "kept", 1)
+        differs = program.whole_difference(ended)
+        if differs or not said:
+            return differs or "nothing was counted"
+        most.append(max(map(int, said.split())))
+    print(f"mqserve serve, kept: {most[0]} allocations at most with {FEW} connections, {most[1]} with {MANY}", flush=True)
+    return "" if most[1] - most[0] <= LEFT else "connections that are over leave allocations"
+
+
+def server_differences(pool, jobs, file, library):
+    """What else differs of a server."""
+    def outcome(at, times):
+        ended, said = run(server(file), library, ALLOCATION, at, times)
+        return bool(said), ended
+
+    yield from tries_differences(server(file), lambda judge: each_in_turn(pool, jobs, judge), outcome)
+    yield kept_difference(file, library)
+
+
+def main():
+    parser = argparse.ArgumentParser(description="Refuses each growth in turn, and disturbs each read and write in turn.")
+    parser.add_argument("--programs", type=pathlib.Path, help="a folder with the programs")
+    parser.add_argument("--jobs", type=int, default=os.cpu_count(), help="how many runs at a time")
+    parser.add_argument("names", nargs="*", help="programs alone that are run; else all are")
+    asked = parser.parse_args()
+    allocations, transfers, failed = 0, 0, 0
+    with tempfile.TemporaryDirectory() as room, concurrent.futures.ThreadPoolExecutor(asked.jobs) as pool:
+        library = library_in(room)
+        for program in programs(asked.programs and asked.programs.resolve()):
+            if asked.names and program.name not in asked.names:
+                continue
+            for way in ways_of(program):
+                met, amiss = disturbed(pool, asked.jobs, program, library, way)
+                failed += amiss
+                allocations += met if way[0] == ALLOCATION else 0
+                transfers += met if way[0] != ALLOCATION else 0
+            if isinstance(program, Server):
+                for why in filter(None, server_differences(pool, asked.jobs, program.file, library)):
+                    print(f"{program.name}: {why}")
+                    failed += 1
+    if not asked.names and (allocations < LEAST or transfers < LEAST):
+        print(f"fewer than {LEAST} of a kind were met: the library that refuses them has no effect")
+        failed += 1
+    print(f"{transfers} reads and writes disturbed")
+    print(f"{allocations} allocations refused, {failed} failed")
+    return 1 if failed else 0
+
+
+if __name__ == "__main__":
+    sys.exit(main())
