@@ -3,8 +3,10 @@ use Rattle.std.proofs.Common.{◌≡◌, ℕ, zero, suc, ◌+◌, ◌≤◌, Lis
 use Rattle.std.specs.Borrow.{MutBor}
 use Rattle.std.specs.Bool.{if◌then◌else◌}
 use Rattle.std.specs.List.{IsItemAtMut}
+use Rattle.std.specs.Prelude.{min}
 use Rattle.std.specs.Option.{OnSome, IsSome, is_some, option_copied_mut}
-use Rattle.std.proofs.lemmas.Option.{slice_get_past, slice_get_read}
+use Rattle.std.proofs.lemmas.Option.{slice_get_past, slice_get_read, slice_get_within}
+use Rattle.std.proofs.lemmas.List.{length-drop, drop-set-add, drop-append-le}
 use Rattle.ipc_terms.specs.Lists.{changed}
 use Rattle.ipc_numbered.specs.Slots.{at, emptied, how_many_filled, is_sparse}
 
@@ -12,6 +14,31 @@ use Rattle.ipc_numbered.specs.Slots.{at, emptied, how_many_filled, is_sparse}
 pub found : {X : Type 0} (rows : List X) (s : ℕ) (r : Option (MutBor X)) → IsItemAtMut rows s r → slice_get rows s ≡ option_copied_mut r
 found rows s None is = slice_get_past rows s is.3
 found rows s (Some row) is = slice_get_read rows (length rows) s row.now refl is.3.0 is.1
+
+-- ---- a slot behind the places of those that left
+
+-- its place is bounded, past all that there are
+abbrev pub Place : ℕ → ℕ → ℕ → Type 0
+Place gone slot place = place ≡ min (gone + slot) 18446744073709551615
+
+behind : {X : Type 0} (xs : List X) (gone n place : ℕ) → place ≡ gone + n → slice_get xs place ≡ slice_get (drop gone xs) n
+behind xs zero n place e = ap (slice_get xs) (let same : place ≡ n = omega arith in same)
+behind [] (suc gone) n place e = refl
+behind (x ∷ xs) (suc gone) n zero e = absurd (omega arith)
+behind (x ∷ xs) (suc gone) n (suc place) e = behind xs gone n place (omega arith)
+
+-- what `get_mut` found there
+pub found_behind : {X : Type 0} (xs : List X) (gone n place : ℕ) (r : Option (MutBor X)) → Place gone n place → length xs < 9223372036854775808 → IsItemAtMut xs place r → slice_get (drop gone xs) n ≡ option_copied_mut r
+found_behind xs gone n place None e few is = slice_get_past (drop gone xs) n (let left = length-drop gone xs in let past = is.3 in omega arith)
+found_behind xs gone n place (Some row) e few is = sym (behind xs gone n place (let within = is.3.0 in omega arith)) ∙ found xs place (Some row) is
+
+-- and a write there
+pub set_behind : {X : Type 0} (xs : List X) (gone n place : ℕ) (x y : X) → Place gone n place → length xs < 9223372036854775808 → slice_get (drop gone xs) n ≡ Some y → drop gone (set xs place x) ≡ set (drop gone xs) n x
+set_behind xs gone n place x y e few there =
+    let left = length-drop gone xs in
+    let within = slice_get_within (drop gone xs) n y there in
+    let same : place ≡ gone + n = omega arith in
+    ap (λ p. drop gone (set xs p x)) same ∙ drop-set-add gone xs n x
 
 pub at_slot : {X : Type 0} (xs : List (Option X)) (n : ℕ) (y : Option X) → slice_get xs n ≡ Some y → at xs n ≡ y
 at_slot [] n y e = absurd cc
@@ -63,6 +90,12 @@ pub first_emptied : {X : Type 0} (xs : List (Option X)) → 0 < length xs → sl
 first_emptied [] some = absurd (omega arith)
 first_emptied (x ∷ xs) some = refl
 
+-- where it is empty, as many have a value without it
+pub filled_behind_first : {X : Type 0} (xs : List (Option X)) → slice_get xs 0 ≡ Some None → how_many_filled (drop 1 xs) ≡ how_many_filled xs
+filled_behind_first [] e = absurd cc
+filled_behind_first (None ∷ xs) e = refl
+filled_behind_first (Some x ∷ xs) e = absurd cc
+
 -- its value is put back
 pub first_restored : {X : Type 0} (xs : List (Option X)) (x : X) → at xs 0 ≡ Some x → changed (λ o. Some x) (changed emptied xs 0) 0 ≡ xs
 first_restored [] x e = absurd cc
@@ -76,6 +109,12 @@ first_and_rest (x ∷ xs) some = refl
 pub sparse_some : {X : Type 0} (xs : List (Option X)) → is_sparse xs ≡ true → 0 < length xs
 sparse_some [] e = absurd cc
 sparse_some (x ∷ xs) e = omega arith
+
+-- ---- the last slot goes
+
+-- of those that stand
+pub last_left : {X : Type 0} (xs rest : List X) (gone : ℕ) (last : List X) → xs ≡ rest ++ last → gone ≤ length rest → drop gone xs ≡ drop gone rest ++ last
+last_left xs rest gone last e le = ap (drop gone) e ∙ drop-append-le gone rest last le
 
 -- ---- how many slots have a value
 

@@ -7,29 +7,32 @@ ghost use Rattle.ipc_numbered.specs.Slots.{at, emptied, is_sparse};
 
 use ipc_terms::NoMemory;
 use std::alloc::Global;
-use std::collections::VecDeque;
 use std::marker::Model;
 
 /// So many slots stay, however few of them have a value.
 const FEW: usize = 64;
 
-/// Slots in a row, some of them empty.
+/// Slots in a row, some of them empty. Slots leave in front, and their places stay until more have left than stand: so each
+/// slot that is moved to the front is paid for by one that left.
 #[derive(Drop)]
 pub struct Recent<V: Drop> {
-    slots: VecDeque<Option<V>>,
+    /// The slots, behind the places of those that left.
+    slots: Vec<Option<V>>,
+    /// How many left.
+    gone: usize,
     /// How many have a value.
     filled: usize,
 }
 
 impl<V: Drop> Model for Recent<V> {
-    ghost use Rattle.std.specs.Prelude.{◌≡◌, List, Option};
+    ghost use Rattle.std.specs.Prelude.{◌≡◌, ◌≤◌, List, Option, length, drop};
     ghost use Rattle.ipc_numbered.specs.Slots.{how_many_filled};
 
     ghost Value = { List (Option V) };
 
-    ghost view = { λ a. a.slots.items };
+    ghost view = { λ a. drop a.gone a.slots.items };
 
-    ghost invariant = { λ a. a.filled ≡ how_many_filled a.slots.items };
+    ghost invariant = { λ a. (a.gone ≤ length a.slots.items) × (a.filled ≡ how_many_filled (drop a.gone a.slots.items)) };
 }
 
 impl<V: Drop> Recent<V> {
@@ -41,7 +44,8 @@ impl<V: Drop> Recent<V> {
         ensures { result ≡ [] }
     {
         Recent {
-            slots: VecDeque::new(alloc),
+            slots: Vec::new(alloc),
+            gone: 0,
             filled: 0,
         }
     }
@@ -51,21 +55,22 @@ impl<V: Drop> Recent<V> {
         ensures count { result ≡ length self.now }
         ensures small { result < 2 ^ 63 }
     {
-        self.slots.len()
+        self.slots.len() - self.gone
     }
 
     /// Whether there are many slots, and more than half of them are empty.
     pub fn is_sparse(&self) -> bool
         ensures { result ≡ is_sparse self.now }
     {
-        self.slots.len() > FEW && self.filled < self.slots.len() - self.filled
+        self.len() > FEW && self.filled < self.len() - self.filled
     }
 
     /// The value in the slot, if there is one.
     pub fn get(&self, slot: usize) -> Option<&V>
         ensures { option_copied result ≡ at self.now slot }
     {
-        self.slots.get(slot)?.as_ref()
+        let place = self.gone.saturating_add(slot);
+        self.slots.get(place)?.as_ref()
     }
 
     /// The value in the slot, if there is one, to be changed.
@@ -73,7 +78,8 @@ impl<V: Drop> Recent<V> {
         ensures* writes_back { sem 𝓛 (LendsSo (the_row V.row) V.row self.entry result (λ after v. OnSome result (after ≡ changed (λ x. Some v) self.old slot)) (λ after. after ≡ self.old)) }
         ensures value { option_copied_mut result ≡ at self.old slot }
     {
-        match self.slots.get_mut(slot)? {
+        let place = self.gone.saturating_add(slot);
+        match self.slots.get_mut(place)? {
             Some(value) => Some(value),
             None => None,
         }
@@ -84,7 +90,7 @@ impl<V: Drop> Recent<V> {
         ensures ok { OnOk result (self.new ≡ self.old ++ Some value ∷ []) }
         ensures err { OnErr result (self.new ≡ self.old) }
     {
-        self.slots.push_back(Some(value))?;
+        self.slots.push(Some(value))?;
         self.filled += 1;
         Ok(())
     }
@@ -95,7 +101,10 @@ impl<V: Drop> Recent<V> {
         ensures none { result ≡ false → length self.old ≡ 0 }
         ensures some { result ≡ true → 0 < length self.old }
     {
-        let Some(slot) = self.slots.pop_back() else {
+        if self.len() == 0 {
+            return false;
+        }
+        let Some(slot) = self.slots.pop() else {
             return false;
         };
         if slot.is_some() {
@@ -109,7 +118,8 @@ impl<V: Drop> Recent<V> {
         ensures value { result ≡ at self.old slot }
         ensures rest { self.new ≡ changed emptied self.old slot }
     {
-        let value = self.slots.get_mut(slot)?.take()?;
+        let place = self.gone.saturating_add(slot);
+        let value = self.slots.get_mut(place)?.take()?;
         self.filled -= 1;
         Some(value)
     }
@@ -119,7 +129,7 @@ impl<V: Drop> Recent<V> {
         requires { slice_get self.old 0 ≡ Some None }
         ensures { self.new ≡ changed (λ x. Some value) self.old 0 }
     {
-        self.slots[0] = Some(value);
+        self.slots[self.gone] = Some(value);
         self.filled += 1;
     }
 
@@ -128,6 +138,17 @@ impl<V: Drop> Recent<V> {
         requires { slice_get self.old 0 ≡ Some None }
         ensures { self.new ≡ drop 1 self.old }
     {
-        self.slots.pop_front();
+        self.gone += 1;
+        self.compact();
+    }
+
+    /// Where more slots have left than stand, their places go too. Takes no memory.
+    fn compact(&mut self)
+        ensures { self.new ≡ self.old }
+    {
+        if self.gone > self.len() {
+            self.slots.drain(..self.gone);
+            self.gone = 0;
+        }
     }
 }
