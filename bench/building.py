@@ -1,36 +1,13 @@
-"""Proves and builds a program of this folder beside copies of the crates that it uses."""
+"""The program of the crate bench_calls, proved and built where it isn't yet."""
 
-import shutil
 import subprocess
 import sys
 from pathlib import Path
 
-ROOT = Path(__file__).resolve().parent.parent
+CRATE = Path(__file__).resolve().parent.parent / "crates" / "bench_calls"
 
 
-def below(names, lines):
-    """These crates, and those of the repository that they stand on."""
-    found, left = [], list(names)
-    while left:
-        name = left.pop()
-        if name in lines and name not in found:
-            found.append(name)
-            left += lines[name].split()
-    return found
-
-
-def built(room, name, libraries, arguments):
-    """The program of NAME.main over these libraries, built in the folder `room` and run once with the arguments."""
-    listed = (line.split(":") for line in (ROOT / "crates.txt").read_text().splitlines() if line and line[0] != "#")
-    lines = {of.split()[0]: uses for of, uses in listed}
-    used = below(libraries, lines)
-    for crate in used:
-        shutil.copytree(ROOT / "crates" / crate, room / "crates" / crate, ignore=shutil.ignore_patterns("must-fail"))
-    folder = room / "crates" / name
-    (folder / "src").mkdir(parents=True)
-    shutil.copy(ROOT / "bench" / f"{name}.main", folder / "src" / "main.rt")
-    shutil.copy(ROOT / "HANDLES", room)
-    text = "".join(f"{crate}:{lines[crate]}\n" for crate in used)
-    (room / "crates.txt").write_text(f"{text}{name}: {' '.join(libraries)}\n")
-    subprocess.run(["rt", "run", "--", *arguments], cwd=folder, check=True, stdout=sys.stderr)
-    return folder / "out" / name
+def bench_calls():
+    """The program. `rt run` proves it and the crates below it, unless it stands and none of them changed."""
+    subprocess.run(["rt", "run"], cwd=CRATE, check=True, stdout=sys.stderr)
+    return CRATE / "out" / CRATE.name

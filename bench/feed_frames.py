@@ -1,20 +1,15 @@
 #!/usr/bin/env python3
 """Times the reading of frames: sends of 64-byte messages in one piece, in pieces of 64 KiB and byte by byte.
 
-Proves and builds feed_frames.main beside copies of the crates that it uses, and prints the median frames a second of
-each kind of piece. A run that gives another number of requests ends it, with status 1 and without a figure.
+Proves and builds the crate bench_calls, and prints the median frames a second of each kind of piece. A run that gives another number of requests ends it, with status 1 and without a figure.
 """
 
 import argparse
 import statistics
 import subprocess
 import sys
-import tempfile
-from pathlib import Path
 
-from building import built
-
-LIBRARIES = ["ipc_terms", "ipc_wire", "anyhow"]
+from building import bench_calls
 
 # How often each kind of piece is fed.
 RUNS = 5
@@ -24,7 +19,7 @@ PIECES = [("in one piece", 0), ("in pieces of 64 KiB", 65_536), ("byte by byte",
 
 def rate(program, piece, count):
     """The frames a second of one run."""
-    words = [program, str(piece), str(count)]
+    words = [program, "frames", str(piece), str(count)]
     output = subprocess.run(words, check=True, capture_output=True, text=True).stdout
     requests, microseconds = map(int, output.split())
     # The hello is one more.
@@ -37,12 +32,11 @@ def main():
     parser = argparse.ArgumentParser(description=__doc__)
     parser.add_argument("frames", nargs="?", type=int, default=1_000_000, help="1,000,000 where none are given")
     count = parser.parse_args().frames
-    with tempfile.TemporaryDirectory(prefix="feed-frames-") as room:
-        program = built(Path(room), "feed_frames", LIBRARIES, ["1", "1"])
-        for kind, piece in PIECES:
-            rates = [rate(program, piece, count) for _ in range(RUNS)]
-            shown = ", ".join(f"{it:.0f}" for it in rates)
-            print(f"{kind}: {statistics.median(rates):.0f} frames a second, the median of {shown}")
+    program = bench_calls()
+    for kind, piece in PIECES:
+        rates = [rate(program, piece, count) for _ in range(RUNS)]
+        shown = ", ".join(f"{it:.0f}" for it in rates)
+        print(f"{kind}: {statistics.median(rates):.0f} frames a second, the median of {shown}")
 
 
 if __name__ == "__main__":

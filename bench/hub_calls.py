@@ -2,20 +2,15 @@
 """Times calls through a hub: sends and receives of 64-byte messages by one connection and by 64, frame by frame and in
 pieces of 64 KiB.
 
-Proves and builds hub_calls.main beside copies of the crates that it uses, and prints the median calls a second of each
-kind. A run whose output has another length than the answers ends it, with status 1 and without a figure.
+Proves and builds the crate bench_calls, and prints the median calls a second of each kind. A run whose output has another length than the answers ends it, with status 1 and without a figure.
 """
 
 import argparse
 import statistics
 import subprocess
 import sys
-import tempfile
-from pathlib import Path
 
-from building import built
-
-LIBRARIES = ["ipc_terms", "ipc_access", "ipc_core", "ipc_hub", "anyhow"]
+from building import bench_calls
 
 RUNS = 7
 
@@ -37,7 +32,7 @@ def rate(program, connections, piece, calls):
     """The calls a second of one run."""
     pairs = max(piece, 1) * connections
     rounds = max(calls // (2 * pairs), 1)
-    words = [program, "message", str(connections), str(piece), str(rounds)]
+    words = [program, "hub", "message", str(connections), str(piece), str(rounds)]
     output = subprocess.run(words, check=True, capture_output=True, text=True).stdout
     came, microseconds = map(int, output.split())
     wanted = rounds * pairs * ANSWERED
@@ -50,12 +45,11 @@ def main():
     parser = argparse.ArgumentParser(description=__doc__)
     parser.add_argument("calls", nargs="?", type=int, default=1_000_000, help="1,000,000 where none are given")
     calls = parser.parse_args().calls
-    with tempfile.TemporaryDirectory(prefix="hub-calls-") as room:
-        program = built(Path(room), "hub_calls", LIBRARIES, ["message", "1", "0", "1"])
-        for kind, connections, piece in KINDS:
-            rates = [rate(program, connections, piece, calls) for _ in range(RUNS)]
-            shown = ", ".join(f"{it:.0f}" for it in rates)
-            print(f"{kind}: {statistics.median(rates):.0f} calls a second, the median of {shown}")
+    program = bench_calls()
+    for kind, connections, piece in KINDS:
+        rates = [rate(program, connections, piece, calls) for _ in range(RUNS)]
+        shown = ", ".join(f"{it:.0f}" for it in rates)
+        print(f"{kind}: {statistics.median(rates):.0f} calls a second, the median of {shown}")
 
 
 if __name__ == "__main__":

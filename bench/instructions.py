@@ -1,8 +1,8 @@
 #!/usr/bin/env python3
 """Counts the instructions of calls through a hub, frames in and answers out, by kind of call and for 1 and 64 sessions.
 
-Proves and builds hub_calls.main beside copies of the crates that it uses, or takes the programs that are named, and runs it
-under valgrind with two numbers of rounds: the difference is that of the calls alone. Prints a table in Markdown, with a column
+Proves and builds the crate bench_calls, or takes such programs that are named, and runs it under valgrind with two numbers of
+rounds: the difference is that of the calls alone. Prints a table in Markdown, with a column
 for each program: by a call, two calls and sixteen calls a piece.
 """
 
@@ -10,11 +10,9 @@ import argparse
 import re
 import subprocess
 import sys
-import tempfile
 from pathlib import Path
 
-from building import built
-from hub_calls import LIBRARIES
+from building import bench_calls
 
 KINDS = {"mask": "umask", "message": "send and receive of 64 bytes", "semaphore": "post and wait", "stat": "stat of a name"}
 
@@ -26,7 +24,7 @@ PIECES = [0, 1, 8]
 
 def collected(program, kind, sessions, piece, rounds):
     """The instructions of a whole run."""
-    words = ["valgrind", "--tool=callgrind", "--callgrind-out-file=/dev/null", program, kind, sessions, piece, rounds]
+    words = ["valgrind", "--tool=callgrind", "--callgrind-out-file=/dev/null", program, "hub", kind, sessions, piece, rounds]
     run = subprocess.run([str(it) for it in words], check=True, capture_output=True, text=True)
     found = re.search(r"Collected\s*:\s*(\d+)", run.stderr)
     if not found:
@@ -53,12 +51,7 @@ def show(programs):
 def main():
     parser = argparse.ArgumentParser(description=__doc__)
     parser.add_argument("programs", nargs="*", type=Path, help="built before; this repository's where none is named")
-    programs = parser.parse_args().programs
-    if programs:
-        show(programs)
-        return
-    with tempfile.TemporaryDirectory(prefix="instructions-") as room:
-        show([built(Path(room), "hub_calls", LIBRARIES, ["message", "1", "0", "1"])])
+    show(parser.parse_args().programs or [bench_calls()])
 
 
 if __name__ == "__main__":

@@ -1,17 +1,14 @@
-//! Makes pairs of calls through a hub, and times them: `hub_calls KIND CONNECTIONS PIECE ROUNDS`.
+//! Pairs of calls through a hub.
 //!
 //! Each connection has a queue and a semaphore of its own. A pair is, by its KIND, a send and a receive of a message of 64
 //! bytes (`message`), a post and a wait (`semaphore`), two umasks (`mask`) or two questions for the queue's owner (`stat`).
 //! In each round every connection is fed PIECE pairs, as one piece, or frame by frame where PIECE is 0, and its output is
 //! taken after each piece. Prints how many bytes came out, and the microseconds.
-#![tactic(auto)]
-
+use anyhow::{Result, bail};
 use ipc_access::Users;
 use ipc_core::{Config, Limits};
 use ipc_hub::{Conn, Hub};
 use std::alloc::Global;
-use std::env;
-use std::process::ExitCode;
 use std::time::Instant;
 
 const USERS: &[u8] = b"ann:ka1:1000:1000::1000000000000000\n";
@@ -52,12 +49,14 @@ const MESSAGE: [u8; 64] = [b'm'; 64];
 
 /// What a pair of calls is.
 #[derive(Clone, Copy)]
-enum Kind {
+pub enum Kind {
     Message,
     Semaphore,
     Mask,
     Stat,
 }
+
+pub const KINDS: [Kind; 4] = [Kind::Message, Kind::Semaphore, Kind::Mask, Kind::Stat];
 
 impl Kind {
     fn of_word(word: &str) -> Option<Kind> {
@@ -83,7 +82,7 @@ fn name_end(number: u8) -> [u8; 2] {
     [b'A' + number / 16 % 16, b'A' + number % 16]
 }
 
-fn start_of(alloc: Global, number: u8) -> Result<Vec<u8>, anyhow::Error> {
+fn start_of(alloc: Global, number: u8) -> Result<Vec<u8>> {
     let mut bytes = Vec::new(alloc);
     bytes.extend_from_slice(HELLO)?;
     bytes.extend_from_slice(OPEN)?;
@@ -95,14 +94,14 @@ fn start_of(alloc: Global, number: u8) -> Result<Vec<u8>, anyhow::Error> {
     Ok(bytes)
 }
 
-fn put_by_description(bytes: &mut Vec<u8>, request: &[u8], desc: u64) -> Result<(), anyhow::Error> {
+fn put_by_description(bytes: &mut Vec<u8>, request: &[u8], desc: u64) -> Result<()> {
     bytes.extend_from_slice(request)?;
     bytes.extend_from_slice(&desc.to_be_bytes())?;
     Ok(())
 }
 
 /// Adds the first request of a pair of this kind.
-fn put_first(bytes: &mut Vec<u8>, kind: Kind, number: u8) -> Result<(), anyhow::Error> {
+fn put_first(bytes: &mut Vec<u8>, kind: Kind, number: u8) -> Result<()> {
     match kind {
         Kind::Message => {
             put_by_description(bytes, SEND, queue_of(number))?;
@@ -120,7 +119,7 @@ fn put_first(bytes: &mut Vec<u8>, kind: Kind, number: u8) -> Result<(), anyhow::
 }
 
 /// Adds the second request of a pair of this kind.
-fn put_second(bytes: &mut Vec<u8>, kind: Kind, number: u8) -> Result<(), anyhow::Error> {
+fn put_second(bytes: &mut Vec<u8>, kind: Kind, number: u8) -> Result<()> {
     match kind {
         Kind::Message => {
             put_by_description(bytes, RECEIVE, queue_of(number))?;
@@ -142,12 +141,7 @@ fn semaphore_of(number: u8) -> u64 {
 }
 
 /// What a client is fed in a round.
-fn pieces_of(
-    alloc: Global,
-    kind: Kind,
-    number: u8,
-    pairs: u32,
-) -> Result<Vec<Vec<u8>>, anyhow::Error> {
+fn pieces_of(alloc: Global, kind: Kind, number: u8, pairs: u32) -> Result<Vec<Vec<u8>>> {
     let (mut first, mut second) = (Vec::new(alloc), Vec::new(alloc));
     for _ in 0..pairs {
         put_first(&mut first, kind, number)?;
@@ -172,7 +166,7 @@ fn clients_of(
     kind: Kind,
     count: u8,
     pairs: u32,
-) -> Result<Vec<Client>, anyhow::Error> {
+) -> Result<Vec<Client>> {
     let mut clients = Vec::new(alloc);
     for number in 0..count {
         let conn = hub.open(alloc)?;
@@ -185,7 +179,7 @@ fn clients_of(
 }
 
 /// Feeds each connection what a round has, and says how many bytes came out.
-fn round(alloc: Global, hub: &mut Hub, clients: &[Client]) -> Result<usize, anyhow::Error> {
+fn round(alloc: Global, hub: &mut Hub, clients: &[Client]) -> Result<usize> {
     let mut bytes = 0_usize;
     for client in clients {
         for piece in &client.pieces {
@@ -196,62 +190,66 @@ fn round(alloc: Global, hub: &mut Hub, clients: &[Client]) -> Result<usize, anyh
     Ok(bytes)
 }
 
-/// Times the rounds, and prints what came out of them.
-fn time_rounds(
-    rt: &HostRuntime,
-    hub: &mut Hub,
-    clients: &[Client],
-    rounds: u32,
-) -> Result<(), anyhow::Error> {
+/// How many bytes came out of so many rounds.
+fn rounds_of(alloc: Global, hub: &mut Hub, clients: &[Client], rounds: u32) -> Result<usize> {
     let mut bytes = 0_usize;
-    let start = Instant::now(rt)?;
     for _ in 0..rounds {
-        bytes = bytes.wrapping_add(round(rt.alloc(), hub, clients)?);
+        bytes = bytes.wrapping_add(round(alloc, hub, clients)?);
     }
-    let spent = start.elapsed(rt)?;
-    println!(rt; "{bytes} {}", spent.as_micros())?;
-    Ok(())
+    Ok(bytes)
 }
 
-fn serve(
-    rt: &HostRuntime,
-    hub: &mut Hub,
+/// What is run: `kind` by so many connections, `pairs` in a piece, each connection `rounds` times.
+#[derive(Clone, Copy)]
+pub struct Job {
     kind: Kind,
     connections: u8,
     pairs: u32,
     rounds: u32,
-) -> Result<(), anyhow::Error> {
-    let clients = clients_of(rt.alloc(), hub, kind, connections, pairs)?;
-    time_rounds(rt, hub, &clients, rounds)
 }
 
-fn new_hub(alloc: Global) -> Result<Hub, anyhow::Error> {
-    let users = Users::read(alloc, USERS)?;
+impl Job {
+    /// A pair of this kind by one connection.
+    pub fn small(kind: Kind) -> Job {
+        Job {
+            kind,
+            connections: 1,
+            pairs: 1,
+            rounds: 1,
+        }
+    }
+
+    /// What the words ask for: KIND CONNECTIONS PIECE ROUNDS.
+    pub fn of_words(words: &[String]) -> Result<Job> {
+        let [kind, connections, piece, rounds] = words else {
+            bail!("hub takes KIND CONNECTIONS PIECE ROUNDS");
+        };
+        let Some(kind) = Kind::of_word(kind) else {
+            bail!("KIND is message, semaphore, mask or stat");
+        };
+        Ok(Job {
+            kind,
+            connections: connections.parse()?,
+            pairs: piece.parse()?,
+            rounds: rounds.parse()?,
+        })
+    }
+}
+
+fn timed(rt: &HostRuntime, hub: &mut Hub, job: Job) -> Result<(usize, u128)> {
+    let clients = clients_of(rt.alloc(), hub, job.kind, job.connections, job.pairs)?;
+    let start = Instant::now(rt)?;
+    let bytes = rounds_of(rt.alloc(), hub, &clients, job.rounds)?;
+    Ok((bytes, start.elapsed(rt)?.as_micros()))
+}
+
+/// Does a job by a hub of its own. Gives how many bytes came out, and the microseconds of its rounds.
+pub fn run(rt: &HostRuntime, job: Job) -> Result<(usize, u128)> {
+    let users = Users::read(rt.alloc(), USERS)?;
     let limits = Limits::STANDARD;
-    Ok(Hub::new(alloc, Config { users, limits })?)
-}
-
-fn run(rt: &HostRuntime) -> Result<(), anyhow::Error> {
-    let words: Vec<String> = env::args(rt)?.collect(rt.alloc())?;
-    let [_, kind, connections, piece, rounds] = words.as_slice() else {
-        println!(rt; "hub_calls KIND CONNECTIONS PIECE ROUNDS")?;
-        return Ok(());
-    };
-    let Some(kind) = Kind::of_word(kind) else {
-        println!(rt; "KIND is message, semaphore, mask or stat")?;
-        return Ok(());
-    };
-    let (connections, pairs, rounds) = (connections.parse()?, piece.parse()?, rounds.parse()?);
-    let mut hub = new_hub(rt.alloc())?;
-    let served = serve(rt, &mut hub, kind, connections, pairs, rounds);
+    let mut hub = Hub::new(rt.alloc(), Config { users, limits })?;
+    let done = timed(rt, &mut hub, job);
     // An explicit drop has one exit.
     drop(hub);
-    served
-}
-
-fn main(rt: HostRuntime) -> ExitCode {
-    match run(&rt) {
-        Ok(()) => ExitCode::SUCCESS,
-        Err(_) => ExitCode::FAILURE,
-    }
+    done
 }

@@ -1,12 +1,9 @@
-//! Times a stream of sends of 64 bytes each, fed in pieces of so many bytes: `feed_frames PIECE COUNT`, or in one
-//! piece where PIECE is 0. Prints how many requests came, and the microseconds.
-#![tactic(auto)]
+//! A stream of sends of 64 bytes each, in pieces.
 
+use anyhow::Result;
 use ipc_terms::NoMemory;
 use ipc_wire::Frames;
 use std::alloc::Global;
-use std::env;
-use std::process::ExitCode;
 use std::time::Instant;
 
 const HELLO: &[u8] = b"\0\0\0\x06\x01\0\x03ka1";
@@ -36,25 +33,12 @@ fn fed(alloc: Global, stream: &[u8], piece: usize) -> Result<usize, NoMemory> {
     Ok(requests)
 }
 
-fn run(rt: &HostRuntime) -> Result<(), anyhow::Error> {
-    let words: Vec<String> = env::args(rt)?.collect(rt.alloc())?;
-    let [_, piece, count] = words.as_slice() else {
-        println!(rt; "feed_frames PIECE COUNT")?;
-        return Ok(());
-    };
-    let stream = stream_of(rt.alloc(), count.parse()?)?;
-    let piece: usize = piece.parse()?;
+/// Reads so many sends in pieces of so many bytes, or in one piece where `piece` is 0. Gives how many requests came, and the
+/// microseconds.
+pub fn run(rt: &HostRuntime, piece: usize, count: u32) -> Result<(usize, u128)> {
+    let stream = stream_of(rt.alloc(), count)?;
     let piece = if piece == 0 { stream.len() } else { piece };
     let start = Instant::now(rt)?;
     let requests = fed(rt.alloc(), &stream, piece)?;
-    let spent = start.elapsed(rt)?;
-    println!(rt; "{requests} {}", spent.as_micros())?;
-    Ok(())
-}
-
-fn main(rt: HostRuntime) -> ExitCode {
-    match run(&rt) {
-        Ok(()) => ExitCode::SUCCESS,
-        Err(_) => ExitCode::FAILURE,
-    }
+    Ok((requests, start.elapsed(rt)?.as_micros()))
 }
