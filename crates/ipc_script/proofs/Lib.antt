@@ -1,1 +1,3 @@
 mod LabelMapsLemmas
+mod PrintLemmas
+mod RunLemmas

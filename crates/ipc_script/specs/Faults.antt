@@ -1,5 +1,5 @@
 -- The exit status of each fault, and which fault of a script stands for a fault below it.
-use Rattle.std.specs.Prelude.{ℕ, Bool, true, false}
+use Rattle.std.specs.Prelude.{⊤, ℕ, Bool, true, false}
 use Rattle.ipc_access.specs.declared.fault.UserFault.{UserFault}
 use Rattle.ipc_access.specs.declared.fault.UserFault.TheVariants.{NoMemory}
 use Rattle.ipc_core.specs.declared.fault.CoreFault.{CoreFault}
@@ -37,3 +37,9 @@ of_line (Bad number) = Line number
 abbrev pub is_users_memory : ScriptFault → Bool
 is_users_memory (Users NoMemory) = true
 is_users_memory fault = false
+
+-- the writer failed, or there was no memory
+abbrev pub IsOfOutput : ScriptFault → Type 0
+IsOfOutput Write = ⊤
+IsOfOutput Memory = ⊤
+IsOfOutput fault = ⊥

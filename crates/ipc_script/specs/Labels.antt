@@ -1,5 +1,5 @@
 -- What a table of started sessions, the oldest first, says of labels.
-use Rattle.std.specs.Prelude.{Bool, ℕ, ◌==◌, ◌&&◌, ◌||◌, nat_le, List, reverse, length, Option, find, unwrap_or}
+use Rattle.std.specs.Prelude.{Bool, ℕ, ◌-◌, ◌^◌, ◌==◌, ◌&&◌, ◌||◌, nat_le, List, reverse, length, Option, find, unwrap_or}
 use Rattle.std.specs.List.{list_all}
 use Rattle.std.specs.Option.{option_map}
 use Rattle.std.specs.Str.{bytes_eq}
@@ -17,6 +17,10 @@ label_form word = nat_le 1 (length word) && nat_le (length word) 16 && list_all 
 -- the session that a label started last
 abbrev pub newest_of : List Started → List ℕ → Option Sid
 newest_of started label = option_map (λ s. s.sid) (find (λ s. bytes_eq s.label label) (reverse started))
+
+-- the session that acts for a label: the one that it started last, live or not, and nobody where it never started one
+abbrev pub acting_for : List Started → List ℕ → Sid
+acting_for started label = unwrap_or (newest_of started label) (record { 0 = 2 ^ 64 - 1 })
 
 -- the label that started a session
 abbrev pub starter_of : List Started → Sid → Option (List ℕ)

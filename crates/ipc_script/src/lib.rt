@@ -6,4 +6,4 @@ mod labels;
 mod script;
 
 pub use fault::ScriptFault;
-pub use script::run_script;
+pub use script::{run_script, run_script_on};

@@ -1,10 +1,17 @@
 //! Running a script.
 
-ghost use Rattle.std.specs.Prelude.{◌≡◌, ℕ, List, [], ◌∷◌, ◌++◌, IfErr, IfOk, OnOk, codes, false, map, unwrap_or};
+ghost use Rattle.std.specs.Prelude.{◌≡◌, ℕ, List, [], ◌∷◌, ◌++◌, IfErr, IfOk, Ok, Err, IfSome, OnOk, MatchResult, codes, false, map};
 ghost use Rattle.std.specs.String.{string_bytes};
-ghost use Rattle.ipc_script.specs.Faults.{is_users_memory};
-ghost use Rattle.ipc_script.specs.Labels.{label_for, newest_of};
-ghost use Rattle.ipc_script.specs.Steps.{AsksFor, labelled_line, tick_at};
+ghost use Rattle.std.specs.Io.KnownBytes.{Appends, Keeps};
+ghost use Rattle.ipc_access.specs.UserFile.{lines_of, users_of};
+ghost use Rattle.ipc_lines.specs.Faults.{IsOfWriter};
+ghost use Rattle.ipc_lines.specs.Lines.{lines_read, unread, written};
+ghost use Rattle.ipc_lines.specs.Reading.{lines_in};
+ghost use Rattle.ipc_script.specs.Faults.{IsOfOutput, is_users_memory, of_line};
+ghost use Rattle.ipc_script.specs.Labels.{acting_for, label_for};
+ghost use Rattle.ipc_script.specs.Printing.{AskedPrint, FaultPrints, LinePrints, NoLabelPrints, ScriptWrites, StepPrints, WordsPrint, is_skipped, labelled_line, with_start};
+ghost use Rattle.ipc_script.specs.Running.{AreWritten, FileIsRead, Prints, RunPrints};
+ghost use Rattle.ipc_script.specs.Steps.{AskFor, IsCall, IsHangup, IsHello, IsTick, tick_at};
 ghost use Rattle.ipc_words.specs.FaultLines.{fault_line};
 ghost use Rattle.ipc_words.specs.Readings.{Reads};
 
@@ -12,7 +19,7 @@ use crate::fault::ScriptFault;
 use crate::labels::{Labels, is_label};
 use ipc_access::Users;
 use ipc_core::{Config, Core, Limits};
-use ipc_lines::{Lines, Output, words_of};
+use ipc_lines::{LineFault, Lines, Output, words_of};
 use ipc_terms::{Answer, Event, NoMemory, Sid};
 use ipc_words::{WordFault, call_of_words, put_fault, put_line, read_decimal};
 use std::alloc::{AllocError, Global};
@@ -46,10 +53,47 @@ pub fn run_script<R: Read + Drop, W: Write + Drop>(
 ) -> Result<(), ScriptFault>
     ensures { IfErr result (λ fault. is_users_memory fault ≡ false) }
 {
+    let (_writer, outcome) = run_script_on(alloc, limits, reader, writer)?;
+    outcome?;
+    Ok(())
+}
+
+/// Runs a script as `run_script` does, and gives the writer back beside how the run ended.
+///
+/// # Errors
+///
+/// The first fault that stands before the first step: of the users, of the limits, of the reader or of a line up to
+/// the `.`; or want of memory. Nothing is written then, and the writer is dropped.
+pub fn run_script_on<R: Read + Drop, W: Write + Drop>(
+    alloc: Global,
+    limits: Limits,
+    reader: R,
+    writer: W,
+) -> Result<(W, Result<(), ScriptFault>), ScriptFault>
+    ensures prints { IfOk result (λ ended. IfSome (R.remaining reader) (λ input. ScriptWrites limits (lines_in input) ended.1 (W.contents writer) (W.contents ended.0))) }
+    ensures fault { IfErr result (λ fault. is_users_memory fault ≡ false) }
+    ensures fault_of_a_step { IfOk result (λ ended. IfErr ended.1 (λ fault. is_users_memory fault ≡ false)) }
+{
     let mut lines = Lines::new(alloc, reader)?;
     let core = read_core(alloc, limits, &mut lines)?;
     let mut script = Script::new(alloc, core, writer)?;
-    script.run_to_end(lines)
+    let outcome = script.run(lines);
+    // What was answered before the run ended is written, however it ended.
+    let (writer, written) = script.output.finish();
+    Ok((writer, ended(outcome, written)))
+}
+
+/// How a run ended: as its lines did, if what they print is written, and else by the writer's fault.
+fn ended(
+    outcome: Result<(), ScriptFault>,
+    written: Result<(), LineFault>,
+) -> Result<(), ScriptFault>
+    ensures { MatchResult written (λ _. result ≡ outcome) (λ fault. result ≡ Err (of_line fault)) }
+{
+    match written {
+        Ok(()) => outcome,
+        Err(fault) => Err(ScriptFault::from(fault)),
+    }
 }
 
 /// A core with the users of the lines up to a line `.`.
@@ -58,10 +102,13 @@ fn read_core<R: Read + Drop>(
     limits: Limits,
     lines: &mut Lines<R>,
 ) -> Result<Core, ScriptFault>
-    ensures { IfErr result (λ fault. is_users_memory fault ≡ false) }
+    ensures core { IfOk result (λ core. (file : List ℕ)
+        × FileIsRead [] file (lines_read lines.old) (lines_read lines.new) (unread R.remaining lines.old) (unread R.remaining lines.new)
+        × (core.config ≡ record { users = users_of (lines_of file); limits = limits }) × (core.history ≡ [])) }
+    ensures fault { IfErr result (λ fault. is_users_memory fault ≡ false) }
 {
-    let mut file = Vec::new(alloc);
-    read_user_file(lines, &mut file)?;
+    let (mut file, mut line) = (Vec::new(alloc), String::new(alloc));
+    read_user_file(lines, &mut line, &mut file)?;
     let users = Users::read(alloc, &file)?;
     let core = Core::new(alloc, Config { users, limits })?;
     Ok(core)
@@ -70,28 +117,62 @@ fn read_core<R: Read + Drop>(
 /// Adds the lines up to a line `.` to the file, each with a line end.
 fn read_user_file<R: Read + Drop>(
     lines: &mut Lines<R>,
+    line: &mut String,
     file: &mut Vec<u8>,
 ) -> Result<(), ScriptFault>
-    ensures { IfErr result (λ fault. is_users_memory fault ≡ false) }
+    ensures read { OnOk result (FileIsRead file.old.items file.new.items (lines_read lines.old) (lines_read lines.new) (unread R.remaining lines.old) (unread R.remaining lines.new)) }
+    ensures fault { IfErr result (λ fault. is_users_memory fault ≡ false) }
 {
     for _ in 0..u64::MAX {
-        match lines.next_line()? {
-            Some(".") => return Ok(()),
-            Some(line) => file.extend_from_slice(line.as_bytes())?,
-            None => break,
+        if !lines.read_next(line)? {
+            break;
         }
+        if line.as_str() == "." {
+            return Ok(());
+        }
+        file.extend_from_slice(line.as_bytes())?;
         file.push(b'\n')?;
     }
     Err(ScriptFault::Line(lines.next_number()))
 }
 
-/// The tick of the moment that a word tells.
-fn tick(moment: &str) -> Result<Event, WordFault>
+/// The hang-up of the session, by what stands behind `hangup`.
+fn hang_up(sid: Sid, words: &[&str]) -> Result<Event, WordFault>
+    ensures { IsHangup sid (map (λ w. w.now) words.now) result }
+{
+    if words.is_empty() {
+        Ok(Event::Hangup { sid })
+    } else {
+        Err(WordFault::Usage)
+    }
+}
+
+/// The tick of the moment that the word behind `tick` tells.
+fn tick(words: &[&str]) -> Result<Event, WordFault>
+    ensures { IsTick (map (λ w. w.now) words.now) result }
+{
+    match words {
+        [moment] => tick_at(moment),
+        _ => Err(WordFault::Usage),
+    }
+}
+
+fn tick_at(moment: &str) -> Result<Event, WordFault>
     ensures { Reads (tick_at moment.now) result }
 {
     match read_decimal(moment, u64::MAX) {
         Some(moment) => Ok(Event::Tick { moment }),
         None => Err(WordFault::BadValue("moment")),
+    }
+}
+
+/// Whether it is an empty line or a comment.
+fn is_skipped(line: &[u8]) -> bool
+    ensures { result ≡ is_skipped line.now }
+{
+    match line {
+        [] => true,
+        [byte, ..] => *byte == b'#',
     }
 }
 
@@ -136,9 +217,26 @@ fn lay_fault(line: &mut String, label: &str, fault: &WordFault) -> Result<(), No
     Ok(())
 }
 
+/// Writes all answers, unless the next line is read without waiting.
+fn write_unless_at_hand<R: Read + Drop, W: Write + Drop>(
+    output: &mut Output<W>,
+    lines: &Lines<R>,
+) -> Result<(), LineFault>
+    ensures kept { Keeps (written W.contents output.old) (written W.contents output.new) }
+    ensures fault { IfErr result IsOfWriter }
+{
+    if !lines.is_at_hand() {
+        output.flush()?;
+    }
+    Ok(())
+}
+
 impl<W: Write + Drop> Script<W> {
     fn new(alloc: Global, core: Core, writer: W) -> Result<Self, ScriptFault>
-        ensures { IfErr result (λ fault. is_users_memory fault ≡ false) }
+        ensures core { IfOk result (λ script. script.core ≡ core) }
+        ensures labels { IfOk result (λ script. script.labels ≡ []) }
+        ensures nothing { IfOk result (λ script. Appends (W.contents writer) (written W.contents script.output) []) }
+        ensures fault { IfErr result (λ fault. is_users_memory fault ≡ false) }
     {
         Ok(Script {
             alloc,
@@ -149,124 +247,172 @@ impl<W: Write + Drop> Script<W> {
         })
     }
 
-    /// Takes all lines, and writes what was answered before the run ended, however it ended.
-    fn run_to_end<R: Read + Drop>(&mut self, lines: Lines<R>) -> Result<(), ScriptFault>
-        ensures { IfErr result (λ fault. is_users_memory fault ≡ false) }
-    {
-        let outcome = self.run(lines);
-        self.output.flush()?;
-        outcome
-    }
-
-    /// Takes line after line. Before input is waited for all answers are written.
+    /// Takes line after line.
     fn run<R: Read + Drop>(&mut self, mut lines: Lines<R>) -> Result<(), ScriptFault>
-        ensures { IfErr result (λ fault. is_users_memory fault ≡ false) }
+        ensures prints { IfSome (unread R.remaining lines) (λ input.
+            RunPrints W.contents (lines_read lines) (lines_in input) result self.old self.new) }
+        ensures fault { IfErr result (λ fault. is_users_memory fault ≡ false) }
     {
+        let mut line = String::new(self.alloc);
         for _ in 0..u64::MAX {
-            match lines.next_line_after(&mut self.output)? {
-                Some(line) => self.take_line(line)?,
-                None => break,
+            write_unless_at_hand(&mut self.output, &lines)?;
+            if !lines.read_next(&mut line)? {
+                return Ok(());
             }
+            self.take_line(line.as_str())?;
         }
-        Ok(())
+        // The reads end long before.
+        Err(ScriptFault::Read)
     }
 
     fn take_line(&mut self, line: &str) -> Result<(), ScriptFault>
-        ensures { IfErr result (λ fault. is_users_memory fault ≡ false) }
+        ensures prints { OnOk result (Prints W.contents (LinePrints self.old.core.config line.now) self.old self.new) }
+        ensures fault { IfErr result IsOfOutput }
     {
-        if line.is_empty() || line.starts_with('#') {
+        if is_skipped(line.as_bytes()) {
             return Ok(());
         }
         let words = words_of(self.alloc, line)?;
-        match words.split_first() {
-            Some((label, asked)) if is_label(label) => self.ask(label, asked),
-            _ => {
-                self.output.put("- fault line\n")?;
-                Ok(())
-            }
+        self.take_words(&words)?;
+        Ok(())
+    }
+
+    fn take_words(&mut self, words: &[&str]) -> Result<(), ScriptFault>
+        ensures prints { OnOk result (Prints W.contents (WordsPrint self.old.core.config (map (λ w. w.now) words.now)) self.old self.new) }
+        ensures fault { IfErr result IsOfOutput }
+    {
+        let [label, asked @ ..] = words else {
+            return self.blame_label();
+        };
+        if !is_label(label) {
+            return self.blame_label();
         }
+        self.ask(label, asked)?;
+        Ok(())
+    }
+
+    /// Tells that a line has no label.
+    fn blame_label(&mut self) -> Result<(), ScriptFault>
+        ensures prints { OnOk result (Prints W.contents NoLabelPrints self.old self.new) }
+        ensures fault { IfErr result IsOfOutput }
+    {
+        self.output.put("- fault line\n")?;
+        Ok(())
     }
 
     /// Makes the step that a label's words ask for.
     fn ask(&mut self, label: &str, words: &[&str]) -> Result<(), ScriptFault>
-        ensures { IfErr result (λ fault. is_users_memory fault ≡ false) }
+        ensures prints { OnOk result (Prints W.contents (AskedPrint self.old.core.config label.now (map (λ w. w.now) words.now)) self.old self.new) }
+        ensures fault { IfErr result IsOfOutput }
     {
         match self.event_of(label, words) {
-            Ok(event) => self.step(label, event),
-            Err(WordFault::NoMemory) => Err(ScriptFault::Memory),
-            Err(fault) => {
-                lay_fault(&mut self.line, label, &fault)?;
-                self.put()
-            }
-        }
-    }
-
-    /// The event that a label's words ask for. Any label may tell a moment.
-    fn event_of(&self, label: &str, words: &[&str]) -> Result<Event, WordFault>
-        ensures event { IfOk result (λ event. AsksFor self.now.core.config.users
-            (unwrap_or (newest_of self.now.labels label.now) Sid.NOBODY) (map (λ w. w.now) words.now) event) }
-        ensures tick { (moment : List ℕ) → map (λ w. w.now) words.now ≡ codes "tick" ∷ moment ∷ [] → Reads (tick_at moment) result }
-    {
-        // The session that the label started last, live or not, and nobody where it never started one.
-        let sid = self.labels.newest(label).unwrap_or(Sid::NOBODY);
-        match words {
-            ["hello", key] => Ok(Event::Hello {
-                found: self.core.config().users.find(key.as_bytes()),
-            }),
-            ["hangup"] => Ok(Event::Hangup { sid }),
-            ["tick", moment] => tick(moment),
-            ["hello", ..] | ["hangup", ..] | ["tick", ..] => Err(WordFault::Usage),
-            _ => Ok(Event::Do {
-                sid,
-                call: call_of_words(self.alloc, words)?,
-            }),
-        }
-    }
-
-    /// Makes the step, and writes its answers, the caller's first. What is written isn't kept for the
-    /// session to take.
-    fn step(&mut self, label: &str, event: Event) -> Result<(), ScriptFault>
-        ensures { IfErr result (λ fault. is_users_memory fault ≡ false) }
-    {
-        let posted = self.core.post(self.alloc, event)?;
-        if let (Some(rule), Some(sid)) = (posted.verdict, posted.caller) {
-            // A refusal to nobody, or to a session that isn't live, stands in no outbox.
-            self.core.take(sid);
-            return self.write_answer(label, sid, &Answer::Refused(rule));
-        }
-        self.write_untaken(label, posted.caller)?;
-        self.write_untaken(label, posted.other)
-    }
-
-    /// Writes what the session has not taken yet.
-    fn write_untaken(&mut self, label: &str, sid: Option<Sid>) -> Result<(), ScriptFault>
-        ensures { IfErr result (λ fault. is_users_memory fault ≡ false) }
-    {
-        let Some(sid) = sid else {
-            return Ok(());
-        };
-        for answer in &self.core.take(sid) {
-            self.write_answer(label, sid, answer)?;
+            Ok(event) => self.step(label, event)?,
+            Err(WordFault::NoMemory) => return Err(ScriptFault::Memory),
+            Err(fault) => self.blame_words(label, &fault)?,
         }
         Ok(())
     }
 
-    /// Writes an answer, and keeps under which label a session was started.
-    fn write_answer(&mut self, label: &str, sid: Sid, answer: &Answer) -> Result<(), ScriptFault>
-        ensures { IfErr result (λ fault. is_users_memory fault ≡ false) }
+    /// Tells the fault of a label's words.
+    fn blame_words(&mut self, label: &str, fault: &WordFault) -> Result<(), ScriptFault>
+        ensures prints { OnOk result (Prints W.contents (FaultPrints label.now fault.now) self.old self.new) }
+        ensures fault { IfErr result IsOfOutput }
     {
-        if let Answer::Started(started) = answer {
-            self.labels.start(self.alloc, label, *started)?;
+        lay_fault(&mut self.line, label, fault)?;
+        self.put()?;
+        Ok(())
+    }
+
+    /// The event that a label's words ask for. Any label may tell a moment.
+    fn event_of(&self, label: &str, words: &[&str]) -> Result<Event, WordFault>
+        ensures { AskFor self.now.core.config.users (acting_for self.now.labels label.now) (map (λ w. w.now) words.now) result }
+    {
+        // The session that the label started last, live or not, and nobody where it never started one.
+        let sid = self.labels.newest(label).unwrap_or(Sid::NOBODY);
+        let [verb, rest @ ..] = words else {
+            return self.call(sid, words);
+        };
+        if *verb == "hello" {
+            self.hello(rest)
+        } else if *verb == "hangup" {
+            hang_up(sid, rest)
+        } else if *verb == "tick" {
+            tick(rest)
+        } else {
+            self.call(sid, words)
         }
+    }
+
+    /// The hello of the user whose key stands behind `hello`.
+    fn hello(&self, words: &[&str]) -> Result<Event, WordFault>
+        ensures { IsHello self.now.core.config.users (map (λ w. w.now) words.now) result }
+    {
+        match words {
+            [key] => Ok(Event::Hello {
+                found: self.core.config().users.find(key.as_bytes()),
+            }),
+            _ => Err(WordFault::Usage),
+        }
+    }
+
+    /// The call of the session that the words mean.
+    fn call(&self, sid: Sid, words: &[&str]) -> Result<Event, WordFault>
+        ensures { IsCall sid (map (λ w. w.now) words.now) result }
+    {
+        let call = call_of_words(self.alloc, words)?;
+        Ok(Event::Do { sid, call })
+    }
+
+    /// Makes the step, and writes its answers, the caller's first.
+    fn step(&mut self, label: &str, event: Event) -> Result<(), ScriptFault>
+        ensures prints { OnOk result (Prints W.contents (λ before after out. StepPrints self.old.core.config label.now before (Ok event) after out) self.old self.new) }
+        ensures fault { IfErr result IsOfOutput }
+    {
+        let told = self.core.step(self.alloc, event)?;
+        self.write_all(label, &told)?;
+        Ok(())
+    }
+
+    /// Writes answers in their order. What is written isn't kept for the session to take.
+    fn write_all(&mut self, label: &str, told: &[(Sid, Answer)]) -> Result<(), ScriptFault>
+        ensures prints { OnOk result (Prints W.contents (AreWritten label.now told.now) self.old self.new) }
+        ensures fault { IfErr result IsOfOutput }
+    {
+        for entry in told {
+            self.core.clear(entry.0);
+            self.write_answer(label, entry.0, &entry.1)?;
+        }
+        Ok(())
+    }
+
+    /// Writes an answer.
+    fn write_answer(&mut self, label: &str, sid: Sid, answer: &Answer) -> Result<(), ScriptFault>
+        ensures prints { OnOk result (Prints W.contents (AreWritten label.now ((sid, answer.now) ∷ [])) self.old self.new) }
+        ensures fault { IfErr result IsOfOutput }
+    {
+        self.keep_start(label, answer)?;
         self.lay_answer(label, sid, answer)?;
-        self.put()
+        self.put()?;
+        Ok(())
+    }
+
+    /// Keeps under which label a session was started.
+    fn keep_start(&mut self, label: &str, answer: &Answer) -> Result<(), AllocError>
+        ensures started { OnOk result (self.new.labels ≡ with_start self.old.labels label.now answer.now) }
+        ensures kept { (self.new.core ≡ self.old.core) × (self.new.output ≡ self.old.output) }
+    {
+        match answer {
+            Answer::Started(sid) => self.labels.start(self.alloc, label, *sid),
+            _ => Ok(()),
+        }
     }
 
     /// Lays out the line of an answer, under the label that started the session which it is for,
     /// and that of no session under the line's own.
     fn lay_answer(&mut self, label: &str, sid: Sid, answer: &Answer) -> Result<(), NoMemory>
-        ensures { OnOk result (string_bytes self.new.line
+        ensures line { OnOk result (string_bytes self.new.line
             ≡ labelled_line (label_for self.old.labels label.now sid) answer.now) }
+        ensures kept { (self.new.core ≡ self.old.core) × (self.new.labels ≡ self.old.labels) × (self.new.output ≡ self.old.output) }
     {
         let label = self.labels.starter(sid).unwrap_or(label);
         lay_answer(&mut self.line, label, answer)
@@ -274,7 +420,9 @@ impl<W: Write + Drop> Script<W> {
 
     /// Puts the line that was laid out into the block.
     fn put(&mut self) -> Result<(), ScriptFault>
-        ensures { IfErr result (λ fault. is_users_memory fault ≡ false) }
+        ensures put { OnOk result (Appends (written W.contents self.old.output) (written W.contents self.new.output) (string_bytes self.old.line)) }
+        ensures kept { (self.new.core ≡ self.old.core) × (self.new.labels ≡ self.old.labels) }
+        ensures fault { IfErr result IsOfOutput }
     {
         self.output.put(self.line.as_str())?;
         Ok(())
