@@ -4,7 +4,7 @@
 use ipc_access::UserFault;
 use ipc_core::{Field, Limits};
 use ipc_program::{Task, task_of_words};
-use ipc_script::{ScriptFault, run_script};
+use ipc_script::{ScriptFault, run_script, run_script_on};
 use std::alloc::{AllocError, Global};
 use std::cell::Cell;
 use std::io;
@@ -351,4 +351,22 @@ fn answers_are_shown_before_more_is_read(rt: HostRuntime) {
     };
     let outcome = run_script(rt.alloc(), Limits::STANDARD, person, screen);
     assert!(rt; outcome == Ok(()));
+}
+
+/// What a script wrote before the line that is at fault, and nothing where its users are.
+#[test]
+fn the_writer_is_given_back(rt: HostRuntime) {
+    let alloc = rt.alloc();
+    let script = b"ann:ka1:1000:1000::\n.\na hello ka1\n\xff\n".as_slice();
+    let ended = run_script_on(alloc, Limits::STANDARD, script, Vec::new(alloc));
+    assert!(rt;
+        matches!(&ended, Ok((written, Err(ScriptFault::Line(4)))) if written.as_slice() == b"a started 0\n".as_slice())
+    );
+    let of_users = run_script_on(
+        alloc,
+        Limits::STANDARD,
+        b"bad\n.\n".as_slice(),
+        Vec::new(alloc),
+    );
+    assert!(rt; matches!(of_users, Err(ScriptFault::Users(UserFault::BadLine(1)))));
 }
