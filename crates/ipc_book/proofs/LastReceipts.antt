@@ -15,7 +15,7 @@ use Rattle.ipc_core.specs.CoreView.{CoreView}
 use Rattle.ipc_core.specs.Outboxes.{after_step}
 use Rattle.ipc_book.specs.declared.entry.Entry.{Entry}
 use Rattle.ipc_book.specs.declared.entry.StepFault.{StepFault}
-use Rattle.ipc_book.specs.declared.entry.StepFault.TheVariants.{Stale}
+use Rattle.ipc_book.specs.declared.entry.StepFault.TheVariants.{Stale, NoMemory}
 use Rattle.ipc_book.specs.declared.entry.OfferFault.{OfferFault}
 use Rattle.ipc_book.specs.declared.entry.OfferFault.TheVariants.{Full, Fault}
 use Rattle.ipc_book.specs.Seats.{receipt_at, receipt_after, StaleExactly, FullExactly, without_full, step_fault}
@@ -52,11 +52,11 @@ pub stale_moved : {A : Type 0} → (a a' : CoreView) (list list' : List Entry) (
 stale_moved a a' list list' r p q h = subst (λ v. StaleExactly v list' r) p (subst (λ l. StaleExactly a l r) q h)
 
 -- what a stale seat is told of the same fault, after room was made in it
-pub stale_told : {A : Type 0} → (a : CoreView) (list list' : List Entry) (r : Result A StepFault) (fault : StepFault) → r ≡ Err fault → list ≡ list' → StaleExactly a list r → StaleSays list' (Err fault)
-stale_told a list list' r fault is same h = subst (λ l. StaleSays l (Err fault)) same there where
-  there : StaleSays list (Err fault)
+pub stale_told : {A : Type 0} → (a : CoreView) (list list' : List Entry) (r : Result A StepFault) (r' : Result Receipt StepFault) (fault : StepFault) → r ≡ Err fault → r' ≡ Err fault → list ≡ list' → StaleExactly a list r → StaleSays list' r'
+stale_told a list list' r r' fault is is' same h = subst (λ l. StaleSays l r') same there where
+  there : StaleSays list r'
   there seen found e =
-      let t = (h seen found).0 (is ∙ ap Err (same_fault fault (Stale seen found) e)) in (t.0, t.2)
+      let t = (h seen found).0 (is ∙ ap Err (same_fault fault (Stale seen found) (sym is' ∙ e))) in (t.0, t.2)
 
 -- a seat that is not full has room
 under : {A : Type 0} → {B : Type 0} → (most n : ℕ) (r : Result A (OfferFault × B)) (fault : StepFault) (back : B) → r ≡ Err (Fault fault, back) → FullExactly most n r → n < most
@@ -66,7 +66,11 @@ under most n r fault back is full =
     not_full : Fault fault ≡ Full → ⊥
     not_full e = absurd cc
 
-pub offer_stale : {A : Type 0} → {B : Type 0} → (a : CoreView) (list list' : List Entry) (most n : ℕ) (r : Result A (OfferFault × B)) (fault : OfferFault) (back : B) → r ≡ Err (fault, back) → list ≡ list' → FullExactly most n r → (n < most → StaleExactly a list (without_full r)) → StaleSays list' (Err (step_fault fault))
-offer_stale a list list' most n r Full back is same full stale = λ seen found e. absurd cc
-offer_stale a list list' most n r (Fault fault) back is same full stale =
-    stale_told a list list' (without_full r) fault (ap without_full is) same (stale (under most n r fault back is full))
+not_stale : (seen : Receipt) (found : Option Receipt) → ◌≡◌ {A = Result Receipt StepFault} (Err NoMemory) (Err (Stale seen found)) → ⊥
+not_stale seen found e = absurd cc
+
+pub offer_stale : {A : Type 0} → {B : Type 0} → (a : CoreView) (list list' : List Entry) (most n : ℕ) (r : Result A (OfferFault × B)) (r' : Result Receipt (OfferFault × B)) (fault : OfferFault) (back : B) → r ≡ Err (fault, back) → r' ≡ Err (fault, back) → list ≡ list' → FullExactly most n r → (n < most → StaleExactly a list (without_full r)) → StaleSays list' (without_full r')
+offer_stale a list list' most n r r' Full back is is' same full stale =
+    λ seen found e. absurd (not_stale seen found (sym (ap without_full is') ∙ e))
+offer_stale a list list' most n r r' (Fault fault) back is is' same full stale =
+    stale_told a list list' (without_full r) (without_full r') fault (ap without_full is) (ap without_full is') same (stale (under most n r fault back is full))

@@ -21,6 +21,7 @@ use Rattle.ipc_core.specs.Outboxes.{after_step, session_at}
 use Rattle.ipc_book.specs.declared.entry.Entry.{Entry}
 use Rattle.ipc_book.specs.declared.entry.StepFault.{StepFault}
 use Rattle.ipc_book.specs.declared.entry.StepFault.TheVariants.{Stale, NoMemory}
+use Rattle.ipc_book.specs.declared.entry.Unstepped.{Unstepped}
 use Rattle.ipc_book.specs.declared.entry.OfferFault.{OfferFault}
 use Rattle.ipc_book.specs.declared.entry.OfferFault.TheVariants.{Full, Fault}
 
@@ -79,10 +80,10 @@ StaleExactly a list result =
     (seen : Receipt) (found : Option Receipt)
     → (result ≡ Err (Stale seen found)) ↔ ((last_receipt list ≡ Some seen) × (receipt_at a.history seen.place ≡ found) × (found ≢ Some seen))
 
--- the same result, without what a fault gives back
-abbrev pub without_back : {A B : Type 0} → Result A (StepFault × B) → Result A StepFault
-without_back (Ok x) = Ok x
-without_back (Err p) = Err p.0
+-- the same result, without the event that a fault gives back
+abbrev pub without_event : {A : Type 0} → Result A Unstepped → Result A StepFault
+without_event (Ok x) = Ok x
+without_event (Err unstepped) = Err unstepped.fault
 
 -- whom an event answers second, if anybody
 abbrev pub other_answered : CoreView → Event → Option Sid

@@ -7,14 +7,14 @@ ghost use Rattle.ipc_policy.specs.Verdict.{Legal, verdict, answers};
 ghost use Rattle.ipc_access.specs.Users.{user_of_key};
 ghost use Rattle.ipc_state.specs.Ranges.{first_bad};
 ghost use Rattle.ipc_core.specs.Outboxes.{BoxesAgree, session_at};
-ghost use Rattle.ipc_book.specs.Seats.{Stepped, StaleExactly, FullExactly, without_back, without_full, other_answered, untaken_of, session_of, session_after};
+ghost use Rattle.ipc_book.specs.Seats.{Stepped, StaleExactly, FullExactly, without_event, without_full, other_answered, untaken_of, session_of, session_after};
 ghost use Rattle.ipc_book.specs.Locked.{Collects};
 ghost use Rattle.ipc_book.specs.Closing.{AreTheTrail, CloseFaultSays};
 
 use crate::close::{audit, gather};
-use crate::entry::{CloseFault, OfferFault, StepFault};
+use crate::entry::{CloseFault, OfferFault, StepFault, Unstepped};
 use crate::seat::{Receipts, Seat};
-use crate::stepping::{call_of, enter, stale};
+use crate::stepping::{enter, stale};
 use ipc_core::{Config, Core, CoreFault, Posted};
 use ipc_terms::{Answer, Call, Event, NoMemory, Sid};
 use ipc_trail::Receipt;
@@ -119,7 +119,7 @@ impl<L: Ledger> Book<L> {
         ensures seats { self.new.seats ≡ self.old.seats }
     {
         let found = self.core.config().users.find(key);
-        let (receipt, posted) = self.step_event(alloc, seat, Event::Hello { found })?;
+        let (receipt, posted) = self.step_with_copy(alloc, seat, Event::Hello { found }, None)?;
         if posted.verdict.is_none() {
             seat.sid = posted.caller;
         }
@@ -141,131 +141,8 @@ impl<L: Ledger> Book<L> {
         ensures seats { self.new.seats ≡ self.old.seats }
     {
         let event = seat.calling(call);
-        let (receipt, _posted) = self.step_event(alloc, seat, event)?;
+        let (receipt, _posted) = self.step_with_copy(alloc, seat, event, None)?;
         Ok(receipt)
-    }
-
-    /// Steps a call of the seat's session, or of nobody where the seat has none, if the session has fewer
-    /// than so many answers that it has not taken yet. Says whom the step answered besides the caller. An
-    /// `Err` changes nothing, and gives the call back; the seat's room may differ.
-    pub fn offer(
-        &mut self,
-        alloc: Global,
-        seat: &mut Seat<L>,
-        call: Call,
-        most: usize,
-    ) -> Result<(Receipt, Option<Sid>), (OfferFault, Call)>
-        ensures ok { IfOk result (λ p. Stepped self.old.core self.new.core seat.old.list seat.new.list (Do (session_of seat.old.sid) call) p.0) }
-        ensures other { IfOk result (λ p. p.1 ≡ other_answered self.old.core (Do (session_of seat.old.sid) call)) }
-        ensures session { seat.new.sid ≡ seat.old.sid }
-        ensures full { FullExactly most (length (untaken_of self.old.core seat.old.sid)) result }
-        ensures stale { length (untaken_of self.old.core seat.old.sid) < most → StaleExactly self.old.core seat.old.list (without_full result) }
-        ensures err { OnErr result ((self.new ≡ self.old) × (seat.new ≡ seat.old)) }
-        ensures back { IfErr result (λ p. p.1 ≡ call) }
-        ensures seats { self.new.seats ≡ self.old.seats }
-    {
-        let event = seat.calling(call);
-        match self.offer_made(alloc, seat, event, None, most) {
-            Ok((receipt, posted)) => Ok((receipt, posted.other)),
-            Err((fault, event)) => Err((fault, call_of(event))),
-        }
-    }
-
-    /// The same of an event of a call, of which there may be a copy already.
-    pub(crate) fn offer_made(
-        &mut self,
-        alloc: Global,
-        seat: &mut Seat<L>,
-        event: Event,
-        ready: Option<Event>,
-        most: usize,
-    ) -> Result<(Receipt, Posted), (OfferFault, Event)>
-        requires { IfSome ready (λ copy. copy ≡ event) }
-        ensures ok { IfOk result (λ p. Stepped self.old.core self.new.core seat.old.list seat.new.list event p.0) }
-        ensures other { IfOk result (λ p. p.1.other ≡ other_answered self.old.core event) }
-        ensures session { seat.new.sid ≡ seat.old.sid }
-        ensures full { FullExactly most (length (untaken_of self.old.core seat.old.sid)) result }
-        ensures stale { length (untaken_of self.old.core seat.old.sid) < most → StaleExactly self.old.core seat.old.list (without_full result) }
-        ensures err { OnErr result ((self.new ≡ self.old) × (seat.new ≡ seat.old)) }
-        ensures back { IfErr result (λ p. p.1 ≡ event) }
-        ensures seats { self.new.seats ≡ self.old.seats }
-    {
-        if self.waiting(seat) >= most {
-            return Err((OfferFault::Full, event));
-        }
-        match self.step_made(alloc, seat, event, ready) {
-            Ok(told) => Ok(told),
-            Err((fault, event)) => Err((OfferFault::Fault(fault), event)),
-        }
-    }
-
-    /// How many answers the seat's session has not taken yet; 0 for a seat without one.
-    pub(crate) fn waiting(&self, seat: &Seat<L>) -> usize
-        ensures { result ≡ length (untaken_of self.now.core seat.now.sid) }
-    {
-        match seat.sid {
-            Some(sid) => self.core.waiting(sid),
-            None => 0,
-        }
-    }
-
-    /// Where the book's memory comes from.
-    pub(crate) fn allocator(&self) -> Global {
-        *self.places.allocator()
-    }
-
-    /// Steps an event. An `Err` drops it.
-    fn step_event(
-        &mut self,
-        alloc: Global,
-        seat: &mut Seat<L>,
-        event: Event,
-    ) -> Result<(Receipt, Posted), StepFault>
-        ensures ok { IfOk result (λ p. Stepped self.old.core self.new.core seat.old.list seat.new.list event p.0) }
-        ensures verdict { IfOk result (λ p. p.1.verdict ≡ verdict self.old.core.config self.old.core.history event) }
-        ensures caller { IfOk result (λ p. p.1.caller ≡ session_at 0 (answers self.old.core.config self.old.core.history event)) }
-        ensures session { seat.new.sid ≡ seat.old.sid }
-        ensures stale { StaleExactly self.old.core seat.old.list result }
-        ensures err { OnErr result ((self.new ≡ self.old) × (seat.new ≡ seat.old)) }
-        ensures seats { self.new.seats ≡ self.old.seats }
-    {
-        match self.step_made(alloc, seat, event, None) {
-            Ok(stepped) => Ok(stepped),
-            Err((fault, event)) => {
-                drop(event);
-                Err(fault)
-            }
-        }
-    }
-
-    /// Steps an event, of which there may be a copy already. Who has made one spares the book the work. An
-    /// `Err` gives the event back.
-    pub(crate) fn step_made(
-        &mut self,
-        alloc: Global,
-        seat: &mut Seat<L>,
-        event: Event,
-        ready: Option<Event>,
-    ) -> Result<(Receipt, Posted), (StepFault, Event)>
-        requires { IfSome ready (λ copy. copy ≡ event) }
-        ensures ok { IfOk result (λ p. Stepped self.old.core self.new.core seat.old.list seat.new.list event p.0) }
-        ensures verdict { IfOk result (λ p. p.1.verdict ≡ verdict self.old.core.config self.old.core.history event) }
-        ensures caller { IfOk result (λ p. p.1.caller ≡ session_at 0 (answers self.old.core.config self.old.core.history event)) }
-        ensures other { IfOk result (λ p. p.1.other ≡ other_answered self.old.core event) }
-        ensures session { seat.new.sid ≡ seat.old.sid }
-        ensures stale { StaleExactly self.old.core seat.old.list (without_back result) }
-        ensures err { OnErr result ((self.new ≡ self.old) × (seat.new ≡ seat.old)) }
-        ensures back { IfErr result (λ p. p.1 ≡ event) }
-        ensures seats { self.new.seats ≡ self.old.seats }
-    {
-        enter(
-            &mut self.core,
-            &mut self.total,
-            &mut seat.receipts,
-            alloc,
-            event,
-            ready,
-        )
     }
 
     /// Steps a hang-up of the seat's session, or of nobody where the seat has none. If it is accepted,
@@ -279,7 +156,7 @@ impl<L: Ledger> Book<L> {
         ensures seats { self.new.seats ≡ self.old.seats }
     {
         let sid = seat.sid.unwrap_or(Sid::NOBODY);
-        let (receipt, posted) = self.step_event(alloc, seat, Event::Hangup { sid })?;
+        let (receipt, posted) = self.step_with_copy(alloc, seat, Event::Hangup { sid }, None)?;
         if posted.verdict.is_none() {
             seat.sid = None;
         }
@@ -303,26 +180,90 @@ impl<L: Ledger> Book<L> {
         ensures err { OnErr result ((self.new ≡ self.old) × (seat.new ≡ seat.old)) }
         ensures seats { self.new.seats ≡ self.old.seats }
     {
-        let (receipt, _posted) = self.tick_made(alloc, seat, moment)?;
+        let (receipt, _posted) = self.step_with_copy(alloc, seat, Event::Tick { moment }, None)?;
         Ok(receipt)
     }
 
-    /// The same, and whom it answered.
-    pub(crate) fn tick_made(
+    /// Steps a call of the seat's session, or of nobody where the seat has none, if the session has fewer
+    /// than so many answers that it has not taken yet. Says whom the step answered besides the caller. An
+    /// `Err` changes nothing, and gives the call back; the seat's room may differ. The seat keeps `copy`, or
+    /// where there is none a copy that is made here.
+    pub fn offer_with_copy(
         &mut self,
         alloc: Global,
         seat: &mut Seat<L>,
-        moment: u64,
-    ) -> Result<(Receipt, Posted), StepFault>
-        requires { seat.old.sid ≡ None }
-        ensures ok { IfOk result (λ p. Stepped self.old.core self.new.core seat.old.list seat.new.list (Tick moment) p.0) }
-        ensures told { IfOk result (λ p. p.1.caller ≡ session_at 0 (answers self.old.core.config self.old.core.history (Tick moment))) }
-        ensures session { seat.new.sid ≡ None }
-        ensures stale { StaleExactly self.old.core seat.old.list result }
+        call: Call,
+        copy: Option<Event>,
+        most: usize,
+    ) -> Result<(Receipt, Option<Sid>), (OfferFault, Call)>
+        requires { IfSome copy (λ event. event ≡ Do (session_of seat.old.sid) call) }
+        ensures ok { IfOk result (λ p. Stepped self.old.core self.new.core seat.old.list seat.new.list (Do (session_of seat.old.sid) call) p.0) }
+        ensures other { IfOk result (λ p. p.1 ≡ other_answered self.old.core (Do (session_of seat.old.sid) call)) }
+        ensures session { seat.new.sid ≡ seat.old.sid }
+        ensures full { FullExactly most (length (untaken_of self.old.core seat.old.sid)) result }
+        ensures stale { length (untaken_of self.old.core seat.old.sid) < most → StaleExactly self.old.core seat.old.list (without_full result) }
         ensures err { OnErr result ((self.new ≡ self.old) × (seat.new ≡ seat.old)) }
+        ensures back { IfErr result (λ p. p.1 ≡ call) }
         ensures seats { self.new.seats ≡ self.old.seats }
     {
-        Ok(self.step_event(alloc, seat, Event::Tick { moment })?)
+        if self.waiting(seat) >= most {
+            return Err((OfferFault::Full, call));
+        }
+        let event = seat.calling(call);
+        match self.step_with_copy(alloc, seat, event, copy) {
+            Ok((receipt, posted)) => Ok((receipt, posted.other)),
+            Err(Unstepped { fault, event }) => {
+                let Event::Do { sid: _, call } = event else {
+                    unreachable!();
+                };
+                Err((OfferFault::Fault(fault), call))
+            }
+        }
+    }
+
+    /// Steps an event, and leaves the seat's session as it is. The seat keeps `copy`, or where there is none a
+    /// copy that is made here. An `Err` changes nothing, and gives the event back; the seat's room may differ.
+    pub(crate) fn step_with_copy(
+        &mut self,
+        alloc: Global,
+        seat: &mut Seat<L>,
+        event: Event,
+        copy: Option<Event>,
+    ) -> Result<(Receipt, Posted), Unstepped>
+        requires { IfSome copy (λ same. same ≡ event) }
+        ensures ok { IfOk result (λ p. Stepped self.old.core self.new.core seat.old.list seat.new.list event p.0) }
+        ensures verdict { IfOk result (λ p. p.1.verdict ≡ verdict self.old.core.config self.old.core.history event) }
+        ensures caller { IfOk result (λ p. p.1.caller ≡ session_at 0 (answers self.old.core.config self.old.core.history event)) }
+        ensures other { IfOk result (λ p. p.1.other ≡ other_answered self.old.core event) }
+        ensures session { seat.new.sid ≡ seat.old.sid }
+        ensures stale { StaleExactly self.old.core seat.old.list (without_event result) }
+        ensures err { OnErr result ((self.new ≡ self.old) × (seat.new ≡ seat.old)) }
+        ensures back { IfErr result (λ unstepped. unstepped.event ≡ event) }
+        ensures seats { self.new.seats ≡ self.old.seats }
+    {
+        enter(
+            &mut self.core,
+            &mut self.total,
+            &mut seat.receipts,
+            alloc,
+            event,
+            copy,
+        )
+    }
+
+    /// How many answers the seat's session has not taken yet; 0 for a seat without one.
+    pub(crate) fn waiting(&self, seat: &Seat<L>) -> usize
+        ensures { result ≡ length (untaken_of self.now.core seat.now.sid) }
+    {
+        match seat.sid {
+            Some(sid) => self.core.waiting(sid),
+            None => 0,
+        }
+    }
+
+    /// Where the book's memory comes from.
+    pub(crate) fn allocator(&self) -> Global {
+        *self.places.allocator()
     }
 
     /// Gives what the seat's session has not taken yet, in order, and leaves none; nothing, where the

@@ -1,5 +1,7 @@
 //! What a seat keeps of an event, and how a step or a close may fail.
 
+ghost use Rattle.std.specs.Prelude.{◌≡◌};
+
 use ipc_terms::Event;
 use ipc_trail::Receipt;
 
@@ -21,6 +23,21 @@ pub enum StepFault {
     },
     /// A growth was refused.
     NoMemory,
+}
+
+/// An event that was not stepped, and why.
+#[derive(Drop)]
+pub(crate) struct Unstepped {
+    pub(crate) fault: StepFault,
+    pub(crate) event: Event,
+}
+
+impl From<Unstepped> for StepFault {
+    ghost from_gives = { λ unstepped fault. fault ≡ unstepped.fault };
+
+    fn from(unstepped: Unstepped) -> Self {
+        unstepped.fault
+    }
 }
 
 /// Why a call that was offered was not stepped. Nothing changed, and the call is given back.

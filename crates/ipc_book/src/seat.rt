@@ -107,6 +107,15 @@ impl<L: Ledger> Seat<L> {
         }
     }
 
+    /// A copy of the event of a call by the seat's session, or by nobody where the seat has none, if there is
+    /// memory for one.
+    pub(crate) fn copy_of(&self, call: &Call) -> Option<Event>
+        ensures { IfSome result (λ event. event ≡ Do (session_of self.now.sid) call.now) }
+    {
+        let call = call.clone().ok()?;
+        Some(self.calling(call))
+    }
+
     /// Tries to make room for one more receipt.
     pub(crate) fn make_room(&mut self)
         ensures { self.new ≡ self.old }

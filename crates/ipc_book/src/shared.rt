@@ -1,6 +1,6 @@
 //! The book behind its lock.
 
-ghost use Rattle.std.specs.Prelude.{◌≡◌, ◌≤◌, None, [], length, IfOk, IfErr, IfSome, OnErr};
+ghost use Rattle.std.specs.Prelude.{◌≡◌, ◌≤◌, None, [], length, IfOk, IfErr, OnErr};
 ghost use Rattle.ipc_terms.specs.declared.record.Event.TheVariants.{Hello, Do, Hangup, Tick};
 ghost use Rattle.ipc_access.specs.Users.{user_of_key};
 ghost use Rattle.ipc_policy.specs.declared.config.Config.{Config};
@@ -14,7 +14,6 @@ use crate::bell::{AWAKE_TURNS, Bell, Bells};
 use crate::book::Book;
 use crate::entry::{CloseFault, OfferFault, StepFault};
 use crate::seat::Seat;
-use crate::stepping::call_of;
 use ipc_terms::{Answer, Call, Event, NoMemory, Sid};
 use ipc_trail::Receipt;
 use std::alloc::Global;
@@ -31,13 +30,6 @@ use std::thread::yield_now;
 pub struct Shared<L: Ledger> {
     book: Mutex<Book<L>>,
     bells: Mutex<Bells>,
-}
-
-/// A copy of the event, if there is memory for one.
-fn copy_of(event: &Event) -> Option<Event>
-    ensures { IfSome result (λ copy. copy ≡ event.now) }
-{
-    event.copy().ok()
 }
 
 impl<L: Ledger> Shared<L> {
@@ -124,20 +116,12 @@ impl<L: Ledger> Shared<L> {
         ensures stale { StaleSays seat.old.list result }
         ensures err { OnErr result (seat.new ≡ seat.old) }
     {
-        let event = seat.calling(call);
-        let ready = copy_of(&event);
+        let copy = seat.copy_of(&call);
         seat.make_room();
-        let stepped = self.hold(rt).step_made(alloc, seat, event, ready);
-        match stepped {
-            Ok((receipt, posted)) => {
-                self.ring(rt, posted.other);
-                Ok(receipt)
-            }
-            Err((fault, event)) => {
-                drop(event);
-                Err(fault)
-            }
-        }
+        let event = seat.calling(call);
+        let (receipt, posted) = self.hold(rt).step_with_copy(alloc, seat, event, copy)?;
+        self.ring(rt, posted.other);
+        Ok(receipt)
     }
 
     /// Steps a call of the seat's session, or of nobody where the seat has none, if the session has fewer
@@ -156,17 +140,13 @@ impl<L: Ledger> Shared<L> {
         ensures err { OnErr result (seat.new ≡ seat.old) }
         ensures back { IfErr result (λ p. p.1 ≡ call) }
     {
-        let event = seat.calling(call);
-        let ready = copy_of(&event);
+        let copy = seat.copy_of(&call);
         seat.make_room();
-        let offered = self.hold(rt).offer_made(alloc, seat, event, ready, most);
-        match offered {
-            Ok((receipt, posted)) => {
-                self.ring(rt, posted.other);
-                Ok(receipt)
-            }
-            Err((fault, event)) => Err((fault, call_of(event))),
-        }
+        let (receipt, other) = self
+            .hold(rt)
+            .offer_with_copy(alloc, seat, call, copy, most)?;
+        self.ring(rt, other);
+        Ok(receipt)
     }
 
     /// Steps a hang-up of the seat's session, or of nobody where the seat has none. If it is accepted,
@@ -201,7 +181,8 @@ impl<L: Ledger> Shared<L> {
         ensures err { OnErr result (seat.new ≡ seat.old) }
     {
         seat.make_room();
-        let (receipt, posted) = self.hold(rt).tick_made(alloc, seat, moment)?;
+        let event = Event::Tick { moment };
+        let (receipt, posted) = self.hold(rt).step_with_copy(alloc, seat, event, None)?;
         self.ring(rt, posted.caller);
         Ok(receipt)
     }

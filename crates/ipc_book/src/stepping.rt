@@ -2,16 +2,13 @@
 
 ghost use Rattle.std.specs.Prelude.{◌≡◌, ◌+◌, ◌≢◌, None, Some, OnOk, OnErr, IfOk, IfErr, IfSome};
 ghost use Rattle.ipc_policy.specs.Verdict.{verdict, answers};
-ghost use Rattle.ipc_terms.specs.declared.ids.Sid.{Sid as Id};
-ghost use Rattle.ipc_terms.specs.declared.call.Call.{Call as Asked};
-ghost use Rattle.ipc_terms.specs.declared.record.Event.TheVariants.{Do};
 ghost use Rattle.ipc_core.specs.Outboxes.{session_at};
-ghost use Rattle.ipc_book.specs.Seats.{IsCurrent, Stepped, StaleExactly, last_receipt, receipt_at, without_back};
+ghost use Rattle.ipc_book.specs.Seats.{IsCurrent, Stepped, StaleExactly, last_receipt, receipt_at, without_event};
 
-use crate::entry::{Entry, StepFault};
+use crate::entry::{Entry, StepFault, Unstepped};
 use crate::seat::Receipts;
 use ipc_core::{Core, Posted};
-use ipc_terms::{Call, Event, NoMemory};
+use ipc_terms::{Event, NoMemory};
 use ipc_trail::Receipt;
 use std::alloc::Global;
 use std::sync::ledger::{Book as Total, Ledger};
@@ -34,25 +31,14 @@ pub(crate) fn stale<L: Ledger>(
 }
 
 /// The copy that was made before, or else a new one.
-fn own_copy(event: &Event, ready: Option<Event>) -> Result<Event, NoMemory>
-    requires { IfSome ready (λ copy. copy ≡ event.now) }
-    ensures { IfOk result (λ copy. copy ≡ event.now) }
+fn own_copy(event: &Event, copy: Option<Event>) -> Result<Event, NoMemory>
+    requires { IfSome copy (λ same. same ≡ event.now) }
+    ensures { IfOk result (λ same. same ≡ event.now) }
 {
-    match ready {
+    match copy {
         Some(copy) => Ok(copy),
         None => event.copy(),
     }
-}
-
-/// The call of an event of a call.
-pub(crate) fn call_of(event: Event) -> Call
-    requires { (sid : Id) × (call : Asked) × (event ≡ Do sid call) }
-    ensures { (sid : Id) (call : Asked) → event ≡ Do sid call → result ≡ call }
-{
-    let Event::Do { sid: _, call } = event else {
-        unreachable!();
-    };
-    call
 }
 
 /// Steps an event, of which there may be a copy already; an `Err` gives the event back. The seat's copy
@@ -63,31 +49,33 @@ pub(crate) fn enter<L: Ledger>(
     receipts: &mut Receipts<L>,
     alloc: Global,
     event: Event,
-    ready: Option<Event>,
-) -> Result<(Receipt, Posted), (StepFault, Event)>
-    requires { IfSome ready (λ copy. copy ≡ event) }
+    copy: Option<Event>,
+) -> Result<(Receipt, Posted), Unstepped>
+    requires { IfSome copy (λ same. same ≡ event) }
     ensures ok { IfOk result (λ p. Stepped core.old core.new receipts.old.list receipts.new.list event p.0) }
     ensures verdict { IfOk result (λ p. p.1.verdict ≡ verdict core.old.config core.old.history event) }
     ensures caller { IfOk result (λ p. p.1.caller ≡ session_at 0 (answers core.old.config core.old.history event)) }
     ensures other { IfOk result (λ p. p.1.other ≡ session_at 1 (answers core.old.config core.old.history event)) }
-    ensures stale { StaleExactly core.old receipts.old.list (without_back result) }
+    ensures stale { StaleExactly core.old receipts.old.list (without_event result) }
     ensures total { OnOk result (total.new.total ≡ total.old.total + 1) }
     ensures err { OnErr result ((core.new ≡ core.old) × (total.new.total ≡ total.old.total) × (receipts.new ≡ receipts.old)) }
-    ensures back { IfErr result (λ p. p.1 ≡ event) }
+    ensures back { IfErr result (λ unstepped. unstepped.event ≡ event) }
 {
     core.is_legal();
     if let Some((seen, found)) = stale(core, receipts) {
-        return Err((StepFault::Stale { seen, found }, event));
+        let fault = StepFault::Stale { seen, found };
+        return Err(Unstepped { fault, event });
     }
-    let Ok(copy) = own_copy(&event, ready) else {
-        return Err((StepFault::NoMemory, event));
+    let fault = StepFault::NoMemory;
+    let Ok(copy) = own_copy(&event, copy) else {
+        return Err(Unstepped { fault, event });
     };
     if receipts.entries.reserve(1).is_err() {
-        return Err((StepFault::NoMemory, event));
+        return Err(Unstepped { fault, event });
     }
     let place = core.trail().len();
     let Ok(posted) = core.post(alloc, event) else {
-        return Err((StepFault::NoMemory, copy));
+        return Err(Unstepped { fault, event: copy });
     };
     let Some(receipt) = core.trail().receipt(place) else {
         unreachable!();

@@ -185,7 +185,7 @@ impl<L: Ledger> Serves for Book<L> {
     ) -> Result<Receipt, Fault> {
         match who {
             Ann => Ok(self.step_for(alloc, seat, asked)?),
-            Bob => Ok(taken(self.offer(alloc, seat, asked, MOST_UNTAKEN))?.0),
+            Bob => Ok(taken(self.offer_with_copy(alloc, seat, asked, None, MOST_UNTAKEN))?.0),
         }
     }
 
