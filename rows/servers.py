@@ -21,7 +21,7 @@ USERS = TOP / "rows" / "mqserve" / "two.users"
 SECONDS = 60
 MANY = 200
 
-HELLO, UMASK, STARTED, MASK = 1, 2, 65, 68
+HELLO, UMASK, SEM_OPEN, STARTED, MASK = 1, 2, 11, 65, 68
 ONE_THREAD = ["--one-thread"]
 
 
@@ -176,6 +176,15 @@ def third_waits(programs, address, *words):
         ends(server, 3)
 
 
+def leaves(programs, address, *words):
+    """What a client sent is stepped, though it left without reading an answer."""
+    with serving(programs, address, "--stop-after", "2", *words) as server:
+        with connect(address) as stream:
+            stream.sendall(frame(HELLO, b"\0\3ka1") + frame(SEM_OPEN, b"\0\5/left\1\1\x80" + bytes(4)))
+        is_same("opened", told(programs, address, "ka1", "sem-open", "/left"), b"opened 1\n")
+        ends(server, 2)
+
+
 def mode_of(path):
     return stat.S_IMODE(os.stat(path).st_mode)
 
@@ -219,10 +228,12 @@ def no_socket(programs, address, *words):
 
 
 KINDS = {"workers": [], "one thread": ONE_THREAD}
+ONE_AT_A_TIME = {"workers": ["--workers", "1"], "one thread": [*ONE_THREAD, "--connections", "1"]}
 ANYWHERE = {
     "two clients": (two_clients, KINDS),
     f"{MANY} clients at once": (many_at_once, {"one thread": ONE_THREAD}),
     "a third client waits": (third_waits, {"workers": ["--workers", "2"], "one thread": [*ONE_THREAD, "--connections", "2"]}),
+    "a client that leaves at once": (leaves, ONE_AT_A_TIME),
 }
 AT_A_FILE = {
     "the file's mode and its end": (mode_and_end, KINDS),

@@ -89,7 +89,12 @@ impl<R: Clock> Host for Sockets<'_, R> {
     }
 
     fn write(&mut self, number: u64, bytes: &[u8]) -> io::Result<usize> {
-        self.link(number)?.write(bytes)
+        let link = self.link(number)?;
+        if bytes.is_empty() {
+            // The system would fail where the peer is gone, though what it sent is still to be read.
+            return Ok(0);
+        }
+        link.write(bytes)
     }
 
     fn close(&mut self, number: u64, _ending: Ending) {
