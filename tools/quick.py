@@ -20,6 +20,8 @@ TESTS = ["test_library", "test_server", "test_client"]
 CALLS = "2000"
 # What a test may take: 60 seconds are too few for the longest ones beside other work.
 SECONDS = "600"
+# How a line of the rows ends that is as it must be.
+IS_WELL = (": as written", ": as it must be")
 # How a line of `rt fmt` begins that tells of a wrong layout, or of an edit that doesn't fit its file any more.
 WRONG_LAYOUT = ("rt: formatted ", "rt: note: must-fail/")
 
@@ -61,14 +63,16 @@ def tests(name):
 
 
 def rows():
-    """Builds both programs, and runs them over inputs whose outcome is known."""
+    """Builds both programs, and runs them over inputs whose outcome is known, and as servers."""
     try:
         unproved()
     except OSError as fault:
         return False, "no program", str(fault)
-    status, out, said = run("rows/run.py", "--programs", UNPROVED, "--calls", CALLS, cwd=TOP)
-    wrong = [line for line in said.splitlines() if not line.endswith(": as written")]
-    return status == 0, last_line(out), "\n".join(wrong)
+    over_inputs = run("rows/run.py", "--programs", UNPROVED, "--calls", CALLS, cwd=TOP)
+    as_servers = run("rows/servers.py", "--programs", UNPROVED, cwd=TOP)
+    wrong = [line for line in (over_inputs[2] + as_servers[2]).splitlines() if not line.endswith(IS_WELL)]
+    is_well = over_inputs[0] == as_servers[0] == 0
+    return is_well, f"{last_line(over_inputs[1])}; {last_line(as_servers[1])}", "\n".join(wrong)
 
 
 def streams():
