@@ -31,6 +31,29 @@ SECONDS = 60
 USERS = b"ann:ka1:1000:1000::\n.\na hello ka1\n"
 STARTED = b"a started 0\n"
 
+# What each server logs of two clients, one at a time, of which the second has nobody's key.
+LOG_OF_WORKERS = b"""\
+time=TIME event=begun connection=0 peer=PEER
+time=TIME event=busy
+time=TIME event=hello connection=0 user=1000
+time=TIME event=ended connection=0 requests=2 ending=Closed
+time=TIME event=free
+time=TIME event=begun connection=1 peer=PEER
+time=TIME event=busy
+time=TIME event=ended connection=1 requests=1 ending=BadKey rule=31
+time=TIME event=free
+"""
+LOG_OF_ONE_THREAD = b"""\
+time=TIME event=begun connection=0 peer=PEER
+time=TIME event=busy
+time=TIME event=ended connection=0 ending=Closed
+time=TIME event=free
+time=TIME event=begun connection=1 peer=PEER
+time=TIME event=busy
+time=TIME event=ended connection=1 ending=BadKey rule=31
+time=TIME event=free
+"""
+
 
 @dataclasses.dataclass
 class Case:
@@ -82,6 +105,7 @@ def made_cases(calls):
     calls_of_two = ([b"ka1", b"mq-open", b"/jobs", b"rw", b"--create"], [b"r00t", b"mq-getattr", b"0"])
     yield Case("mqserve a server with two clients", "mqserve", two, b"", told, clients=calls_of_two)
     yield by_name_case()
+    yield from log_cases(two)
     yield Case("mqserve an argument that is not UTF-8", "mqserve", [b"\xff"], b"", b"", b"error: an argument is not UTF-8\n", 2)
     yield Case(f"mqctl {calls:,} commands", "mqctl", [], b"interrupt\n" * calls, b"0000000117\n" * calls)
     yield Case("mqctl the longest line", "mqctl", [], comment, b"fault usage\n", b"", 1)
@@ -90,6 +114,20 @@ def made_cases(calls):
     yield Case("mqctl a reader that fails", "mqctl", [], TOP, b"", b"mqctl: read\n", 4)
     yield Case("mqctl a writer that fails", "mqctl", [], b"interrupt\n", b"", b"mqctl: write\n", 4, "/dev/full")
     yield from served_cases()
+
+
+def log_cases(two):
+    """A log of two clients over standard output, and one that ends at once."""
+    clients = ([b"ka1", b"mq-open", b"/jobs", b"rw", b"--create"], [b"none", b"umask", b"0"])
+    serving, shown = b"serving ADDRESS\n", b"served 2\nopened 0\nrefused 31 EACCES BadKey\n"
+    by_one_worker = [*two, b"--workers", b"1", b"--log"]
+    on_one_thread = [*two, b"--one-thread", b"--connections", b"1", b"--log"]
+    for kind, words, log in (("workers", by_one_worker, LOG_OF_WORKERS), ("one thread", on_one_thread, LOG_OF_ONE_THREAD)):
+        out = serving + log + shown
+        yield Case(f"mqserve a log, {kind}", "mqserve", [*words, b"-"], b"", out, clients=clients)
+        for what, path in (("written", b"/dev/full"), ("opened", b"rows")):
+            name = f"mqserve a log that can't be {what}, {kind}"
+            yield Case(name, "mqserve", [*words, path], b"", serving + shown, b"mqserve: log\n", clients=clients)
 
 
 def by_name_case():
@@ -169,7 +207,9 @@ def run_with_clients(case):
             served, err = server.communicate(timeout=SECONDS)
         finally:
             server.kill()
-    return b"".join([(serving + served).replace(address, b"ADDRESS"), *shown]), err, server.returncode
+    told = re.sub(rb"time=\d{13} ", b"time=TIME ", (serving + served).replace(address, b"ADDRESS"))
+    told = re.sub(rb"peer=127\.0\.0\.1:\d+", b"peer=PEER", told)
+    return b"".join([told, *shown]), err, server.returncode
 
 
 def command_of(case):

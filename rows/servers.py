@@ -8,6 +8,7 @@ import argparse
 import contextlib
 import os
 import pathlib
+import re
 import shlex
 import socket
 import stat
@@ -185,6 +186,21 @@ def leaves(programs, address, *words):
         ends(server, 2)
 
 
+def log(programs, address, *words):
+    """What is told of a connection stands at the end of the log."""
+    with tempfile.TemporaryDirectory() as room:
+        file = pathlib.Path(room, "log")
+        file.write_text("kept\n")
+        with serving(programs, address, "--stop-after", "1", "--log", str(file), *words) as server:
+            is_same("refused", told(programs, address, "none", "umask", "022"), b"refused 31 EACCES BadKey\n")
+            ends(server, 1)
+        lines = re.sub(r"time=\d{13} ", "", file.read_text())
+    peer = "" if address.startswith("unix:") else " peer=127.0.0.1:PORT"
+    requests = "" if ONE_THREAD[0] in words else " requests=1"
+    wanted = f"kept\nevent=begun connection=0{peer}\nevent=ended connection=0{requests} ending=BadKey rule=31\n"
+    is_same("the log", re.sub(r"127\.0\.0\.1:\d+", "127.0.0.1:PORT", lines), wanted)
+
+
 def mode_of(path):
     return stat.S_IMODE(os.stat(path).st_mode)
 
@@ -234,6 +250,7 @@ ANYWHERE = {
     f"{MANY} clients at once": (many_at_once, {"one thread": ONE_THREAD}),
     "a third client waits": (third_waits, {"workers": ["--workers", "2"], "one thread": [*ONE_THREAD, "--connections", "2"]}),
     "a client that leaves at once": (leaves, ONE_AT_A_TIME),
+    "a log at the end of a file": (log, KINDS),
 }
 AT_A_FILE = {
     "the file's mode and its end": (mode_and_end, KINDS),

@@ -5,13 +5,14 @@ use Rattle.ipc_program.specs.declared.tasks.Threading.{Threading}
 use Rattle.ipc_program.specs.declared.tasks.Threading.TheVariants.{OneThread, Workers}
 
 -- the path of the user file, the address, the permission bits of a socket's file, on what threads it serves, after how many
--- connections it ends, and the limits
+-- connections it ends, the path of the log, and the limits
 pub record Serving : Type 0 where
   pub users : List ℕ
   pub address : List ℕ
   pub socket_mode : ℕ
   pub threading : Threading
   pub stop_after : Option ℕ
+  pub log : Option (List ℕ)
   pub limits : Limits
 
 -- 1 to 64 workers; room for a connection or more

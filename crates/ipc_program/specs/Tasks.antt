@@ -74,7 +74,7 @@ serving_given rows =
     option_at (decimal_within (2 ^ 64 - 1)) (codes "stop-after") rows >>= λ stop_after.
     socket_mode_given address rows >>= λ socket_mode.
     limits_given rows >>= λ limits.
-    Ok (record { users = users; address = address; socket_mode = socket_mode; threading = threading; stop_after = stop_after; limits = limits })
+    Ok (record { users = users; address = address; socket_mode = socket_mode; threading = threading; stop_after = stop_after; log = first_of (codes "log") rows; limits = limits })
 
 -- the task of a subcommand by its name and what stands behind it
 abbrev pub task_of : Text × List Row → Meaning Task

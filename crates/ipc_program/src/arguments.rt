@@ -1,8 +1,8 @@
 //! The program's arguments.
 
-ghost use Rattle.std.specs.Prelude.{◌≡◌, ◌≤◌, IfOk, false, map};
+ghost use Rattle.std.specs.Prelude.{◌≡◌, ◌≤◌, IfOk, codes, false, map, option_map, string_bytes};
 ghost use Rattle.clap.specs.Simple.{app_of, subcommand_rows_of};
-ghost use Rattle.clap.specs.Walk.{rule_of, rows_of};
+ghost use Rattle.clap.specs.Walk.{first_of, rule_of, rows_of};
 ghost use Rattle.clap.specs.Words.{found_of};
 ghost use Rattle.ipc_words.specs.Grammar.{flag};
 ghost use Rattle.ipc_words.specs.Readings.{Reads, is_given};
@@ -24,7 +24,7 @@ use std::convert::AsStr;
 const USAGE: &str = "\
 mqserve [script [--msg-max <N>] [--msgsize-max <N>] [--queues-max <N>]]
        mqserve serve <USERS> <ADDRESS> [--one-thread [--connections <N>] | --workers <N>]
-                     [--stop-after <N>] [--socket-mode <OCTAL>]
+                     [--stop-after <N>] [--log <FILE>] [--socket-mode <OCTAL>]
                      [--msg-max <N>] [--msgsize-max <N>] [--queues-max <N>]";
 
 const USERS_HELP: &str = "The user file";
@@ -38,6 +38,9 @@ const CONNECTIONS_HELP: &str = "With --one-thread: connections at a time [defaul
 const WORKERS_HELP: &str = "Connections that are served side by side, 1 to 64 [default: 4]";
 
 const STOP_AFTER_HELP: &str = "End after so many connections [default: never]";
+
+const LOG_HELP: &str =
+    "Where a line of each connection goes, - is standard output [default: nowhere]";
 
 const SOCKET_MODE_HELP: &str = "Permission bits of the file of unix:PATH [default: 0600]";
 
@@ -60,7 +63,7 @@ const STANDARD_MODE: u32 = 0o600;
 
 /// The task that the program's words ask for, of which the first is its name: `mqserve` alone, `mqserve script`, or
 /// `mqserve serve USERS ADDRESS`, with `--one-thread [--connections N]` or `[--workers N]`, and with `[--stop-after N]
-/// [--socket-mode OCTAL]`; behind the last two the limits, `[--msg-max N] [--msgsize-max N] [--queues-max N]`. A limit that
+/// [--log FILE] [--socket-mode OCTAL]`; behind the last two the limits, `[--msg-max N] [--msgsize-max N] [--queues-max N]`. A limit that
 /// isn't given is the standard one, and none is tested against its range. `help` stands at the end of the help text.
 ///
 /// # Errors
@@ -161,6 +164,7 @@ fn with_server_options<'a>(alloc: Global, command: Command<'a>) -> Result<Comman
         .arg(value(alloc, "connections", "N", CONNECTIONS_HELP))?
         .arg(value(alloc, "workers", "N", WORKERS_HELP))?
         .arg(value(alloc, "stop-after", "N", STOP_AFTER_HELP))?
+        .arg(value(alloc, "log", "FILE", LOG_HELP))?
         .arg(value(alloc, "socket-mode", "OCTAL", SOCKET_MODE_HELP))?;
     Ok(command)
 }
@@ -243,6 +247,7 @@ fn serving_of(alloc: Global, options: &ArgMatches) -> Result<Serving, WordFault>
     };
     let threading = threading_of(options)?;
     let stop_after = optional_number(options, "stop-after")?;
+    let log = log_of(alloc, options)?;
     let socket_mode = socket_mode_of(options, address)?;
     let limits = limits_of(options)?;
     Ok(Serving {
@@ -251,8 +256,19 @@ fn serving_of(alloc: Global, options: &ArgMatches) -> Result<Serving, WordFault>
         socket_mode,
         threading,
         stop_after,
+        log,
         limits,
     })
+}
+
+/// The path of the log, where one is asked for.
+fn log_of(alloc: Global, options: &ArgMatches) -> Result<Option<String>, AllocError>
+    ensures { IfOk result (λ log. option_map string_bytes log ≡ first_of (codes "log") (rows_of (found_of options.now))) }
+{
+    let Some(path) = optional_word(options, "log") else {
+        return Ok(None);
+    };
+    Ok(Some(String::from_str(alloc, path)?))
 }
 
 /// One thread, where its flag is given, and else workers. An option of the other is refused.

@@ -24,6 +24,8 @@ pub struct Serving {
     pub threading: Threading,
     /// After how many connections it ends.
     pub stop_after: Option<u64>,
+    /// The path of the log, or `-`.
+    pub log: Option<String>,
     pub limits: Limits,
 }
 
@@ -37,12 +39,12 @@ pub enum Threading {
 }
 
 impl Model for Serving {
-    ghost use Rattle.std.specs.Prelude.{string_bytes};
+    ghost use Rattle.std.specs.Prelude.{option_map, string_bytes};
     ghost use Rattle.ipc_program.specs.Servers.{IsWithin, Serving};
 
     ghost Value = { Serving };
 
-    ghost view = { λ s. record { users = string_bytes s.users; address = string_bytes s.address; socket_mode = s.socket_mode; threading = s.threading; stop_after = s.stop_after; limits = s.limits } };
+    ghost view = { λ s. record { users = string_bytes s.users; address = string_bytes s.address; socket_mode = s.socket_mode; threading = s.threading; stop_after = s.stop_after; log = option_map string_bytes s.log; limits = s.limits } };
 
     ghost invariant = { λ s. IsWithin s.threading };
 }

@@ -35,6 +35,13 @@ pub fn listen_at_file<R: Files + Net>(rt: &R, path: &str, mode: u32) -> io::Resu
     Ok(listener)
 }
 
+/// Removes the file that was listened at, where the address is of one. It may be gone already.
+pub fn remove_file_of<R: Files>(rt: &R, address: &str) {
+    if let Some(path) = path_of(address) {
+        let _ = fs::remove_file(rt, path);
+    }
+}
+
 /// Whether the file is a socket at which nobody listens.
 fn is_left_over<R: Files + Net>(rt: &R, path: &str) -> bool {
     match fs::symlink_metadata(rt, path) {

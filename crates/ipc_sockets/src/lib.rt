@@ -7,5 +7,5 @@ mod sockets;
 mod streams;
 
 pub use clock::moment;
-pub use files::{UNIX, listen_at_file, path_of};
+pub use files::{UNIX, listen_at_file, path_of, remove_file_of};
 pub use sockets::Sockets;

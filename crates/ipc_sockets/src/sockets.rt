@@ -10,7 +10,7 @@ use mio::{Events, Poll, Token};
 use std::alloc::Global;
 use std::io;
 use std::io::ErrorKind;
-use std::net::Net;
+use std::net::{Net, SocketAddr};
 use std::rt::Files;
 use std::time::{Clock, Duration};
 
@@ -62,6 +62,14 @@ fn at_file<R: Files + Net>(rt: &R, path: &str, mode: u32) -> io::Result<Listener
 }
 
 impl<R> Sockets<'_, R> {
+    /// Who is at the other end of the connection of this number, where that is known: not at a Unix socket.
+    pub fn peer(&self, number: u64) -> Option<SocketAddr> {
+        match self.links.get(number as usize) {
+            Some(Some(link)) => link.peer(),
+            _ => None,
+        }
+    }
+
     fn link(&mut self, number: u64) -> io::Result<&mut Stream> {
         match self.links.get_mut(number as usize) {
             Some(Some(link)) => Ok(link),

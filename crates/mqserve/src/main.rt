@@ -3,6 +3,9 @@
 #![tactic(auto)]
 
 mod guidance;
+mod journal;
+mod log;
+mod logged;
 mod one_thread;
 mod serving;
 mod ticking;

@@ -1,47 +1,45 @@
 //! Serving connections on one thread.
 
 use crate::guidance::say;
+use crate::log::open_log;
+use crate::logged::LoggedSockets;
 use ipc_core::Config;
 use ipc_loop::Server;
 use ipc_program::{ProgramFault, Serving};
 use ipc_script::ScriptFault;
-use ipc_sockets::{Sockets, path_of};
-use std::fs;
+use ipc_sockets::{Sockets, remove_file_of};
+use std::fs::File;
 use std::net::Net;
 use std::rt::Files;
 use std::sync::Wait;
 use std::time::Clock;
 
 /// Serves at most so many connections at a time, until as many as are asked for have ended.
-pub fn serve_on_one_thread<R: AllocGlobal + Files + Print + Net + Wait + Clock>(
-    rt: &R,
-    serving: &Serving,
-    connections: usize,
-    config: Config,
-) -> Result<(), ProgramFault> {
+pub fn serve_on_one_thread<
+    R: AllocGlobal + Files<File = File> + Print + Eprint + Net + Wait + Clock,
+>(rt: &R, serving: &Serving, connections: usize, config: Config) -> Result<(), ProgramFault> {
     let mut server = match Server::new(rt.alloc(), config, connections, serving.stop_after) {
         Ok(server) => server,
         Err(fault) => return Err(ScriptFault::from(fault).into()),
     };
     let address = serving.address.as_str();
-    let mut sockets = match Sockets::bind(rt, rt.alloc(), address, serving.socket_mode) {
+    let sockets = match Sockets::bind(rt, rt.alloc(), address, serving.socket_mode) {
         Ok(sockets) => sockets,
         Err(error) => return Err(ProgramFault::of_address(&error)),
     };
+    let log = open_log(rt, &serving.log, connections);
+    let mut sockets = LoggedSockets { sockets, log: &log };
     let served = work(rt, address, &mut server, &mut sockets);
-    if let Some(path) = path_of(address) {
-        // It may have been removed already.
-        let _ = fs::remove_file(rt, path);
-    }
+    remove_file_of(rt, address);
     served
 }
 
 /// Says that connections are served, and serves them in rounds.
-fn work<R: Print + Wait + Clock>(
+fn work<R: Print + Eprint + Wait + Clock>(
     rt: &R,
     address: &str,
     server: &mut Server,
-    sockets: &mut Sockets<'_, R>,
+    sockets: &mut LoggedSockets<'_, R>,
 ) -> Result<(), ProgramFault> {
     say(rt, "serving", address)?;
     for _ in rt.forever() {

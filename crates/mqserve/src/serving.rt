@@ -3,6 +3,8 @@
 ghost use Rattle.std.specs.Prelude.{◌≡◌, ◌≤◌, ◌^◌, None};
 
 use crate::guidance::say;
+use crate::journal::LogOfWorkers;
+use crate::log::open_log;
 use crate::one_thread::serve_on_one_thread;
 use crate::ticking::{ServerClock, start_ticker};
 use ipc_access::Users;
@@ -10,9 +12,10 @@ use ipc_book::{Book, Shared};
 use ipc_core::Config;
 use ipc_program::{ProgramFault, Serving, Threading};
 use ipc_script::ScriptFault;
-use ipc_server::{Link, Listen, OpenGate, WorkersFault, run_workers};
-use ipc_sockets::{listen_at_file, path_of};
+use ipc_server::{Journal, Link, Listen, OpenGate, WorkersFault, run_workers_with_journal};
+use ipc_sockets::{listen_at_file, path_of, remove_file_of};
 use std::alloc::Global;
+use std::fs::File;
 use std::marker::Brand;
 use std::net::{Net, TcpListener, TcpStream};
 use std::rt::Files;
@@ -25,30 +28,63 @@ use std::{fs, thread};
 /// Serves as many connections as are asked for, or until none can be accepted any more, and says how many were served.
 pub fn serve<
     R: AllocGlobal
-        + Files
+        + Files<File = File>
         + Print
+        + Eprint
         + Net<Listener = TcpListener, Stream = TcpStream>
         + Threads
         + Wait
         + Clock
         + Sync,
 >(rt: &R, serving: &Serving) -> Result<(), ProgramFault> {
-    let users = users_of(rt, serving.users.as_str())?;
+    let file = match fs::read(rt, serving.users.as_str()) {
+        Ok(file) => file,
+        Err(error) => return Err(ProgramFault::of_file(&error)),
+    };
     let config = Config {
-        users,
+        users: users_of(rt.alloc(), &file)?,
         limits: serving.limits,
     };
     match serving.threading {
-        Threading::Workers(workers) => serve_book::<Brand, R>(
-            rt,
-            serving,
-            workers,
-            config,
-            Blank::new(1 << 63),
-        )?,
+        Threading::Workers(workers) => {
+            let users = users_of(rt.alloc(), &file)?;
+            serve_by_workers(rt, serving, workers, config, users)?;
+        }
         Threading::OneThread(connections) => serve_on_one_thread(rt, serving, connections, config)?,
     }
     say(rt, "served", serving.stop_after.unwrap_or(u64::MAX))
+}
+
+/// Serves by workers, whose log tells which of these users a connection is of.
+fn serve_by_workers<
+    R: AllocGlobal
+        + Files<File = File>
+        + Print
+        + Eprint
+        + Net<Listener = TcpListener, Stream = TcpStream>
+        + Threads
+        + Wait
+        + Clock
+        + Sync,
+>(
+    rt: &R,
+    serving: &Serving,
+    workers: usize,
+    config: Config,
+    users: Users,
+) -> Result<(), ProgramFault>
+    requires somebody { 1 ≤ workers }
+{
+    let log = open_log(rt, &serving.log, workers);
+    let journal = LogOfWorkers { log: &log, users };
+    serve_book::<Brand, R, LogOfWorkers<'_, R>>(
+        rt,
+        serving,
+        workers,
+        config,
+        &journal,
+        Blank::new(1 << 63),
+    )
 }
 
 /// Serves by workers, over a new book.
@@ -62,11 +98,13 @@ fn serve_book<
         + Wait
         + Clock
         + Sync,
+    J: Journal + Sync,
 >(
     rt: &R,
     serving: &Serving,
     workers: usize,
     config: Config,
+    journal: &J,
     blank: Blank,
 ) -> Result<(), ProgramFault>
     requires name { blank.name ≡ L.name }
@@ -84,25 +122,20 @@ fn serve_book<
             Ok(listener) => listener,
             Err(error) => return Err(ProgramFault::of_address(&error)),
         };
-        return work(rt, serving, workers, &listener, &shared);
+        return work(rt, serving, workers, &listener, journal, &shared);
     };
     let listener = match listen_at_file(rt, path, serving.socket_mode) {
         Ok(listener) => listener,
         Err(error) => return Err(ProgramFault::of_address(&error)),
     };
-    let served = work(rt, serving, workers, &listener, &shared);
-    // It may have been removed already.
-    let _ = fs::remove_file(rt, path);
+    let served = work(rt, serving, workers, &listener, journal, &shared);
+    remove_file_of(rt, serving.address.as_str());
     served
 }
 
 /// The users of a file.
-fn users_of<R: AllocGlobal + Files>(rt: &R, path: &str) -> Result<Users, ProgramFault> {
-    let file = match fs::read(rt, path) {
-        Ok(file) => file,
-        Err(error) => return Err(ProgramFault::of_file(&error)),
-    };
-    match Users::read(rt.alloc(), &file) {
+fn users_of(alloc: Global, file: &[u8]) -> Result<Users, ProgramFault> {
+    match Users::read(alloc, file) {
         Ok(users) => Ok(users),
         Err(fault) => Err(ScriptFault::from(fault).into()),
     }
@@ -114,17 +147,19 @@ fn work<
     R: AllocGlobal + Print + Threads + Wait + Clock + Sync,
     C: Link + Send + Sync + Drop,
     N: Listen<Conn = C>,
+    J: Journal + Sync,
 >(
     rt: &R,
     serving: &Serving,
     workers: usize,
     listener: &N,
+    journal: &J,
     shared: &Shared<L>,
 ) -> Result<(), ProgramFault>
     requires { 1 ≤ workers }
 {
     say(rt, "serving", serving.address.as_str())?;
-    match serve_and_tick(rt, serving.stop_after, workers, listener, shared) {
+    match serve_and_tick(rt, serving.stop_after, workers, listener, journal, shared) {
         Ok(()) => Ok(()),
         Err(WorkersFault::AcceptFailed) => Err(ProgramFault::Net),
         Err(WorkersFault::NoMemory) => Err(ScriptFault::Memory.into()),
@@ -137,11 +172,13 @@ fn serve_and_tick<
     R: AllocGlobal + Threads + Wait + Clock + Sync,
     C: Link + Send + Sync + Drop,
     N: Listen<Conn = C>,
+    J: Journal + Sync,
 >(
     rt: &R,
     stop_after: Option<u64>,
     workers: usize,
     listener: &N,
+    journal: &J,
     shared: &Shared<L>,
 ) -> Result<(), WorkersFault>
     requires { 1 ≤ workers }
@@ -161,7 +198,9 @@ fn serve_and_tick<
             let Some(ticker) = start_ticker(scope, &clock, shared, seat) else {
                 return Err(WorkersFault::NoMemory);
             };
-            let served = run_workers(rt, alloc, listener, shared, workers, stop_after, &OpenGate);
+            let served = run_workers_with_journal(
+                rt, alloc, listener, shared, workers, stop_after, &OpenGate, journal,
+            );
             clock.stop();
             let _seat = ticker.join(rt);
             match served {

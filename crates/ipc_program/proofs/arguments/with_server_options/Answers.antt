@@ -12,11 +12,13 @@ returns c =
     c.in_ok-arg.ensures.shape c.flag.ensures.local ∙ ap (with_rule (app_of c.args.command)) c.flag.ensures.rule in
     let second = c.in_ok-arg-2.ensures.shape c.value.ensures.local ∙ ap₂ with_rule first c.value.ensures.rule in
     let third = c.in_ok-arg-3.ensures.shape c.value-2.ensures.local ∙ ap₂ with_rule second c.value-2.ensures.rule in
-    let fourth = c.in_ok-arg-4.ensures.shape c.value-3.ensures.local ∙ ap₂ with_rule third c.value-3.ensures.rule in (
-      c.in_ok-command.ensures.shape c.value-4.ensures.local ∙ ap₂ with_rule fourth c.value-4.ensures.rule,
+    let fourth = c.in_ok-arg-4.ensures.shape c.value-3.ensures.local ∙ ap₂ with_rule third c.value-3.ensures.rule in
+    let fifth = c.in_ok-arg-5.ensures.shape c.value-4.ensures.local ∙ ap₂ with_rule fourth c.value-4.ensures.rule in (
+      c.in_ok-command.ensures.shape c.value-5.ensures.local ∙ ap₂ with_rule fifth c.value-5.ensures.rule,
       λ none. c.in_ok-command.ensures.globals
+          ∙ ap₂ either (c.in_ok-arg-5.ensures.globals
           ∙ ap₂ either (c.in_ok-arg-4.ensures.globals
           ∙ ap₂ either (c.in_ok-arg-3.ensures.globals
           ∙ ap₂ either (c.in_ok-arg-2.ensures.globals
-          ∙ ap₂ either (c.in_ok-arg.ensures.globals ∙ ap₂ either none c.flag.ensures.local) c.value.ensures.local) c.value-2.ensures.local) c.value-3.ensures.local) c.value-4.ensures.local,
+          ∙ ap₂ either (c.in_ok-arg.ensures.globals ∙ ap₂ either none c.flag.ensures.local) c.value.ensures.local) c.value-2.ensures.local) c.value-3.ensures.local) c.value-4.ensures.local) c.value-5.ensures.local,
     )

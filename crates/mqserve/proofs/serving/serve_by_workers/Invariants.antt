@@ -1,4 +1,4 @@
-use Rattle.mqserve.proofs.serving.serve.Given as goal
+use Rattle.mqserve.proofs.serving.serve_by_workers.Given as goal
 
 -- the ledger that the blank opens
 abbrev pub ghosts-serve_book : goal.ghosts-serve_book

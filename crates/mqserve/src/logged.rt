@@ -1,0 +1,62 @@
+//! What one thread tells the log.
+
+use crate::log::{Log, words_of_fault};
+use ipc_loop::{Ending, Host, Ready};
+use ipc_sockets::Sockets;
+use std::io;
+use std::sync::Wait;
+use std::time::{Clock, Duration};
+
+/// Sockets that write into a log which connections begin and end.
+#[derive(Drop)]
+pub struct LoggedSockets<'a, R> {
+    pub sockets: Sockets<'a, R>,
+    pub log: &'a Log<'a, R>,
+}
+
+impl<R: Print + Eprint + Wait + Clock> Host for LoggedSockets<'_, R> {
+    fn accept(&mut self, number: u64) -> io::Result<()> {
+        self.sockets.accept(number)?;
+        self.log.begun(number, self.sockets.peer(number));
+        Ok(())
+    }
+
+    fn read(&mut self, number: u64, buffer: &mut [u8]) -> io::Result<usize> {
+        self.sockets.read(number, buffer)
+    }
+
+    fn write(&mut self, number: u64, bytes: &[u8]) -> io::Result<usize> {
+        self.sockets.write(number, bytes)
+    }
+
+    fn close(&mut self, number: u64, ending: Ending) {
+        self.sockets.close(number, ending);
+        let ending = words_of(ending);
+        self.log.ended(number, format_args!("ending={ending}"));
+    }
+
+    fn wait(&mut self, pause: Option<Duration>) -> io::Result<()> {
+        self.sockets.wait(pause)
+    }
+
+    fn next_ready(&mut self) -> Option<Ready> {
+        self.sockets.next_ready()
+    }
+
+    fn moment(&mut self) -> u64 {
+        self.sockets.moment()
+    }
+}
+
+/// The ending's word, and what else is to be said of it.
+fn words_of(ending: Ending) -> &'static str {
+    match ending {
+        Ending::Closed => "Closed",
+        Ending::ReadFailed => "ReadFailed",
+        Ending::WriteFailed => "WriteFailed",
+        Ending::Wire(fault) => words_of_fault(fault),
+        Ending::BadKey => "BadKey rule=31",
+        Ending::NoMemory => "NoMemory",
+        Ending::TooMuchUnfinished => "TooMuchUnfinished",
+    }
+}
