@@ -1,6 +1,6 @@
 -- What a command says, from what its frame is and how it was answered.
-use Rattle.std.proofs.Common.{◌≡◌, ℕ, zero, suc, ◌+◌, Bool, true, false, List, [], ◌∷◌, ◌++◌, Option, None, Some, Result, Ok, Err, refl, sym, ap, subst, append_assoc, append-nil, ◌∙◌}
-use Rattle.std.specs.Prelude.{◌&&◌, IfErr, IfOk, OnOk, Vec, decimal}
+use Rattle.std.proofs.Common.{◌≡◌, ℕ, Bool, true, false, List, [], Option, None, Some, Result, Ok, Err, refl, sym, ap, subst, ◌∙◌}
+use Rattle.std.specs.Prelude.{◌&&◌, IfOk, OnOk, Vec, decimal}
 use Rattle.std.specs.Io.KnownBytes.{Appends}
 use Rattle.ipc_terms.specs.declared.call.Answer.{Answer}
 use Rattle.ipc_terms.specs.declared.ids.Desc.{Desc}
@@ -9,7 +9,7 @@ use Rattle.ipc_wire.specs.declared.request.Request.TheVariants.{Hello}
 use Rattle.ipc_words.specs.declared.faults.WordFault.{WordFault}
 use Rattle.ipc_client.specs.Acts.{ActEnds, ActGoesOn, ByNameEnds, Does, IsOpening, OpenGoesOn, Opens, acting, closing, size_told}
 use Rattle.ipc_client.specs.Connections.{Incoming, Reads}
-use Rattle.ipc_client.specs.Dialogues.{CommandSays, Goes, IsAnswered, IsCommandFrame, IsFrameOf, IsFrameUnless, Link, Nothing, Says, SoManySaid, SomeSaid, Talks, Then, bytes_of, is_accepted, lacks_description, last_after, opened_by, with_last}
+use Rattle.ipc_client.specs.Dialogues.{Goes, IsAnswered, IsCommandFrame, IsFrameOf, IsFrameUnless, Link, Says, Talks, Then, bytes_of, is_accepted, lacks_description, last_after, opened_by, with_last}
 use Rattle.ipc_client.specs.Sessions.{CommandEnds, HelloEnds, is_start}
 use Rattle.ipc_client.specs.declared.acts.Act.{Act}
 use Rattle.ipc_client.specs.declared.fault.ClientFault.{ClientFault}
@@ -116,46 +116,6 @@ done_by_name act name arguments frame outcome desc d acted closed a b c e is goe
     (talk_as (Then (ActEnds act (decimal desc.0) arguments acted) (Does (closing act (decimal desc.0)) closed)) (OpenGoesOn act arguments (Some desc) (acted && closed)) b e (λ sent bytes rest it. (acted, closed, it, refl)) pair) in
     talk_as (Then (Opens act name arguments outcome) (OpenGoesOn act arguments (opened_by outcome) (acted && closed))) (ByNameEnds act name arguments (acted && closed)) a e (λ sent bytes rest it. (outcome, it))
     (talk_then (Opens act name arguments outcome) (OpenGoesOn act arguments (opened_by outcome) (acted && closed)) a b e (opens act name arguments frame outcome a b is goes) on)
-
--- ---- some commands
-
-none_said : (bytes : List ℕ) → SomeSaid [] bytes bytes
-unfolding SoManySaid
-none_said bytes = (0, (refl, refl))
-
-pub some_none : (a : Link) → Talks SomeSaid a a
-some_none a = talk_nothing SomeSaid a none_said
-
-more_said : (words : List (List ℕ)) (outcome : Option Answer) (sent bytes rest : List ℕ) → Then SomeSaid (Says words outcome) sent bytes rest → SomeSaid sent bytes rest
-unfolding SoManySaid
-more_said words outcome sent bytes rest (first, second, between, parts, (n, earlier), last) = (suc n, (words, outcome, (first, second, between, parts, earlier, last)))
-
-pub some_said : (words : List (List ℕ)) (outcome : Option Answer) (a b c : Link) → Talks SomeSaid a b → Talks (Says words outcome) b c → Talks SomeSaid a c
-some_said words outcome a b c earlier last = talk_as (Then SomeSaid (Says words outcome)) SomeSaid a c (more_said words outcome) (talk_then SomeSaid (Says words outcome) a b c earlier last)
-
-said_behind : (n m : ℕ) (sent bytes rest : List ℕ) → Then (SoManySaid n) (SoManySaid m) sent bytes rest → SomeSaid sent bytes rest
-unfolding SoManySaid
-said_behind n zero sent bytes rest (first, second, between, parts, earlier, (none, same)) =
-    let whole : first ≡ sent = sym (parts ∙ ap (λ (l : List ℕ). first ++ l) none ∙ append-nil first) in
-    (n, subst (λ (r : List ℕ). SoManySaid n sent bytes r) (sym same) (subst (λ (s : List ℕ). SoManySaid n s bytes between) whole earlier))
-said_behind n (suc m) sent bytes rest (first, second, between, parts, earlier, (words, outcome, (front, back, middle, halves, some, last))) =
-    let (k, all) = said_behind n m (first ++ front) bytes middle (first, front, between, refl, earlier, some) in
-    (suc k, (words, outcome, (first ++ front, back, middle, parts ∙ ap (λ (l : List ℕ). first ++ l) halves ∙ sym (append_assoc first front back), all, last)))
-
-both_said : (sent bytes rest : List ℕ) → Then SomeSaid SomeSaid sent bytes rest → SomeSaid sent bytes rest
-both_said sent bytes rest (first, second, between, parts, (n, earlier), (m, some)) = said_behind n m sent bytes rest (first, second, between, parts, earlier, some)
-
-pub some_then : (a b c : Link) → Talks SomeSaid a b → Talks SomeSaid b c → Talks SomeSaid a c
-some_then a b c first second = talk_as (Then SomeSaid SomeSaid) SomeSaid a c both_said (talk_then SomeSaid SomeSaid a b c first second)
-
-pub once_said : (words : List (List ℕ)) (outcome : Option Answer) (a b : Link) → Talks (Says words outcome) a b → Talks SomeSaid a b
-once_said words outcome a b said_it = some_said words outcome a a b (some_none a) said_it
-
-done_once : (words : List (List ℕ)) (is_done : Bool) (sent bytes rest : List ℕ) → Does words is_done sent bytes rest → SomeSaid sent bytes rest
-done_once words is_done sent bytes rest (outcome, said_it, is) = more_said words outcome sent bytes rest ([], sent, bytes, refl, none_said bytes, said_it)
-
-pub some_does : (words : List (List ℕ)) (is_done : Bool) (a b : Link) → Talks (Does words is_done) a b → Talks SomeSaid a b
-some_does words is_done a b talks = talk_as (Does words is_done) SomeSaid a b (done_once words is_done) talks
 
 pub on_ok_shown : {T E : Type 0} (P : List ℕ → List ℕ → List ℕ → Type 0) (result : Result T E) (a b : Link) (i : Incoming) → Talks P a b → i ≡ b.incoming → OnOk result (Talks P a (later i b))
 on_ok_shown P (Ok x) a b i talks same = talk_shown P a b i talks same

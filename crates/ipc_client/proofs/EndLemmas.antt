@@ -1,13 +1,14 @@
 -- How a session ends, by how its hello and its lines did.
-use Rattle.std.proofs.Common.{◌≡◌, ℕ, suc, Bool, true, false, ◌&&◌, List, [], ◌∷◌, ◌++◌, Option, None, Some, Result, Ok, Err, refl, sym, subst, append-nil}
-use Rattle.std.specs.Prelude.{IfOk, OnOk}
-use Rattle.std.specs.Io.KnownBytes.{Appends, Consumes}
+use Rattle.std.proofs.Common.{◌≡◌, ℕ, suc, Bool, true, false, ◌&&◌, List, [], ◌++◌, Option, None, Some, Result, Ok, Err, refl, sym, subst, append-nil}
+use Rattle.std.specs.Prelude.{IfOk}
+use Rattle.std.specs.Io.KnownBytes.{Consumes}
 use Rattle.ipc_terms.specs.declared.call.Answer.{Answer}
 use Rattle.ipc_terms.specs.declared.ids.Desc.{Desc}
 use Rattle.ipc_client.specs.Connections.{Incoming, IsNext, Reads, new_incoming}
-use Rattle.ipc_client.specs.Dialogues.{AreNotices, IsAnswered, Link, NoticesStand, SomeSaid, Talks, Then, is_notice}
+use Rattle.ipc_client.specs.Dialogues.{AreNotices, IsAnswered, Link, NoticesStand, Talks, Then, is_notice}
 use Rattle.ipc_client.specs.Sessions.{ByGiven, CommandEnds, EndsBehindHello, EndsBy, HelloEnds, LineEnds, LineGoes, LinesEnd, LinesEndAt, SessionEnds, SoManyEnd, act_asked, arguments_of, is_list, name_of}
 use Rattle.ipc_client.specs.Acts.{ByNameEnds}
+use Rattle.ipc_client.specs.Lists.{ListEnds}
 use Rattle.ipc_client.specs.declared.acts.Act.{Act}
 use Rattle.ipc_client.specs.declared.fault.ClientFault.{ClientFault}
 use Rattle.ipc_client.proofs.StreamLemmas.{ReadThen, notices_open, read_nothing, read_then}
@@ -33,10 +34,10 @@ answered a b c answer notices next is =
 
 -- ---- what a line asks for
 
-pub line_listed : (last : Option Desc) (words : List (List ℕ)) (a b : Link) (result : Result Bool ClientFault) → is_list words ≡ true → OnOk result (Talks SomeSaid a b) → IfOk result (λ is_done. Talks (LineEnds last words last is_done) a b)
+pub line_listed : (last : Option Desc) (words : List (List ℕ)) (a b : Link) (result : Result Bool ClientFault) → is_list words ≡ true → IfOk result (λ is_done. Talks (ListEnds is_done) a b) → IfOk result (λ is_done. Talks (LineEnds last words last is_done) a b)
 line_listed last words a b (Err fault) is talks = tt
 line_listed last words a b (Ok is_done) is talks =
-    subst (λ (alone : Bool). Talks (LineGoes alone (act_asked words) last words last is_done) a b) (sym is) (talk_as SomeSaid (LineGoes true (act_asked words) last words last is_done) a b (λ sent bytes rest it. (it, refl)) talks)
+    subst (λ (alone : Bool). Talks (LineGoes alone (act_asked words) last words last is_done) a b) (sym is) (talk_as (ListEnds is_done) (LineGoes true (act_asked words) last words last is_done) a b (λ sent bytes rest it. (it, refl)) talks)
 
 pub line_by_name : (last : Option Desc) (words : List (List ℕ)) (act : Act) (name : List ℕ) (arguments : List (List ℕ)) (a b : Link) (result : Result Bool ClientFault) → is_list words ≡ false → act_asked words ≡ Some act → name ≡ name_of words → arguments ≡ arguments_of words
     → IfOk result (λ is_done. Talks (ByNameEnds act name arguments is_done) a b) → IfOk result (λ is_done. Talks (LineEnds last words last is_done) a b)

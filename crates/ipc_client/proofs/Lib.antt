@@ -2,4 +2,5 @@ pub mod Greeting
 pub mod StreamLemmas
 pub mod TalkLemmas
 pub mod CommandLemmas
+pub mod ListLemmas
 pub mod EndLemmas

@@ -1,5 +1,5 @@
 -- What is sent, and what is answered: of each, what is sent, what has come, and what is left of that behind the answers.
-use Rattle.std.specs.Prelude.{⊤, ◌≡◌, ℕ, zero, suc, Bool, true, false, not, List, [], ◌∷◌, ◌++◌, Option, None, Some, Result, Ok, Err, Vec, if◌then◌else◌, codes, decimal}
+use Rattle.std.specs.Prelude.{◌≡◌, ℕ, zero, suc, Bool, true, false, not, List, [], ◌∷◌, ◌++◌, Option, None, Some, Result, Ok, Err, Vec, if◌then◌else◌, codes, decimal}
 use Rattle.std.specs.Io.KnownBytes.{Appends, Consumes}
 use Rattle.std.specs.Str.{bytes_eq}
 use Rattle.ipc_terms.specs.declared.call.Answer.{Answer}
@@ -100,14 +100,6 @@ Goes (Err fault) None sent bytes rest = Nothing sent bytes rest
 -- a command's words are sent and answered, or are at fault
 abbrev pub Says : List (List ℕ) → Option Answer → List ℕ → List ℕ → List ℕ → Type 0
 Says words outcome sent bytes rest = (frame : Result (List ℕ) WordFault) × IsFrameOf words frame × Goes frame outcome sent bytes rest
-
--- so many commands, each sent and answered, or at fault
-unfoldable pub SoManySaid : ℕ → List ℕ → List ℕ → List ℕ → Type 0
-SoManySaid zero sent bytes rest = Nothing sent bytes rest
-SoManySaid (suc n) sent bytes rest = (words : List (List ℕ)) × (outcome : Option Answer) × Then (SoManySaid n) (Says words outcome) sent bytes rest
-
-abbrev pub SomeSaid : List ℕ → List ℕ → List ℕ → Type 0
-SomeSaid sent bytes rest = (n : ℕ) × SoManySaid n sent bytes rest
 
 -- ---- `last`
 

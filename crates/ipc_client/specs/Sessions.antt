@@ -1,5 +1,5 @@
 -- What becomes of a hello and of lines: what is sent, by the bytes that the server gives.
-use Rattle.std.specs.Prelude.{◌≡◌, ℕ, zero, suc, Bool, true, false, ◌&&◌, List, [], ◌∷◌, ◌++◌, Option, None, Some, codes}
+use Rattle.std.specs.Prelude.{◌≡◌, ℕ, zero, suc, Bool, true, false, ◌&&◌, List, [], ◌∷◌, Option, None, Some, codes}
 use Rattle.std.specs.Io.KnownBytes.{Appends}
 use Rattle.std.specs.Str.{bytes_eq}
 use Rattle.ipc_terms.specs.declared.call.Answer.{Answer}
@@ -8,7 +8,8 @@ use Rattle.ipc_terms.specs.declared.ids.Desc.{Desc}
 use Rattle.ipc_wire.specs.Streams.{spell}
 use Rattle.ipc_wire.specs.declared.request.Request.TheVariants.{Hello}
 use Rattle.ipc_client.specs.Acts.{ByNameEnds, act_of_word}
-use Rattle.ipc_client.specs.Dialogues.{CommandSays, IsAnswered, Nothing, SomeSaid, Then, is_accepted, last_after, opened_by}
+use Rattle.ipc_client.specs.Dialogues.{CommandSays, IsAnswered, Nothing, Then, is_accepted, last_after, opened_by}
+use Rattle.ipc_client.specs.Lists.{ListEnds}
 use Rattle.ipc_client.specs.declared.acts.Act.{Act}
 
 -- the answer to a hello that starts its session
@@ -51,7 +52,7 @@ arguments_of (word ∷ []) = []
 arguments_of (word ∷ name ∷ arguments) = arguments
 
 abbrev pub LineGoes : Bool → Option Act → Option Desc → List (List ℕ) → Option Desc → Bool → List ℕ → List ℕ → List ℕ → Type 0
-LineGoes true act before words after is_done sent bytes rest = SomeSaid sent bytes rest × (after ≡ before)
+LineGoes true act before words after is_done sent bytes rest = ListEnds is_done sent bytes rest × (after ≡ before)
 LineGoes false (Some act) before words after is_done sent bytes rest = ByNameEnds act (name_of words) (arguments_of words) is_done sent bytes rest × (after ≡ before)
 LineGoes false None before words after is_done sent bytes rest = CommandEnds before words after is_done sent bytes rest
 

@@ -1,8 +1,8 @@
 //! The queues and the semaphores, a line each.
 
-ghost use Rattle.std.specs.Prelude.{◌≡◌, OnOk};
-ghost use Rattle.ipc_client.specs.Dialogues.{SomeSaid, Talks, incoming_of, link};
-ghost use Rattle.ipc_client.specs.Lists.{look_of, tells_names, word_of};
+ghost use Rattle.std.specs.Prelude.{◌≡◌, [], ◌∷◌, IfOk, OnOk, Some, codes, map};
+ghost use Rattle.ipc_client.specs.Dialogues.{Talks, incoming_of, link};
+ghost use Rattle.ipc_client.specs.Lists.{FamilyGoes, ListEnds, Looks, NameGoes, NamesGo, PageGoes, PageGoesOn, look_of, names_in, tells_names, word_of};
 
 use crate::acts::Act;
 use crate::fault::ClientFault;
@@ -17,7 +17,7 @@ use std::io::{Read, Write};
 impl<R: Read + Drop, O: Write + Drop> Session<R, O> {
     /// Writes a line for each queue, and then for each semaphore. `true` where their names were told.
     pub(crate) fn list<W: Write>(&mut self, writer: &mut W) -> Result<bool, ClientFault>
-        ensures { OnOk result (Talks SomeSaid (link R.remaining W.contents self.old writer.old) (link R.remaining W.contents self.new writer.new)) }
+        ensures { IfOk result (λ is_done. Talks (ListEnds is_done) (link R.remaining W.contents self.old writer.old) (link R.remaining W.contents self.new writer.new)) }
     {
         let queues = self.list_family(writer, Family::Mq)?;
         let semaphores = self.list_family(writer, Family::Sem)?;
@@ -26,7 +26,7 @@ impl<R: Read + Drop, O: Write + Drop> Session<R, O> {
 
     /// Writes a line for each object of a family, by creation: page by page, until one is empty.
     fn list_family<W: Write>(&mut self, writer: &mut W, family: Family) -> Result<bool, ClientFault>
-        ensures { OnOk result (Talks SomeSaid (link R.remaining W.contents self.old writer.old) (link R.remaining W.contents self.new writer.new)) }
+        ensures { IfOk result (λ are_all_told. Talks (FamilyGoes family are_all_told) (link R.remaining W.contents self.old writer.old) (link R.remaining W.contents self.new writer.new)) }
     {
         let mut start: u64 = 0;
         for _ in 0..u64::MAX {
@@ -53,7 +53,7 @@ impl<R: Read + Drop, O: Write + Drop> Session<R, O> {
         family: Family,
         start: u64,
     ) -> Result<Option<u64>, ClientFault>
-        ensures { OnOk result (Talks SomeSaid (link R.remaining W.contents self.old writer.old) (link R.remaining W.contents self.new writer.new)) }
+        ensures { IfOk result (λ count. Talks (PageGoes family start count) (link R.remaining W.contents self.old writer.old) (link R.remaining W.contents self.new writer.new)) }
     {
         let start = decimal_of(self.alloc, start)?;
         let page = self.ask_words(writer, &["ls", word_of(family), start.as_str(), "1000"])?;
@@ -76,7 +76,7 @@ impl<R: Read + Drop, O: Write + Drop> Session<R, O> {
         family: Family,
         answer: &Answer,
     ) -> Result<u64, ClientFault>
-        ensures { OnOk result (Talks SomeSaid (link R.remaining W.contents self.old writer.old) (link R.remaining W.contents self.new writer.new)) }
+        ensures { IfOk result (λ count. Talks (PageGoesOn family (Some (names_in answer.now)) (Some count)) (link R.remaining W.contents self.old writer.old) (link R.remaining W.contents self.new writer.new)) }
     {
         let line = line_of_answer(self.alloc, answer)?;
         let words = words_of(self.alloc, line.as_str())?;
@@ -92,7 +92,7 @@ impl<R: Read + Drop, O: Write + Drop> Session<R, O> {
         family: Family,
         names: &[&str],
     ) -> Result<(), ClientFault>
-        ensures { OnOk result (Talks SomeSaid (link R.remaining W.contents self.old writer.old) (link R.remaining W.contents self.new writer.new)) }
+        ensures { OnOk result (Talks (NamesGo family (map (λ w. w.now) names.now)) (link R.remaining W.contents self.old writer.old) (link R.remaining W.contents self.new writer.new)) }
     {
         for name in names {
             self.list_name(writer, family, name)?;
@@ -108,7 +108,7 @@ impl<R: Read + Drop, O: Write + Drop> Session<R, O> {
         family: Family,
         name: &str,
     ) -> Result<(), ClientFault>
-        ensures { OnOk result (Talks SomeSaid (link R.remaining W.contents self.old writer.old) (link R.remaining W.contents self.new writer.new)) }
+        ensures { OnOk result (Talks (NameGoes family name.now) (link R.remaining W.contents self.old writer.old) (link R.remaining W.contents self.new writer.new)) }
     {
         let words = stat_of(self.alloc, word_of(family), name)?;
         let facts = self.ask_words(writer, &words)?;
@@ -123,7 +123,7 @@ impl<R: Read + Drop, O: Write + Drop> Session<R, O> {
         act: Act,
         name: &str,
     ) -> Result<Option<Answer>, ClientFault>
-        ensures { OnOk result (Talks SomeSaid (link R.remaining W.contents self.old writer.old) (link R.remaining W.contents self.new writer.new)) }
+        ensures { OnOk result (Talks (Looks act name.now) (link R.remaining W.contents self.old writer.old) (link R.remaining W.contents self.new writer.new)) }
     {
         let opened = self.ask_words(writer, &act.opening(self.alloc, name)?)?;
         let Some(desc) = opened_by(&opened) else {
@@ -150,7 +150,9 @@ impl<R: Read + Drop, O: Write + Drop> Session<R, O> {
 }
 
 /// The command that asks for an object's owner, group and mode.
-fn stat_of<'a>(alloc: Global, family: &'a str, name: &'a str) -> Result<Vec<&'a str>, AllocError> {
+fn stat_of<'a>(alloc: Global, family: &'a str, name: &'a str) -> Result<Vec<&'a str>, AllocError>
+    ensures { IfOk result (λ words. map (λ w. w.now) words.items ≡ codes "stat" ∷ family.now ∷ name.now ∷ []) }
+{
     Vec::from_slice(alloc, &["stat", family, name])
 }
 
