@@ -6,3 +6,6 @@ pub mod PortLemmas
 pub mod StandingLemmas
 pub mod TakingLemmas
 pub mod TurnLemmas
+pub mod OpeningLemmas
+pub mod KeepingLemmas
+pub mod AcceptingLemmas

@@ -1,9 +1,11 @@
 -- What moves and calls come to, one after another.
-use Rattle.std.proofs.Common.{◌≡◌, ℕ, Bool, true, false, ◌||◌, eqb, cond, List, [], ◌∷◌, ◌++◌, take, Option, Some, None, refl, sym, ap, subst, ◌∙◌, append_assoc}
+use Rattle.std.proofs.Common.{◌≡◌, ℕ, Bool, true, false, ◌||◌, eqb, cond, List, [], ◌∷◌, ◌++◌, Option, Some, None, refl, sym, ap, subst, ◌∙◌, append_assoc}
 use Rattle.std.proofs.lemmas.List.{append-nil}
 use Rattle.ipc_hub.specs.Hub.{Hub}
-use Rattle.ipc_hub.specs.Laws.{Call, Opened, TookPiece, HungUp, Gave, Named, Ticked, Makes, MakesAll, stream_of, output_of}
-use Rattle.ipc_loop.specs.Moves.{Moved, LinkGave, LinkTook, GoOn, Adds, read_of, written_of, comes_to_its_end}
+use Rattle.ipc_hub.specs.Laws.{Call, Opened, TookPiece, HungUp, Gave, Named, Ticked, MakesAll, stream_of, output_of}
+use Rattle.ipc_hub.specs.declared.fed.Fed.TheVariants.{Done, Short, Full, Over}
+use Rattle.ipc_loop.specs.Serving.{ends_at_a_feed}
+use Rattle.ipc_loop.specs.Moves.{Moved, LinkOpened, LinkGave, LinkTook, GoOn, Adds, read_of, written_of, comes_to_its_end, opened_in}
 
 more_or_less : (b : Bool) (p s t st : List ℕ) → st ≡ s ++ t → cond b (p ++ st) st ≡ cond b (p ++ s) s ++ t
 more_or_less true p s t st e = ap (λ (x : List ℕ). p ++ x) e ∙ sym (append_assoc p s t)
@@ -29,11 +31,13 @@ output_both i (Ticked moment ∷ xs) ys = output_both i xs ys
 
 pub read_both : (i : ℕ) (xs ys : List Moved) → read_of i (xs ++ ys) ≡ read_of i xs ++ read_of i ys
 read_both i [] ys = refl
+read_both i (LinkOpened j ∷ xs) ys = read_both i xs ys
 read_both i (LinkGave j piece ∷ xs) ys = more_or_less (eqb j i) piece (read_of i xs) (read_of i ys) (read_of i (xs ++ ys)) (read_both i xs ys)
 read_both i (LinkTook j bytes ∷ xs) ys = read_both i xs ys
 
 pub written_both : (i : ℕ) (xs ys : List Moved) → written_of i (xs ++ ys) ≡ written_of i xs ++ written_of i ys
 written_both i [] ys = refl
+written_both i (LinkOpened j ∷ xs) ys = written_both i xs ys
 written_both i (LinkGave j bytes ∷ xs) ys = written_both i xs ys
 written_both i (LinkTook j piece ∷ xs) ys = more_or_less (eqb j i) piece (written_of i xs) (written_of i ys) (written_of i (xs ++ ys)) (written_both i xs ys)
 
@@ -43,9 +47,28 @@ true_or false x y z e = e
 
 pub end_both : (i : ℕ) (xs ys : List Moved) → comes_to_its_end i (xs ++ ys) ≡ (comes_to_its_end i xs || comes_to_its_end i ys)
 end_both i [] ys = refl
+end_both i (LinkOpened j ∷ xs) ys = end_both i xs ys
 end_both i (LinkGave j [] ∷ xs) ys = true_or (eqb j i) (comes_to_its_end i xs) (comes_to_its_end i ys) (comes_to_its_end i (xs ++ ys)) (end_both i xs ys)
 end_both i (LinkGave j (b ∷ bytes) ∷ xs) ys = end_both i xs ys
 end_both i (LinkTook j bytes ∷ xs) ys = end_both i xs ys
+
+pub opened_both : (xs ys : List Moved) → opened_in (xs ++ ys) ≡ opened_in xs ++ opened_in ys
+opened_both [] ys = refl
+opened_both (LinkOpened j ∷ xs) ys = ap (λ (t : List ℕ). j ∷ t) (opened_both xs ys)
+opened_both (LinkGave j bytes ∷ xs) ys = opened_both xs ys
+opened_both (LinkTook j bytes ∷ xs) ys = opened_both xs ys
+
+pub over_both : (i : ℕ) (xs ys : List Call) → ends_at_a_feed i (xs ++ ys) ≡ (ends_at_a_feed i xs || ends_at_a_feed i ys)
+over_both i [] ys = refl
+over_both i (Opened ∷ xs) ys = over_both i xs ys
+over_both i (TookPiece j piece Done ∷ xs) ys = over_both i xs ys
+over_both i (TookPiece j piece Short ∷ xs) ys = over_both i xs ys
+over_both i (TookPiece j piece Full ∷ xs) ys = over_both i xs ys
+over_both i (TookPiece j piece (Over end) ∷ xs) ys = true_or (eqb j i) (ends_at_a_feed i xs) (ends_at_a_feed i ys) (ends_at_a_feed i (xs ++ ys)) (over_both i xs ys)
+over_both i (HungUp j ∷ xs) ys = over_both i xs ys
+over_both i (Gave j bytes ∷ xs) ys = over_both i xs ys
+over_both i (Named j ∷ xs) ys = over_both i xs ys
+over_both i (Ticked moment ∷ xs) ys = over_both i xs ys
 
 pub go_both : (u v w : Option (List Moved)) (a b : List Moved) → GoOn u v a → GoOn v w b → GoOn u w (a ++ b)
 go_both None v w a b x y = tt
@@ -74,6 +97,7 @@ adds_nothing m m' k went = record {
   read = λ i. same_here (eqb k i) [];
   written = λ i. same_here (eqb k i) [];
   end = λ i. same_here (eqb k i) false;
+  opened = refl;
 }
 
 pub bytes_here : (here : Bool) (bytes : List ℕ) → cond here (bytes ++ []) [] ≡ cond here bytes []
@@ -87,6 +111,7 @@ adds_write m m' k bytes went = record {
   read = λ i. same_here (eqb k i) [];
   written = λ i. bytes_here (eqb k i) bytes;
   end = λ i. same_here (eqb k i) false;
+  opened = refl;
 }
 
 -- whether these bytes are the end of a stream
@@ -105,4 +130,5 @@ adds_read m m' k bytes went = record {
   read = λ i. bytes_here (eqb k i) bytes;
   written = λ i. same_here (eqb k i) [];
   end = λ i. end_here k i bytes;
+  opened = refl;
 }

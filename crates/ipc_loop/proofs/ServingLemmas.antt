@@ -1,15 +1,16 @@
 -- What serving brings, one piece after another.
-use Rattle.std.proofs.Common.{◌≡◌, ℕ, zero, suc, ◌<◌, ◌≤◌, length, arith, Bool, true, false, ◌||◌, eqb, cond, List, [], ◌∷◌, ◌++◌, take, drop, Option, Some, None, refl, sym, ap, subst, ◌∙◌}
+use Rattle.std.proofs.Common.{◌≡◌, ℕ, zero, suc, ◌<◌, ◌≤◌, length, arith, Bool, true, false, ◌||◌, eqb, cond, List, [], ◌∷◌, ◌++◌, take, Option, Some, None, refl, sym, ap, subst, ◌∙◌}
 use Rattle.std.specs.Prelude.{is_none, is_some, Result, Ok, Err, IfOk, OnOk, OnErr}
 use Rattle.ipc_hub.specs.Hub.{Hub, with_connection, Feeds, HangsUp, Takes, Names, Ticks}
 use Rattle.ipc_hub.specs.Laws.{Call, Opened, TookPiece, HungUp, Gave, Named, Ticked, Makes, MakesAll, stream_of, output_of}
 use Rattle.ipc_loop.specs.declared.ending.Ending.{Ending}
 use Rattle.ipc_hub.specs.declared.fed.Fed.{Fed}
+use Rattle.ipc_hub.specs.declared.fed.Fed.TheVariants.{Done, Short, Full, Over}
 use Rattle.ipc_hub.specs.declared.fed.HubFault.{HubFault}
-use Rattle.ipc_loop.specs.Moves.{Moved, LinkGave, LinkTook, GoOn, Adds, read_of, written_of, comes_to_its_end}
+use Rattle.ipc_loop.specs.Moves.{Moved, LinkOpened, LinkGave, GoOn, Adds, read_of, written_of, comes_to_its_end, opened_in}
 use Rattle.ipc_loop.specs.Ports.{Port, port_at, with_port, left_of, unfed_of}
-use Rattle.ipc_loop.specs.Serving.{PassesOn, Serves, ServesPort, Writes, FeedsPort, KeepsPortMarks}
-use Rattle.ipc_loop.proofs.MoveLemmas.{stream_both, output_both, read_both, written_both, end_both, go_both, go_nowhere, makes_both, adds_nothing, adds_read, is_end, same_here, bytes_here}
+use Rattle.ipc_loop.specs.Serving.{PassesOn, ServesOpening, Serves, ServesPort, Writes, FeedsPort, KeepsPortMarks, ends_at_a_feed, ends_connection}
+use Rattle.ipc_loop.proofs.MoveLemmas.{stream_both, output_both, read_both, written_both, end_both, over_both, opened_both, go_both, go_nowhere, makes_both, adds_nothing, adds_read, is_end, same_here, bytes_here}
 use Rattle.ipc_loop.proofs.OwingLemmas.{marks_keep, same_keep}
 use Rattle.ipc_loop.proofs.PassingLemmas.{passes_nothing, passes_end, passes_whole, passes_dropped, passes_both, passes_stop}
 
@@ -19,12 +20,13 @@ Ports = ℕ → Option Port
 abbrev pub Moves : Type 0
 Moves = Option (List Moved)
 
-pub serves_both : (h₀ h₁ h₂ : Hub) (m₀ m₁ m₂ : Moves) (p₀ p₁ p₂ : Ports) → Serves h₀ m₀ p₀ h₁ m₁ p₁ → Serves h₁ m₁ p₁ h₂ m₂ p₂ → Serves h₀ m₀ p₀ h₂ m₂ p₂
-serves_both h₀ h₁ h₂ m₀ m₁ m₂ p₀ p₁ p₂ a b = record {
+pub opening_both : (n₀ n₁ : List ℕ) (h₀ h₁ h₂ : Hub) (m₀ m₁ m₂ : Moves) (p₀ p₁ p₂ : Ports) → ServesOpening n₀ h₀ m₀ p₀ h₁ m₁ p₁ → ServesOpening n₁ h₁ m₁ p₁ h₂ m₂ p₂ → ServesOpening (n₀ ++ n₁) h₀ m₀ p₀ h₂ m₂ p₂
+opening_both n₀ n₁ h₀ h₁ h₂ m₀ m₁ m₂ p₀ p₁ p₂ a b = record {
   calls = a.calls ++ b.calls;
   moved = a.moved ++ b.moved;
   made = makes_both a.calls b.calls h₀ h₁ h₂ a.made b.made;
   went = go_both m₀ m₁ m₂ a.moved b.moved a.went b.went;
+  opens = opened_both a.moved b.moved ∙ ap (λ (t : List ℕ). t ++ opened_in b.moved) a.opens ∙ ap (λ (t : List ℕ). n₀ ++ t) b.opens;
   read = λ i.
       subst (λ (t : List ℕ). PassesOn (unfed_of (p₀ i)) t (stream_of i (a.calls ++ b.calls)) (unfed_of (p₂ i))) (sym (read_both i a.moved b.moved))
       (subst (λ (t : List ℕ). PassesOn (unfed_of (p₀ i)) (read_of i a.moved ++ read_of i b.moved) t (unfed_of (p₂ i))) (sym (stream_both i a.calls b.calls))
@@ -35,23 +37,36 @@ serves_both h₀ h₁ h₂ m₀ m₁ m₂ p₀ p₁ p₂ a b = record {
       (passes_both (left_of (p₀ i)) (left_of (p₁ i)) (left_of (p₂ i)) _ _ _ _ (a.written i) (b.written i)));
   unread = λ i e. read_both i a.moved b.moved ∙ ap (λ (t : List ℕ). t ++ read_of i b.moved) (a.unread i e) ∙ b.unread i (passes_stop (unfed_of (p₀ i)) (unfed_of (p₁ i)) _ _ (a.read i) e);
   ended = λ i e. either i (comes_to_its_end i a.moved) refl (sym (end_both i a.moved b.moved) ∙ e);
+  over = λ i e. fault i (ends_at_a_feed i a.calls) refl (sym (over_both i a.calls b.calls) ∙ e);
 } where
   either : (i : ℕ) (x : Bool) → comes_to_its_end i a.moved ≡ x → (x || comes_to_its_end i b.moved) ≡ true → unfed_of (p₂ i) ≡ None
   either i true f e = passes_stop (unfed_of (p₁ i)) (unfed_of (p₂ i)) _ _ (b.read i) (a.ended i f)
   either i false f e = b.ended i e
 
+  fault : (i : ℕ) (x : Bool) → ends_at_a_feed i a.calls ≡ x → (x || ends_at_a_feed i b.calls) ≡ true → unfed_of (p₂ i) ≡ None
+  fault i true f e = passes_stop (unfed_of (p₁ i)) (unfed_of (p₂ i)) _ _ (b.read i) (a.over i f)
+  fault i false f e = b.over i e
+
+pub serves_both : (h₀ h₁ h₂ : Hub) (m₀ m₁ m₂ : Moves) (p₀ p₁ p₂ : Ports) → Serves h₀ m₀ p₀ h₁ m₁ p₁ → Serves h₁ m₁ p₁ h₂ m₂ p₂ → Serves h₀ m₀ p₀ h₂ m₂ p₂
+serves_both h₀ h₁ h₂ m₀ m₁ m₂ p₀ p₁ p₂ a b = opening_both [] [] h₀ h₁ h₂ m₀ m₁ m₂ p₀ p₁ p₂ a b
+
 -- the same, where the ports are told in another way
-pub serves_so : (h h' : Hub) (m m' : Moves) (p q p' q' : Ports) → ((i : ℕ) → q i ≡ p i) → ((i : ℕ) → q' i ≡ p' i) → Serves h m p h' m' p' → Serves h m q h' m' q'
-serves_so h h' m m' p q p' q' before later a = record {
+pub opening_so : (n : List ℕ) (h h' : Hub) (m m' : Moves) (p q p' q' : Ports) → ((i : ℕ) → q i ≡ p i) → ((i : ℕ) → q' i ≡ p' i) → ServesOpening n h m p h' m' p' → ServesOpening n h m q h' m' q'
+opening_so n h h' m m' p q p' q' before later a = record {
   calls = a.calls;
   moved = a.moved;
   made = a.made;
   went = a.went;
+  opens = a.opens;
   read = λ i. subst (λ (x : Option Port). PassesOn (unfed_of x) (read_of i a.moved) (stream_of i a.calls) (unfed_of (q' i))) (sym (before i)) (subst (λ (x : Option Port). PassesOn (unfed_of (p i)) (read_of i a.moved) (stream_of i a.calls) (unfed_of x)) (sym (later i)) (a.read i));
   written = λ i. subst (λ (x : Option Port). PassesOn (left_of x) (output_of i a.calls) (written_of i a.moved) (left_of (q' i))) (sym (before i)) (subst (λ (x : Option Port). PassesOn (left_of (p i)) (output_of i a.calls) (written_of i a.moved) (left_of x)) (sym (later i)) (a.written i));
   unread = λ i e. a.unread i (ap unfed_of (sym (before i)) ∙ e);
   ended = λ i e. ap unfed_of (later i) ∙ a.ended i e;
+  over = λ i e. ap unfed_of (later i) ∙ a.over i e;
 }
+
+pub serves_so : (h h' : Hub) (m m' : Moves) (p q p' q' : Ports) → ((i : ℕ) → q i ≡ p i) → ((i : ℕ) → q' i ≡ p' i) → Serves h m p h' m' p' → Serves h m q h' m' q'
+serves_so h h' m m' p q p' q' before later a = opening_so [] h h' m m' p q p' q' before later a
 
 -- ---- one port
 
@@ -62,21 +77,23 @@ pub port_both : (k : ℕ) (h₀ h₁ h₂ : Hub) (m₀ m₁ m₂ : Moves) (p₀ 
 port_both k h₀ h₁ h₂ m₀ m₁ m₂ p₀ p₁ p₂ a b others = serves_both h₀ h₁ h₂ m₀ m₁ m₂ (with_port others k (Some p₀)) (with_port others k (Some p₁)) (with_port others k (Some p₂)) (a others) (b others)
 
 -- the hub made these calls, and link k moved so
-pub serve_port : (k : ℕ) (h h' : Hub) (m m' : Moves) (p p' : Port) (calls : List Call) (gave fed out took : List ℕ) (ended : Bool)
+pub serve_port : (k : ℕ) (h h' : Hub) (m m' : Moves) (p p' : Port) (calls : List Call) (gave fed out took : List ℕ) (ended over : Bool)
     → MakesAll calls h h' → Adds m m' k gave took ended
-    → ((i : ℕ) → stream_of i calls ≡ cond (eqb k i) fed []) → ((i : ℕ) → output_of i calls ≡ cond (eqb k i) out [])
+    → ((i : ℕ) → stream_of i calls ≡ cond (eqb k i) fed []) → ((i : ℕ) → output_of i calls ≡ cond (eqb k i) out []) → ((i : ℕ) → ends_at_a_feed i calls ≡ cond (eqb k i) over false)
     → PassesOn (unfed_of (Some p)) gave fed (unfed_of (Some p')) → PassesOn p.left out took p'.left
-    → (unfed_of (Some p) ≡ None → gave ≡ []) → (ended ≡ true → unfed_of (Some p') ≡ None)
+    → (unfed_of (Some p) ≡ None → gave ≡ []) → (ended ≡ true → unfed_of (Some p') ≡ None) → (over ≡ true → unfed_of (Some p') ≡ None)
     → ServesPort k h m p h' m' p'
-serve_port k h h' m m' p p' calls gave fed out took ended made adds stream output passes writes quiet stops others = record {
+serve_port k h h' m m' p p' calls gave fed out took ended over made adds stream output ends passes writes quiet stops faults others = record {
   calls = calls;
   moved = adds.moved;
   made = made;
   went = adds.went;
+  opens = adds.opened;
   read = λ i. read_at (eqb k i) (others i) _ _ (adds.read i) (stream i);
   written = λ i. written_at (eqb k i) (others i) _ _ (output i) (adds.written i);
   unread = λ i e. adds.read i ∙ unread_at (eqb k i) (others i) e;
   ended = λ i e. ended_at (eqb k i) (others i) (sym (adds.end i) ∙ e);
+  over = λ i e. over_at (eqb k i) (others i) (sym (ends i) ∙ e);
 } where
   read_at : (here : Bool) (o : Option Port) (x s : List ℕ) → x ≡ cond here gave [] → s ≡ cond here fed [] → PassesOn (unfed_of (cond here (Some p) o)) x s (unfed_of (cond here (Some p') o))
   read_at true o x s e f = subst (λ (t : List ℕ). PassesOn (unfed_of (Some p)) t s (unfed_of (Some p'))) (sym e) (subst (λ (t : List ℕ). PassesOn (unfed_of (Some p)) gave t (unfed_of (Some p'))) (sym f) passes)
@@ -94,9 +111,13 @@ serve_port k h h' m m' p p' calls gave fed out took ended made adds stream outpu
   ended_at true o e = stops e
   ended_at false o e = absurd cc
 
+  over_at : (here : Bool) (o : Option Port) → cond here over false ≡ true → unfed_of (cond here (Some p') o) ≡ None
+  over_at true o e = faults e
+  over_at false o e = absurd cc
+
 -- the hub did nothing, and the port wrote
 pub writes_serve : (k : ℕ) (h : Hub) (m m' : Moves) (p p' : Port) → Writes k m m' p [] p' → ServesPort k h m p h m' p'
-writes_serve k h m m' p p' w = serve_port k h h m m' p p' [] [] [] [] w.took false refl w.added (λ i. same_here (eqb k i) []) (λ i. same_here (eqb k i) []) w.unfed w.left (λ e. refl) (λ e. absurd cc)
+writes_serve k h m m' p p' w = serve_port k h h m m' p p' [] [] [] [] w.took false false refl w.added (λ i. same_here (eqb k i) []) (λ i. same_here (eqb k i) []) (λ i. same_here (eqb k i) false) w.unfed w.left (λ e. refl) (λ e. absurd cc) (λ e. absurd cc)
 
 -- nothing was written either
 pub rests_serve : (k : ℕ) (h : Hub) (m m' : Moves) (p p' : Port) → Adds m m' k [] [] false → p'.left ≡ p.left → PassesOn (unfed_of (Some p)) [] [] (unfed_of (Some p')) → ServesPort k h m p h m' p'
@@ -104,7 +125,7 @@ rests_serve k h m m' p p' adds same unfed = writes_serve k h m m' p p' (record {
 
 -- the hub gave what the port was to write
 pub gave_serve : (k : ℕ) (h h' : Hub) (m m' : Moves) (p p' : Port) (bytes : List ℕ) → Takes h k bytes h' → Writes k m m' p bytes p' → ServesPort k h m p h' m' p'
-gave_serve k h h' m m' p p' bytes takes w = serve_port k h h' m m' p p' (Gave k bytes ∷ []) [] [] bytes w.took false (h', (takes, refl)) w.added (λ i. same_here (eqb k i) []) (λ i. bytes_here (eqb k i) bytes) w.unfed w.left (λ e. refl) (λ e. absurd cc)
+gave_serve k h h' m m' p p' bytes takes w = serve_port k h h' m m' p p' (Gave k bytes ∷ []) [] [] bytes w.took false false (h', (takes, refl)) w.added (λ i. same_here (eqb k i) []) (λ i. bytes_here (eqb k i) bytes) (λ i. same_here (eqb k i) false) w.unfed w.left (λ e. refl) (λ e. absurd cc) (λ e. absurd cc)
 
 pub is_heard : (p : Port) → p.ending ≡ None → unfed_of (Some p) ≡ Some []
 is_heard p e = rw e refl
@@ -112,9 +133,9 @@ is_heard p e = rw e refl
 -- a piece that the link gave, if any, was fed
 pub feeds_serve : (k : ℕ) (h h' : Hub) (m m' : Moves) (p p' : Port) (piece : List ℕ) → p.ending ≡ None → Adds m m' k piece [] false → FeedsPort k h p piece h' p' → ServesPort k h m p h' m' p'
 feeds_serve k h h' m m' p p' piece on adds f =
-    serve_port k h h' m m' p p' f.calls piece f.fed [] [] false f.made adds f.stream (λ i. f.output i ∙ same_here (eqb k i) []) f.passes
+    serve_port k h h' m m' p p' f.calls piece f.fed [] [] false f.over f.made adds f.stream (λ i. f.output i ∙ same_here (eqb k i) []) f.ends f.passes
     (subst (λ (x : Option (List ℕ)). PassesOn p.left [] [] x) (sym f.left) (passes_nothing p.left))
-    (λ e. let wrong : Some [] ≡ None = sym (is_heard p on) ∙ e in absurd cc) (λ e. absurd cc)
+    (λ e. let wrong : Some [] ≡ None = sym (is_heard p on) ∙ e in absurd cc) (λ e. absurd cc) f.stops
 
 pub same_unfed : (p p' : Port) → p'.ending ≡ p.ending → PassesOn (unfed_of (Some p)) [] [] (unfed_of (Some p'))
 same_unfed p p' e = subst (λ (x : Option (List ℕ)). PassesOn (unfed_of (Some p)) [] [] x) (ap (λ (x : Option Ending). unfed_with x) (sym e)) (passes_nothing (unfed_of (Some p)))
@@ -122,9 +143,9 @@ same_unfed p p' e = subst (λ (x : Option (List ℕ)). PassesOn (unfed_of (Some 
 -- the connection was hung up
 pub hung_serve : (k : ℕ) (h h' : Hub) (m : Moves) (p p' : Port) → HangsUp h k h' → p'.left ≡ p.left → p'.ending ≡ p.ending → ServesPort k h m p h' m p'
 hung_serve k h h' m p p' hung left ending =
-    serve_port k h h' m m p p' (HungUp k ∷ []) [] [] [] [] false (h', (hung, refl)) (adds_nothing m m k (go_nowhere m)) (λ i. same_here (eqb k i) []) (λ i. same_here (eqb k i) [])
+    serve_port k h h' m m p p' (HungUp k ∷ []) [] [] [] [] false false (h', (hung, refl)) (adds_nothing m m k (go_nowhere m)) (λ i. same_here (eqb k i) []) (λ i. same_here (eqb k i) []) (λ i. same_here (eqb k i) false)
     (same_unfed p p' ending)
-    (subst (λ (x : Option (List ℕ)). PassesOn p.left [] [] x) (sym left) (passes_nothing p.left)) (λ e. refl) (λ e. absurd cc)
+    (subst (λ (x : Option (List ℕ)). PassesOn p.left [] [] x) (sym left) (passes_nothing p.left)) (λ e. refl) (λ e. absurd cc) (λ e. absurd cc)
 
 -- what is left of the stream of a link that is read is nothing
 only_nothing : (p : Port) (left : List ℕ) → unfed_of (Some p) ≡ Some left → left ≡ []
@@ -139,24 +160,36 @@ is_ended p e = at p.ending e where
   at None f = absurd cc
   at (Some ending) f = refl
 
+feed_here : (k i : ℕ) (piece : List ℕ) (fed : Fed) → ends_at_a_feed i (TookPiece k piece fed ∷ []) ≡ cond (eqb k i) (ends_connection fed) false
+feed_here k i piece Done = same_here (eqb k i) false
+feed_here k i piece Short = same_here (eqb k i) false
+feed_here k i piece Full = same_here (eqb k i) false
+feed_here k i piece (Over end) = refl
+
 -- a piece was fed; or it wasn't, and the link has come to its end
-pub fed_port : (k : ℕ) (h h' : Hub) (p p' : Port) (piece : List ℕ) (r : Result Fed HubFault) → p.ending ≡ None → IfOk r (λ fed. Feeds h k piece fed h') → OnErr r (h' ≡ h) → OnErr r (is_some p'.ending ≡ true) → p'.left ≡ p.left → FeedsPort k h p piece h' p'
-fed_port k h h' p p' piece (Ok fed) on ok err end left = record {
+pub fed_port : (k : ℕ) (h h' : Hub) (p p' : Port) (piece : List ℕ) (r : Result Fed HubFault) → p.ending ≡ None → IfOk r (λ fed. Feeds h k piece fed h') → OnErr r (h' ≡ h) → OnErr r (is_some p'.ending ≡ true) → IfOk r (λ fed. ends_connection fed ≡ true → is_some p'.ending ≡ true) → p'.left ≡ p.left → FeedsPort k h p piece h' p'
+fed_port k h h' p p' piece (Ok fed) on ok err end fault left = record {
   calls = TookPiece k piece fed ∷ [];
   made = (h', (ok, refl));
   fed = piece;
   stream = λ i. bytes_here (eqb k i) piece;
   output = λ i. refl;
   passes = subst (λ (x : Option (List ℕ)). PassesOn x piece piece (unfed_of (Some p'))) (sym (is_heard p on)) (passes_whole piece (unfed_of (Some p')) (only_nothing p'));
+  over = ends_connection fed;
+  ends = λ i. feed_here k i piece fed;
+  stops = λ e. is_ended p' (fault e);
   left = left;
 }
-fed_port k h h' p p' piece (Err fault) on ok err end left = record {
+fed_port k h h' p p' piece (Err error) on ok err end fault left = record {
   calls = [];
   made = err;
   fed = [];
   stream = λ i. same_here (eqb k i) [];
   output = λ i. refl;
   passes = subst (λ (x : Option (List ℕ)). PassesOn x piece [] (unfed_of (Some p'))) (sym (is_heard p on)) (subst (λ (x : Option (List ℕ)). PassesOn (Some []) piece [] x) (sym (is_ended p' end)) (piece, refl));
+  over = false;
+  ends = λ i. same_here (eqb k i) false;
+  stops = λ e. absurd cc;
   left = left;
 }
 
@@ -167,9 +200,9 @@ fed_marks k h h' p p' piece (Err fault) ok err left = subst (λ (x : Hub). Keeps
 -- the link gave nothing, which is its end
 pub ends_serve : (k : ℕ) (h : Hub) (m m' : Moves) (p p' : Port) → GoOn m m' (LinkGave k [] ∷ []) → p'.left ≡ p.left → is_some p'.ending ≡ true → ServesPort k h m p h m' p'
 ends_serve k h m m' p p' went left end =
-    serve_port k h h m m' p p' [] [] [] [] [] true refl (adds_read m m' k [] went) (λ i. same_here (eqb k i) []) (λ i. same_here (eqb k i) [])
+    serve_port k h h m m' p p' [] [] [] [] [] true false refl (adds_read m m' k [] went) (λ i. same_here (eqb k i) []) (λ i. same_here (eqb k i) []) (λ i. same_here (eqb k i) false)
     (subst (λ (x : Option (List ℕ)). PassesOn (unfed_of (Some p)) [] [] x) (sym (is_ended p' end)) (passes_end (unfed_of (Some p))))
-    (subst (λ (x : Option (List ℕ)). PassesOn p.left [] [] x) (sym left) (passes_nothing p.left)) (λ e. refl) (λ e. is_ended p' end)
+    (subst (λ (x : Option (List ℕ)). PassesOn p.left [] [] x) (sym left) (passes_nothing p.left)) (λ e. refl) (λ e. is_ended p' end) (λ e. absurd cc)
 
 -- a read failed, or nothing was to be read
 pub fails_serve : (k : ℕ) (h : Hub) (m m' : Moves) (p p' : Port) → GoOn m m' [] → p'.left ≡ p.left → is_some p'.ending ≡ true → ServesPort k h m p h m' p'
@@ -198,38 +231,61 @@ hang_marks k h h' p p' (Err fault) ok err left = subst (λ (x : Hub). KeepsPortM
 -- ---- the hub alone
 
 -- it made a call that neither takes nor gives bytes
-pub call_serves : (call : Call) (h h' : Hub) (m : Moves) (p : Ports) → Makes call h h' → ((i : ℕ) → stream_of i (call ∷ []) ≡ []) → ((i : ℕ) → output_of i (call ∷ []) ≡ []) → Serves h m p h' m p
-call_serves call h h' m p made stream output = record {
+pub call_serves : (call : Call) (h h' : Hub) (m : Moves) (p : Ports) → Makes call h h' → ((i : ℕ) → stream_of i (call ∷ []) ≡ []) → ((i : ℕ) → output_of i (call ∷ []) ≡ []) → ((i : ℕ) → ends_at_a_feed i (call ∷ []) ≡ false) → Serves h m p h' m p
+call_serves call h h' m p made stream output goes_on = record {
   calls = call ∷ [];
   moved = [];
   made = (h', (made, refl));
   went = go_nowhere m;
+  opens = refl;
   read = λ i. subst (λ (t : List ℕ). PassesOn (unfed_of (p i)) [] t (unfed_of (p i))) (sym (stream i)) (passes_nothing (unfed_of (p i)));
   written = λ i. subst (λ (t : List ℕ). PassesOn (left_of (p i)) t [] (left_of (p i))) (sym (output i)) (passes_nothing (left_of (p i)));
   unread = λ i e. refl;
   ended = λ i e. absurd cc;
+  over = λ i e. let wrong : false ≡ true = sym (goes_on i) ∙ e in absurd cc;
 }
 
-pub served_nothing : (h : Hub) (m : Moves) (p : Ports) → Serves h m p h m p
-served_nothing h m p = record {
+-- nothing was done, and links did nothing
+pub went_nowhere : (h : Hub) (m m' : Moves) (p : Ports) → GoOn m m' [] → Serves h m p h m' p
+went_nowhere h m m' p went = record {
   calls = [];
   moved = [];
   made = refl;
-  went = go_nowhere m;
+  went = went;
+  opens = refl;
   read = λ i. passes_nothing (unfed_of (p i));
   written = λ i. passes_nothing (left_of (p i));
   unread = λ i e. refl;
   ended = λ i e. absurd cc;
+  over = λ i e. absurd cc;
 }
 
+pub served_nothing : (h : Hub) (m : Moves) (p : Ports) → Serves h m p h m p
+served_nothing h m p = went_nowhere h m m p (go_nowhere m)
+
 pub ticked_serves : (moment : ℕ) (h h' : Hub) (m : Moves) (p : Ports) → Ticks h moment h' → Serves h m p h' m p
-ticked_serves moment h h' m p made = call_serves (Ticked moment) h h' m p made (λ i. refl) (λ i. refl)
+ticked_serves moment h h' m p made = call_serves (Ticked moment) h h' m p made (λ i. refl) (λ i. refl) (λ i. refl)
 
 pub opened_serves : (h h' : Hub) (m : Moves) (p : Ports) → h' ≡ with_connection h → Serves h m p h' m p
-opened_serves h h' m p made = call_serves Opened h h' m p made (λ i. refl) (λ i. refl)
+opened_serves h h' m p made = call_serves Opened h h' m p made (λ i. refl) (λ i. refl) (λ i. refl)
 
 pub named_serves : (k : ℕ) (h h' : Hub) (m : Moves) (p : Ports) → Names h k h' → Serves h m p h' m p
-named_serves k h h' m p made = call_serves (Named k) h h' m p made (λ i. refl) (λ i. refl)
+named_serves k h h' m p made = call_serves (Named k) h h' m p made (λ i. refl) (λ i. refl) (λ i. refl)
+
+-- link k is opened
+pub link_opened : (k : ℕ) (h : Hub) (m m' : Moves) (p : Ports) → GoOn m m' (LinkOpened k ∷ []) → ServesOpening (k ∷ []) h m p h m' p
+link_opened k h m m' p went = record {
+  calls = [];
+  moved = LinkOpened k ∷ [];
+  made = refl;
+  went = went;
+  opens = refl;
+  read = λ i. passes_nothing (unfed_of (p i));
+  written = λ i. passes_nothing (left_of (p i));
+  unread = λ i e. refl;
+  ended = λ i e. absurd cc;
+  over = λ i e. absurd cc;
+}
 
 -- link k is closed
 pub closed_serves : (k : ℕ) (h : Hub) (m : Moves) (o : Ports) (p : Port) → Serves h m (with_port o k (Some p)) h m (with_port o k None)
@@ -238,10 +294,12 @@ closed_serves k h m o p = record {
   moved = [];
   made = refl;
   went = go_nowhere m;
+  opens = refl;
   read = λ i. read_at (eqb k i) (o i);
   written = λ i. written_at (eqb k i) (o i);
   unread = λ i e. refl;
   ended = λ i e. absurd cc;
+  over = λ i e. absurd cc;
 } where
   read_at : (here : Bool) (x : Option Port) → PassesOn (unfed_of (cond here (Some p) x)) [] [] (unfed_of (cond here None x))
   read_at true x = passes_end (unfed_of (Some p))

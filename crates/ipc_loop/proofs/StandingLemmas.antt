@@ -150,23 +150,16 @@ slot_out xs i x y there none =
 pub slot_past : (xs : Boxes) (i : ℕ) → length xs ≤ i → IsOut (seen xs) i (seen xs)
 slot_past xs i past = out_same (seen xs) (seen xs) i refl (λ port e. let none : slice_get (seen xs) i ≡ None = slice_get-map (option_map (λ (b : Box Port). b.value)) xs i ∙ ap (option_map (option_map (λ (b : Box Port). b.value))) (slice_past xs i past) in let wrong : None ≡ Some (Some port) = sym none ∙ e in absurd cc)
 
-seen_push : (xs : Boxes) (b : Box Port) → seen (xs ++ Some b ∷ []) ≡ seen xs ++ Some b.value ∷ []
+pub seen_push : (xs : Boxes) (b : Box Port) → seen (xs ++ Some b ∷ []) ≡ seen xs ++ Some b.value ∷ []
 seen_push [] b = refl
 seen_push (x ∷ xs) b = ap (λ (zs : Slots). option_map (λ (c : Box Port). c.value) x ∷ zs) (seen_push xs b)
 
 -- a new port is put behind all
-pub pushed_queued : (xs ys zs : Boxes) (qs rs : List Bool) (t n : List ℕ) (b : Box Port) → EachIsQueued (seen xs) qs t n → zs ≡ xs → ys ≡ zs ++ Some b ∷ [] → b.value ≡ new_port → rs ≡ qs ++ false ∷ [] → EachIsQueued (seen ys) rs t n
-pushed_queued xs ys zs qs rs t n b q same put new more =
-    let now : seen ys ≡ seen xs ++ Some new_port ∷ [] = ap seen (put ∙ ap (λ (ws : Boxes). ws ++ Some b ∷ []) same) ∙ seen_push xs b ∙ ap (λ (p : Port). seen xs ++ Some p ∷ []) new in
+pub pushed_queued : (xs ys : Boxes) (qs rs : List Bool) (t n : List ℕ) (b : Box Port) → EachIsQueued (seen xs) qs t n → ys ≡ xs ++ Some b ∷ [] → b.value ≡ new_port → rs ≡ qs ++ false ∷ [] → EachIsQueued (seen ys) rs t n
+pushed_queued xs ys qs rs t n b q put new more =
+    let now : seen ys ≡ seen xs ++ Some new_port ∷ [] = ap seen put ∙ seen_push xs b ∙ ap (λ (p : Port). seen xs ++ Some p ∷ []) new in
     subst (λ (ws : Slots). EachIsQueued ws rs t n) (sym now) (subst (λ (fs : List Bool). EachIsQueued (seen xs ++ Some new_port ∷ []) fs t n) (sym more) (queued_push (seen xs) qs t n q))
 
-slot_there : (xs : Slots) (k : ℕ) → k < length xs → (x : Option Port) × (slice_get xs k ≡ Some x)
-slot_there [] k within = absurd (omega arith)
-slot_there (x ∷ xs) zero within = (x, refl)
-slot_there (x ∷ xs) (suc k) within = slot_there xs k (omega arith)
-
 -- a port is put back
-pub put_queued : (xs : Boxes) (qs : List Bool) (t n : List ℕ) (k : ℕ) (b : Box Port) → k < length (seen xs) → (has_work b.value ≡ true → is_set qs k ≡ true) → EachIsQueued (seen xs) qs t n → EachIsQueued (seen (set xs k (Some b))) qs t n
-put_queued xs qs t n k b within queued q =
-    let found = slot_there (seen xs) k within in
-    subst (λ (ws : Slots). EachIsQueued ws qs t n) (sym (seen_set xs k (Some b))) (queued_put (seen xs) qs t n k found.0 b.value found.1 queued q)
+pub put_queued : (xs : Boxes) (qs : List Bool) (t n : List ℕ) (k : ℕ) (b : Box Port) → slice_get (seen xs) k ≡ Some None → (has_work b.value ≡ true → is_set qs k ≡ true) → EachIsQueued (seen xs) qs t n → EachIsQueued (seen (set xs k (Some b))) qs t n
+put_queued xs qs t n k b empty queued q = subst (λ (ws : Slots). EachIsQueued ws qs t n) (sym (seen_set xs k (Some b))) (queued_put (seen xs) qs t n k None b.value empty queued q)

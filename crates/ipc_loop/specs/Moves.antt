@@ -1,8 +1,9 @@
--- What links give and take, in order.
+-- What links do, in order.
 use Rattle.std.specs.Prelude.{◌≡◌, ◌==◌, Bool, true, false, ℕ, List, [], ◌∷◌, ◌++◌, take, ⊤, Option, Some, None, Result, MatchResult, if◌then◌else◌}
 
--- link i gave these bytes, or took them
+-- link i was opened, gave these bytes, or took them
 pub data Moved : Type 0 where
+  LinkOpened : ℕ → Moved
   LinkGave : ℕ → List ℕ → Moved
   LinkTook : ℕ → List ℕ → Moved
 
@@ -24,11 +25,21 @@ comes_to_its_end i [] = false
 comes_to_its_end i (LinkGave j [] ∷ moves) = if j == i then true else comes_to_its_end i moves
 comes_to_its_end i (move ∷ moves) = comes_to_its_end i moves
 
+-- the links that were opened, in order
+abbrev pub opened_in : List Moved → List ℕ
+opened_in [] = []
+opened_in (LinkOpened i ∷ moves) = i ∷ opened_in moves
+opened_in (move ∷ moves) = opened_in moves
+
 -- moves, where they are known, go on with these
 abbrev pub GoOn : Option (List Moved) → Option (List Moved) → List Moved → Type 0
 GoOn None new more = ⊤
 GoOn (Some moves) None more = ⊥
 GoOn (Some moves) (Some later) more = later ≡ moves ++ more
+
+-- an accept opened link i, and nobody where it failed
+abbrev pub Opens : {E : Type 0} → Option (List Moved) → Option (List Moved) → ℕ → Result Unit E → Type 0
+Opens old new i r = MatchResult r (λ _. GoOn old new (LinkOpened i ∷ [])) (λ _. GoOn old new [])
 
 -- a read of link i gave the bytes that it left in the buffer, and nothing where it failed
 abbrev pub Gives : {E : Type 0} → Option (List Moved) → Option (List Moved) → ℕ → Result ℕ E → List ℕ → Type 0
@@ -45,3 +56,4 @@ pub record Adds (moves moves' : Option (List Moved)) (k : ℕ) (gave took : List
   pub read : (i : ℕ) → read_of i moved ≡ (if k == i then gave else [])
   pub written : (i : ℕ) → written_of i moved ≡ (if k == i then took else [])
   pub end : (i : ℕ) → comes_to_its_end i moved ≡ (if k == i then ended else false)
+  pub opened : opened_in moved ≡ []

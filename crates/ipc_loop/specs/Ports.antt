@@ -1,5 +1,5 @@
 -- What the loop keeps of its links.
-use Rattle.std.specs.Prelude.{◌≡◌, ◌==◌, Bool, true, false, not, ◌||◌, ◌&&◌, ℕ, List, [], ◌∷◌, slice_get, Option, Some, None, is_none, is_some, unwrap_or, if◌then◌else◌}
+use Rattle.std.specs.Prelude.{◌≡◌, ◌==◌, ◌+◌, ◌≤◌, length, Bool, true, false, not, ◌||◌, ◌&&◌, ℕ, List, [], ◌∷◌, slice_get, Option, Some, None, is_none, is_some, unwrap_or, if◌then◌else◌}
 use Rattle.ipc_loop.specs.declared.ending.Ending.{Ending}
 
 -- left: what was taken from the hub for the link and is not written yet; none once the link takes nothing any more.
@@ -68,3 +68,19 @@ stands_in i (number ∷ numbers) = if number == i then true else stands_in i num
 -- each port that a turn would do something for stands in the list
 abbrev pub NobodyIsForgotten : List (Option Port) → List ℕ → Type 0
 NobodyIsForgotten ports turns = (i : ℕ) (port : Port) → slice_get ports i ≡ Some (Some port) → has_work port ≡ true → stands_in i turns ≡ true
+
+-- how many of the links are open
+abbrev pub how_many_open : List (Option Port) → ℕ
+how_many_open [] = 0
+how_many_open (None ∷ ports) = how_many_open ports
+how_many_open (Some port ∷ ports) = how_many_open ports + 1
+
+-- links are opened behind all before, and a link that is closed stays closed: no number is used again
+pub record Continues (ports ports' : List (Option Port)) : Type 0 where
+  pub count : length ports ≤ length ports'
+  pub closed : (i : ℕ) → slice_get ports i ≡ Some None → slice_get ports' i ≡ Some None
+
+-- the same, and no link is opened
+pub record OnlyCloses (ports ports' : List (Option Port)) : Type 0 where
+  pub count : length ports' ≡ length ports
+  pub closed : (i : ℕ) → slice_get ports i ≡ Some None → slice_get ports' i ≡ Some None

@@ -1,10 +1,17 @@
--- What is seen of a server: its hub, the ports of its links by their numbers, none where a link is closed, and who gets a turn
--- in the next round.
-use Rattle.std.specs.Prelude.{ℕ, List, Option}
+-- What is seen of a server: its hub, the ports of all links that it accepted by their numbers, none where a link is closed, who
+-- gets a turn in the next round, and how many links it opens.
+use Rattle.std.specs.Prelude.{Bool, ◌&&◌, ◌==◌, ℕ, List, length, Option}
 use Rattle.ipc_hub.specs.Hub.{Hub}
-use Rattle.ipc_loop.specs.Ports.{Port}
+use Rattle.ipc_loop.specs.Ports.{Port, how_many_open}
+use Rattle.ipc_loop.specs.Bounds.{are_all}
+use Rattle.ipc_loop.specs.declared.accepting.Bounds.{Bounds}
 
 pub record Server : Type 0 where
   pub hub : Hub
   pub ports : List (Option Port)
   pub turns : List ℕ
+  pub bounds : Bounds
+
+-- whether as many links were accepted as are to be, and none is open
+abbrev pub is_over : Server → Bool
+is_over server = are_all server.bounds.stop_after (length server.ports) && (how_many_open server.ports == 0)

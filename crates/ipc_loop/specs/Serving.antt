@@ -1,11 +1,11 @@
 -- What serving makes of a hub, of links and of their ports.
-use Rattle.std.specs.Prelude.{◌≡◌, ◌≢◌, ◌⊎◌, ◌==◌, if◌then◌else◌, Bool, true, false, ℕ, List, [], ◌++◌, Option, Some, None}
+use Rattle.std.specs.Prelude.{◌≡◌, ◌≢◌, ◌⊎◌, ◌==◌, ◌+◌, ◌-◌, length, if◌then◌else◌, Bool, true, false, ℕ, zero, suc, List, [], ◌∷◌, ◌++◌, Option, Some, None}
 use Rattle.ipc_hub.specs.Hub.{Hub, is_marked, untaken_at}
-use Rattle.ipc_hub.specs.Laws.{Call, MakesAll, stream_of, output_of}
+use Rattle.ipc_hub.specs.Laws.{Call, TookPiece, MakesAll, stream_of, output_of}
 use Rattle.ipc_hub.specs.declared.fed.Fed.{Fed}
 use Rattle.ipc_hub.specs.declared.fed.Fed.TheVariants.{Over}
-use Rattle.ipc_loop.specs.Moves.{Moved, GoOn, Adds, read_of, written_of, comes_to_its_end}
-use Rattle.ipc_loop.specs.Ports.{Port, with_port, left_of, unfed_of}
+use Rattle.ipc_loop.specs.Moves.{Moved, GoOn, Adds, read_of, written_of, comes_to_its_end, opened_in}
+use Rattle.ipc_loop.specs.Ports.{Port, port_at, with_port, left_of, unfed_of}
 
 -- what comes passes on in order, behind what was left before, and the rest is left. None is left once no more passes: then
 -- what did not pass is dropped
@@ -14,20 +14,42 @@ PassesOn None came passed left' = (passed ≡ []) × (left' ≡ None)
 PassesOn (Some left) came passed None = (dropped : List ℕ) × (left ++ came ≡ passed ++ dropped)
 PassesOn (Some left) came passed (Some left') = left ++ came ≡ passed ++ left'
 
--- from one moment to another: what each link gave passed on to the hub, and what the hub gave passed on to the link.
--- Nothing else happened to the hub or to links. A link that is not read any more gave nothing, and one whose stream ended
--- is not read any more
-pub record Serves (hub : Hub) (moves : Option (List Moved)) (ports : ℕ → Option Port) (hub' : Hub) (moves' : Option (List Moved)) (ports' : ℕ → Option Port) : Type 0 where
+-- whether connection i ended where a piece of its stream was fed: by a fault, or since its hello was refused
+abbrev pub ends_at_a_feed : ℕ → List Call → Bool
+ends_at_a_feed i [] = false
+ends_at_a_feed i (TookPiece j piece (Over end) ∷ calls) = if j == i then true else ends_at_a_feed i calls
+ends_at_a_feed i (call ∷ calls) = ends_at_a_feed i calls
+
+-- from one moment to another: these links were opened, what each gave passed on to the hub, and what the hub gave passed on
+-- to the link. Nothing else happened to the hub or to links. A link that is not read any more gave nothing, and one whose stream ended,
+-- is at fault or began with a hello that was refused is not read any more
+pub record ServesOpening (opened : List ℕ) (hub : Hub) (moves : Option (List Moved)) (ports : ℕ → Option Port) (hub' : Hub) (moves' : Option (List Moved)) (ports' : ℕ → Option Port) : Type 0 where
   pub calls : List Call
   pub moved : List Moved
   pub made : MakesAll calls hub hub'
   pub went : GoOn moves moves' moved
+  pub opens : opened_in moved ≡ opened
   pub read : (i : ℕ) → PassesOn (unfed_of (ports i)) (read_of i moved) (stream_of i calls) (unfed_of (ports' i))
   pub written : (i : ℕ) → PassesOn (left_of (ports i)) (output_of i calls) (written_of i moved) (left_of (ports' i))
   pub unread : (i : ℕ) → unfed_of (ports i) ≡ None → read_of i moved ≡ []
   pub ended : (i : ℕ) → comes_to_its_end i moved ≡ true → unfed_of (ports' i) ≡ None
+  pub over : (i : ℕ) → ends_at_a_feed i calls ≡ true → unfed_of (ports' i) ≡ None
 
--- the same, where no port but that of link k changes
+-- the same, where no link is opened
+abbrev pub Serves : Hub → Option (List Moved) → (ℕ → Option Port) → Hub → Option (List Moved) → (ℕ → Option Port) → Type 0
+Serves hub moves ports hub' moves' ports' = ServesOpening [] hub moves ports hub' moves' ports'
+
+-- the numbers from n on, so many
+abbrev pub numbers_from : ℕ → ℕ → List ℕ
+numbers_from n zero = []
+numbers_from n (suc count) = n ∷ numbers_from (n + 1) count
+
+-- the same, where the links that are opened have the next numbers, in order
+abbrev pub ServesAndOpens : Hub → Option (List Moved) → List (Option Port) → Hub → Option (List Moved) → List (Option Port) → Type 0
+ServesAndOpens hub moves ports hub' moves' ports' =
+    ServesOpening (numbers_from (length ports) (length ports' - length ports)) hub moves (port_at ports) hub' moves' (port_at ports')
+
+-- the same, where no port but that of link k changes, and no link is opened
 abbrev pub ServesPort : ℕ → Hub → Option (List Moved) → Port → Hub → Option (List Moved) → Port → Type 0
 ServesPort k hub moves port hub' moves' port' = (others : ℕ → Option Port) → Serves hub moves (with_port others k (Some port)) hub' moves' (with_port others k (Some port'))
 
@@ -61,6 +83,9 @@ pub record FeedsPort (k : ℕ) (hub : Hub) (port : Port) (piece : List ℕ) (hub
   pub stream : (i : ℕ) → stream_of i calls ≡ (if k == i then fed else [])
   pub output : (i : ℕ) → output_of i calls ≡ []
   pub passes : PassesOn (unfed_of (Some port)) piece fed (unfed_of (Some port'))
+  pub over : Bool
+  pub ends : (i : ℕ) → ends_at_a_feed i calls ≡ (if k == i then over else false)
+  pub stops : over ≡ true → unfed_of (Some port') ≡ None
   pub left : port'.left ≡ port.left
 
 abbrev pub KeepsPortMarks : ℕ → Hub → Port → Hub → Port → Type 0

@@ -4,16 +4,20 @@ use Rattle.std.specs.Global.{Box}
 use Rattle.std.specs.Option.{option_map}
 use Rattle.ipc_hub.specs.Marking.{is_set}
 use Rattle.ipc_hub.specs.Hub.{Hub}
-use Rattle.ipc_loop.specs.Ports.{Port, open_at, has_work, stands_in}
+use Rattle.ipc_loop.specs.Ports.{Port, open_at, has_work, stands_in, how_many_open}
+use Rattle.ipc_loop.specs.Bounds.{IsWithin}
+use Rattle.ipc_loop.specs.declared.accepting.Bounds.{Bounds}
 use Rattle.ipc_loop.specs.Serving.{IsOwedByMark}
 
--- the ports by their numbers, none where a link is closed; whether each number is queued; and the numbers that get a turn in
--- this round and in the next
+-- the ports by their numbers, none where a link is closed; whether each number is queued; the numbers that get a turn in
+-- this round and in the next; and for how many more ports and flags there is room
 pub record Ports : Type 0 where
   pub all : List (Option Port)
   pub queued : List Bool
   pub turns : List ℕ
   pub next : List ℕ
+  pub room : ℕ
+  pub room_of_flags : ℕ
 
 -- the ports in their slots
 abbrev pub seen : List (Option (Box Port)) → List (Option Port)
@@ -24,6 +28,11 @@ pub record EachIsQueued (ports : List (Option Port)) (queued : List Bool) (turns
   pub working : (i : ℕ) (port : Port) → slice_get ports i ≡ Some (Some port) → has_work port ≡ true → is_set queued i ≡ true
   pub listed : (i : ℕ) → is_set queued i ≡ true → (stands_in i turns || stands_in i next) ≡ true
 
+-- what always holds of ports: each that has work is queued, and those in their slots are counted
+pub record AreKept (ports : List (Option Port)) (queued : List Bool) (turns next : List ℕ) (counted : ℕ) : Type 0 where
+  pub each : EachIsQueued ports queued turns next
+  pub count : counted ≡ how_many_open ports
+
 -- the port of this number is taken out, to be put back
 pub record TakesOut (old : List (Option Port)) (number : ℕ) (port : Port) (new : List (Option Port)) : Type 0 where
   pub there : slice_get old number ≡ Some (Some port)
@@ -33,10 +42,11 @@ pub record TakesOut (old : List (Option Port)) (number : ℕ) (port : Port) (new
 abbrev pub IsSettled : List (Option Port) → ℕ → Port → List (Option Port) → Type 0
 IsSettled old number port new = (new ≡ slice_set old number (Some port)) ⊎ (new ≡ old)
 
--- between two rounds: nobody has a turn in this one, and who is owed answers is marked
-pub record IsResting (hub : Hub) (ports : Ports) : Type 0 where
+-- between two rounds: nobody has a turn in this one, who is owed answers is marked, and no more links are open than may be
+pub record IsResting (hub : Hub) (ports : Ports) (bounds : Bounds) : Type 0 where
   pub turns : ports.turns ≡ []
   pub marked : (i : ℕ) → IsOwedByMark hub (open_at ports.all) i
+  pub within : IsWithin bounds ports.all
 
 -- link k's slot has no port now, and each other has what it had
 pub record IsOut (old : List (Option Port)) (k : ℕ) (new : List (Option Port)) : Type 0 where

@@ -1,12 +1,14 @@
 //! Accepting connections.
 
-ghost use Rattle.std.specs.Prelude.{◌≡◌, ℕ, List, Option};
-ghost use Rattle.ipc_hub.specs.Hub.{Hub};
+ghost use Rattle.std.specs.Prelude.{◌≡◌, ◌<◌, [], ℕ, List, Option, true, length, IfOk, OnOk};
+ghost use Rattle.ipc_hub.specs.Hub.{Hub, untaken_at};
 ghost use Rattle.ipc_loop.specs.Moves.{Moved};
-ghost use Rattle.ipc_loop.specs.Ports.{Port, port_at, open_at};
-ghost use Rattle.ipc_loop.specs.Serving.{Serves, KeepsMarks};
+ghost use Rattle.ipc_loop.specs.Ports.{Port, new_port, open_at, Continues};
+ghost use Rattle.ipc_loop.specs.Bounds.{are_all, IsWithin, HasRoom, AddsAtMostOne};
+ghost use Rattle.ipc_loop.specs.Serving.{Serves, ServesAndOpens, KeepsMarks};
 
 use crate::links::Host;
+use crate::port::Port;
 use crate::ports::Ports;
 use ipc_hub::{Conn, Hub};
 use ipc_terms::NoMemory;
@@ -17,93 +19,90 @@ use std::io::ErrorKind;
 /// How many connections are accepted before those that are ready get their turn.
 const MOST_ACCEPTED: u32 = 64;
 
+/// How many links are accepted.
+#[derive(Clone, Copy)]
+pub struct Bounds {
+    /// How many are open at most.
+    pub most: usize,
+    /// After so many nobody is accepted any more.
+    pub stop_after: Option<u64>,
+}
+
 /// Who is accepted.
 #[derive(Drop)]
 pub struct Accepting {
-    /// The hub's connection of the next link, once it is open.
-    pub spare: Option<Conn>,
-    /// How many links are open at most.
-    pub most: usize,
-    /// How many are still to be accepted.
-    pub left: u64,
+    pub bounds: Bounds,
     /// Somebody may be waiting to be accepted.
     pub may_accept: bool,
     /// Accepting failed, and is tried again after a pause.
     pub is_pausing: bool,
 }
 
-/// The hub's connection of the next link, which is opened if it isn't.
-fn open_spare(hub: &mut Hub, spare: &mut Option<Conn>, alloc: Global) -> Result<Conn, NoMemory>
+/// Opens the hub's connection of this number, which is the next, if it isn't open.
+fn open_next(hub: &mut Hub, number: u64, alloc: Global) -> Result<(), NoMemory>
     ensures serves { (moves : Option (List Moved)) (ports : ℕ → Option Port) → Serves hub.old moves ports hub.new moves ports }
     ensures marks { (ports : ℕ → Option Port) → KeepsMarks hub.old ports hub.new ports }
 {
-    if let Some(conn) = *spare {
-        return Ok(conn);
-    }
-    let Ok(conn) = hub.open(alloc) else {
-        return Err(NoMemory);
-    };
-    *spare = Some(conn);
-    Ok(conn)
-}
-
-/// Makes the port of the connection, which was answered nothing, if it isn't there.
-fn add_port(hub: &Hub, ports: &mut Ports, conn: Conn) -> Result<(), NoMemory>
-    ensures same { (i : ℕ) → port_at ports.new.all i ≡ port_at ports.old.all i }
-    ensures marks { KeepsMarks hub.now (open_at ports.old.all) hub.now (open_at ports.new.all) }
-    ensures turns { ports.new.turns ≡ ports.old.turns }
-{
-    if ports.len() as u64 != conn.0 {
+    if hub.untaken(Conn(number)).is_ok() {
         return Ok(());
     }
-    let Ok(0) = hub.untaken(conn) else {
+    let Ok(_) = hub.open(alloc) else {
         return Err(NoMemory);
     };
-    ports.push()?;
     Ok(())
 }
 
-/// Makes all for the next link but the link. So nobody is accepted for whom there is no memory.
-fn prepare(
-    hub: &mut Hub,
-    ports: &mut Ports,
-    spare: &mut Option<Conn>,
-    alloc: Global,
-) -> Result<u64, NoMemory>
-    ensures serves { (moves : Option (List Moved)) → Serves hub.old moves (port_at ports.old.all) hub.new moves (port_at ports.new.all) }
-    ensures marks { KeepsMarks hub.old (open_at ports.old.all) hub.new (open_at ports.new.all) }
+/// Makes all for the next link but the link: its connection, which was answered nothing, and its port. So nobody is
+/// accepted for whom there is no memory.
+fn prepare(hub: &mut Hub, ports: &mut Ports, alloc: Global) -> Result<Box<Port>, NoMemory>
+    ensures port { IfOk result (λ port. port.value ≡ new_port) }
+    ensures untaken { OnOk result (untaken_at hub.new (length ports.new.all) ≡ []) }
+    ensures room { OnOk result (0 < ports.new.room) }
+    ensures flags { OnOk result (0 < ports.new.room_of_flags) }
+    ensures serves { (moves : Option (List Moved)) (all : ℕ → Option Port) → Serves hub.old moves all hub.new moves all }
+    ensures marks { (all : ℕ → Option Port) → KeepsMarks hub.old all hub.new all }
+    ensures all { ports.new.all ≡ ports.old.all }
     ensures turns { ports.new.turns ≡ ports.old.turns }
 {
-    let conn = open_spare(hub, spare, alloc)?;
-    add_port(hub, ports, conn)?;
-    Ok(conn.0)
+    let number = ports.len() as u64;
+    open_next(hub, number, alloc)?;
+    let Ok(0) = hub.untaken(Conn(number)) else {
+        return Err(NoMemory);
+    };
+    ports.prepare()
+}
+
+/// Accepts the next link, whose number is how many were accepted before.
+fn accept<H: Host>(hub: &mut Hub, host: &mut H, ports: &mut Ports, alloc: Global) -> io::Result<()>
+    ensures serves { ServesAndOpens hub.old (H.moves host.old) ports.old.all hub.new (H.moves host.new) ports.new.all }
+    ensures marks { KeepsMarks hub.old (open_at ports.old.all) hub.new (open_at ports.new.all) }
+    ensures adds { AddsAtMostOne ports.old.all ports.new.all }
+    ensures turns { ports.new.turns ≡ ports.old.turns }
+{
+    let Ok(port) = prepare(hub, ports, alloc) else {
+        return Err(io::Error::from(ErrorKind::OutOfMemory));
+    };
+    host.accept(ports.len() as u64)?;
+    ports.push(port);
+    Ok(())
 }
 
 impl Accepting {
-    /// Whether another may be accepted.
-    pub fn is_open(&self, ports: &Ports) -> bool {
-        self.may_accept && self.left > 0 && ports.open() < self.most
+    /// Whether as many links were accepted as are to be.
+    pub fn has_all(&self, ports: &Ports) -> bool
+        ensures { result ≡ are_all self.now.bounds.stop_after (length ports.now.all) }
+    {
+        match self.bounds.stop_after {
+            Some(count) => count <= ports.len() as u64,
+            None => false,
+        }
     }
 
-    fn accept<H: Host>(
-        &mut self,
-        hub: &mut Hub,
-        host: &mut H,
-        ports: &mut Ports,
-        alloc: Global,
-    ) -> io::Result<()>
-        ensures serves { Serves hub.old (H.moves host.old) (port_at ports.old.all) hub.new (H.moves host.new) (port_at ports.new.all) }
-        ensures marks { KeepsMarks hub.old (open_at ports.old.all) hub.new (open_at ports.new.all) }
-        ensures turns { ports.new.turns ≡ ports.old.turns }
+    /// Whether another may be accepted.
+    pub fn is_open(&self, ports: &Ports) -> bool
+        ensures { result ≡ true → HasRoom self.now.bounds ports.now.all }
     {
-        let Ok(number) = prepare(hub, ports, &mut self.spare, alloc) else {
-            return Err(io::Error::from(ErrorKind::OutOfMemory));
-        };
-        host.accept(number)?;
-        self.spare = None;
-        self.left = self.left.saturating_sub(1);
-        ports.count_open();
-        Ok(())
+        self.may_accept && !self.has_all(ports) && ports.open() < self.bounds.most
     }
 
     /// Accepts those that wait, up to a number.
@@ -114,15 +113,18 @@ impl Accepting {
         ports: &mut Ports,
         alloc: Global,
     )
-        ensures serves { Serves hub.old (H.moves host.old) (port_at ports.old.all) hub.new (H.moves host.new) (port_at ports.new.all) }
+        ensures serves { ServesAndOpens hub.old (H.moves host.old) ports.old.all hub.new (H.moves host.new) ports.new.all }
         ensures marks { KeepsMarks hub.old (open_at ports.old.all) hub.new (open_at ports.new.all) }
+        ensures bounds { self.new.bounds ≡ self.old.bounds }
+        ensures within { IsWithin self.old.bounds ports.old.all → IsWithin self.old.bounds ports.new.all }
+        ensures continues { Continues ports.old.all ports.new.all }
         ensures turns { ports.new.turns ≡ ports.old.turns }
     {
         for _ in 0..MOST_ACCEPTED {
             if !self.is_open(ports) {
                 return;
             }
-            let accepted = self.accept(hub, host, ports, alloc);
+            let accepted = accept(hub, host, ports, alloc);
             if !self.goes_on(accepted) {
                 return;
             }
@@ -130,7 +132,9 @@ impl Accepting {
     }
 
     /// Whether another is accepted at once.
-    fn goes_on(&mut self, accepted: io::Result<()>) -> bool {
+    fn goes_on(&mut self, accepted: io::Result<()>) -> bool
+        ensures { self.new.bounds ≡ self.old.bounds }
+    {
         self.is_pausing = false;
         let Err(error) = accepted else {
             return true;

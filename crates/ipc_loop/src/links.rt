@@ -2,7 +2,7 @@
 
 ghost use Rattle.std.specs.Prelude.{◌≡◌};
 ghost use Rattle.std.specs.Io.{ReadsAtMost, WritesAtMost};
-ghost use Rattle.ipc_loop.specs.Moves.{Gives, Takes};
+ghost use Rattle.ipc_loop.specs.Moves.{Opens, Gives, Takes};
 
 use crate::ending::Ending;
 use std::io;
@@ -30,13 +30,13 @@ pub trait Host {
     ghost use Rattle.std.specs.Prelude.{Option, None, List};
     ghost use Rattle.ipc_loop.specs.Moves.{Moved};
 
-    // What the links gave and took so far, in order, where that is known.
+    // Which links were opened, and what they gave and took so far, in order, where that is known.
     ghost moves: { Self → Option (List Moved) } = { λ _. None };
 
     /// Accepts the next connection. Its link gets this number, which no link had before. An `Err` accepts nobody, or
     /// drops the one that was accepted.
     fn accept(&mut self, number: u64) -> io::Result<()>
-        ensures moved { moves self.new ≡ moves self.old };
+        ensures moved { Opens (moves self.old) (moves self.new) number result };
 
     /// How many bytes the link gave, and 0 at the end of its stream. `NotFound` where there is no such link.
     fn read(&mut self, number: u64, buffer: &mut [u8]) -> io::Result<usize>

@@ -1,8 +1,8 @@
 //! The ports of all links, and who gets a turn.
 
-ghost use Rattle.std.specs.Prelude.{◌≡◌, ◌<◌, [], ◌∷◌, ◌++◌, true, false, Some, length, slice_set, IfOk, IfSome, IfNone, OnOk, OnErr, OnSome};
+ghost use Rattle.std.specs.Prelude.{◌≡◌, ◌<◌, [], ◌∷◌, ◌++◌, true, false, None, Some, length, slice_get, slice_set, IfOk, IfSome, IfNone, OnOk, OnSome};
 ghost use Rattle.ipc_hub.specs.Marking.{is_set};
-ghost use Rattle.ipc_loop.specs.Ports.{new_port};
+ghost use Rattle.ipc_loop.specs.Ports.{new_port, how_many_open};
 ghost use Rattle.ipc_loop.specs.Standing.{EachIsQueued, TakesOut, IsOut, IsUnset, seen};
 
 use crate::port::Port;
@@ -19,31 +19,36 @@ pub struct Ports {
     queued: Vec<bool>,
     turns: Vec<u64>,
     next: Vec<u64>,
-    /// How many links are open.
+    /// How many ports are in their slots.
     open: usize,
 }
 
 impl Model for Ports {
-    ghost use Rattle.ipc_loop.specs.Standing.{Ports, EachIsQueued, seen};
+    ghost use Rattle.std.specs.Prelude.{◌-◌, vec_len, vec_capacity};
+    ghost use Rattle.ipc_loop.specs.Standing.{Ports, AreKept, seen};
 
     ghost Value = { Ports };
 
-    ghost view = { λ p. record { all = seen p.all.items; queued = p.queued.items; turns = p.turns.items; next = p.next.items } };
+    ghost view = { λ p. record { all = seen p.all.items; queued = p.queued.items; turns = p.turns.items; next = p.next.items; room = vec_capacity p.all - vec_len p.all; room_of_flags = vec_capacity p.queued - vec_len p.queued } };
 
-    ghost invariant = { λ p. EachIsQueued (seen p.all.items) p.queued.items p.turns.items p.next.items };
+    ghost invariant = { λ p. AreKept (seen p.all.items) p.queued.items p.turns.items p.next.items p.open };
 }
 
-/// Takes the port out of the slot of this number.
-fn take_out(all: &mut Vec<Option<Box<Port>>>, number: u64) -> Option<Box<Port>>
+/// Takes the port out of the slot of this number, and counts it.
+fn take_out(all: &mut Vec<Option<Box<Port>>>, open: &mut usize, number: u64) -> Option<Box<Port>>
+    requires { open.old ≡ how_many_open (seen all.old.items) }
     ensures port { IfSome result (λ port. TakesOut (seen all.old.items) number port.value (seen all.new.items)) }
     ensures none { IfNone result (seen all.new.items ≡ seen all.old.items) }
     ensures out { IsOut (seen all.old.items) number (seen all.new.items) }
+    ensures count { open.new ≡ how_many_open (seen all.new.items) }
 {
     let i = number as usize;
     if i >= all.len() {
         return None;
     }
-    all[i].take()
+    let port = all[i].take()?;
+    *open -= 1;
+    Some(port)
 }
 
 /// Clears the flag of this number.
@@ -59,7 +64,9 @@ fn unqueue(queued: &mut Vec<bool>, number: u64)
 impl Ports {
     /// No links, with room for the turns of so many.
     pub fn new(alloc: Global, most: usize) -> Result<Ports, NoMemory>
-        ensures { IfOk result (λ ports. ports ≡ record { all = []; queued = []; turns = []; next = [] }) }
+        ensures all { IfOk result (λ ports. ports.all ≡ []) }
+        ensures turns { IfOk result (λ ports. ports.turns ≡ []) }
+        ensures next { IfOk result (λ ports. ports.next ≡ []) }
     {
         let turns = Vec::with_capacity(alloc, most)?;
         let next = Vec::with_capacity(alloc, most)?;
@@ -80,16 +87,11 @@ impl Ports {
         let _open = self.open;
     }
 
-    /// How many links are open.
-    pub fn open(&self) -> usize {
-        self.open
-    }
-
-    /// One more link is open.
-    pub fn count_open(&mut self)
-        ensures { self.new ≡ self.old }
+    /// How many ports are in their slots: how many links are open, where none is taken out.
+    pub fn open(&self) -> usize
+        ensures { result ≡ how_many_open self.now.all }
     {
-        self.open = self.open.saturating_add(1);
+        self.open
     }
 
     /// Whether somebody gets a turn in the next round.
@@ -97,24 +99,38 @@ impl Ports {
         !self.next.is_empty()
     }
 
-    /// How many links have a port, or had one.
+    /// How many links were accepted: each has a port, or had one.
     pub fn len(&self) -> usize
         ensures { result ≡ length self.now.all }
     {
         self.all.len()
     }
 
-    /// One more port. An `Err` changes no port.
-    pub fn push(&mut self) -> Result<(), NoMemory>
-        ensures ok { OnOk result (self.new.all ≡ self.old.all ++ Some new_port ∷ []) }
-        ensures err { OnErr result (self.new.all ≡ self.old.all) }
+    /// A new port, and room for it. An `Err` changes no port.
+    pub fn prepare(&mut self) -> Result<Box<Port>, NoMemory>
+        ensures port { IfOk result (λ port. port.value ≡ new_port) }
+        ensures room { OnOk result (0 < self.new.room) }
+        ensures flags { OnOk result (0 < self.new.room_of_flags) }
+        ensures all { self.new.all ≡ self.old.all }
         ensures turns { self.new.turns ≡ self.old.turns }
     {
         let port = Box::new(self.alloc, Port::new(self.alloc))?;
         self.all.reserve(1)?;
-        self.queued.push(false)?;
+        self.queued.reserve(1)?;
+        Ok(port)
+    }
+
+    /// The new port is that of the next number.
+    pub fn push(&mut self, port: Box<Port>)
+        requires room { 0 < self.old.room }
+        requires flags { 0 < self.old.room_of_flags }
+        requires new { port.value ≡ new_port }
+        ensures all { self.new.all ≡ self.old.all ++ Some new_port ∷ [] }
+        ensures turns { self.new.turns ≡ self.old.turns }
+    {
         self.all.push_reserved(Some(port));
-        Ok(())
+        self.queued.push_reserved(false);
+        self.open += 1;
     }
 
     /// The numbers of the next round get their turns in this one.
@@ -134,13 +150,14 @@ impl Ports {
         ensures turns { self.new.turns ≡ self.old.turns }
         ensures next { self.new.next ≡ self.old.next }
     {
-        take_out(&mut self.all, number)
+        take_out(&mut self.all, &mut self.open, number)
     }
 
     /// Puts the port back that was taken out, and queues it for the next round if it has work. `false` where there is no
     /// memory for that: then the port is gone.
     pub fn put(&mut self, number: u64, port: Box<Port>) -> bool
-        requires { number < length self.old.all }
+        requires within { number < length self.old.all }
+        requires out { slice_get self.old.all number ≡ Some None }
         ensures kept { result ≡ true → self.new.all ≡ slice_set self.old.all number (Some port.value) }
         ensures gone { result ≡ false → self.new.all ≡ self.old.all }
         ensures turns { self.new.turns ≡ self.old.turns }
@@ -150,6 +167,7 @@ impl Ports {
             return false;
         }
         self.all[number as usize] = Some(port);
+        self.open += 1;
         true
     }
 
@@ -186,14 +204,7 @@ impl Ports {
     {
         let number = self.turns.pop()?;
         unqueue(&mut self.queued, number);
-        let port = take_out(&mut self.all, number);
+        let port = take_out(&mut self.all, &mut self.open, number);
         Some((number, port))
-    }
-
-    /// The port of this number, which was taken out, is closed.
-    pub fn close(&mut self)
-        ensures { self.new ≡ self.old }
-    {
-        self.open = self.open.saturating_sub(1);
     }
 }

@@ -1,11 +1,14 @@
 //! The loop.
 
-ghost use Rattle.std.specs.Prelude.{◌≡◌, [], OnOk, IfOk};
+ghost use Rattle.std.specs.Prelude.{◌≡◌, [], None, OnOk, IfOk, IfErr, MatchOption};
+ghost use Rattle.ipc_state.specs.Ranges.{first_bad};
 ghost use Rattle.ipc_hub.specs.Hub.{new_hub};
-ghost use Rattle.ipc_loop.specs.Ports.{port_at, open_at, NobodyIsForgotten};
-ghost use Rattle.ipc_loop.specs.Serving.{Serves, NobodyIsOwed};
+ghost use Rattle.ipc_loop.specs.Ports.{open_at, NobodyIsForgotten, Continues};
+ghost use Rattle.ipc_loop.specs.Bounds.{IsWithin};
+ghost use Rattle.ipc_loop.specs.Server.{is_over};
+ghost use Rattle.ipc_loop.specs.Serving.{ServesAndOpens, NobodyIsOwed};
 
-use crate::accepting::Accepting;
+use crate::accepting::{Accepting, Bounds};
 use crate::links::Host;
 use crate::ports::Ports;
 use crate::serving::Desk;
@@ -41,22 +44,24 @@ impl Model for Server {
 
     ghost Value = { Server };
 
-    ghost view = { λ s. record { hub = s.hub; ports = s.ports.all; turns = s.ports.next } };
+    ghost view = { λ s. record { hub = s.hub; ports = s.ports.all; turns = s.ports.next; bounds = s.accepting.bounds } };
 
-    ghost invariant = { λ s. IsResting s.hub s.ports };
+    ghost invariant = { λ s. IsResting s.hub s.ports s.accepting.bounds };
 }
 
 impl Server {
     /// A server with an empty trail and no connection, whose memory is made: at most so many connections are open at
     /// once, and after so many accepted ones nobody is accepted any more. Or the first limit that is out of its range, as
-    /// for a hub. An `Err` drops the configuration.
+    /// for a hub; only where all are in range may memory be wanting. An `Err` drops the configuration.
     pub fn new(
         alloc: Global,
         config: Config,
         connections: usize,
         stop_after: Option<u64>,
     ) -> Result<Server, CoreFault>
-        ensures { IfOk result (λ server. server ≡ record { hub = new_hub config; ports = []; turns = [] }) }
+        ensures ok { IfOk result (λ server. server ≡ record { hub = new_hub config; ports = []; turns = []; bounds = record { most = connections; stop_after = stop_after } }) }
+        ensures in_range { OnOk result (first_bad config.limits ≡ None) }
+        ensures bad { IfErr result (λ fault. MatchOption (first_bad config.limits) (fault ≡ CoreFault.NoMemory) (λ field. fault ≡ CoreFault.BadConfig field)) }
     {
         let hub = Hub::new(alloc, config)?;
         let Ok(ports) = Ports::new(alloc, connections) else {
@@ -69,9 +74,10 @@ impl Server {
             hub,
             ports,
             accepting: Accepting {
-                spare: None,
-                most: connections,
-                left: stop_after.unwrap_or(u64::MAX),
+                bounds: Bounds {
+                    most: connections,
+                    stop_after,
+                },
                 may_accept: true,
                 is_pausing: false,
             },
@@ -86,8 +92,17 @@ impl Server {
     }
 
     /// Whether all that were to be accepted have been, and all their links are closed.
-    pub fn is_over(&self) -> bool {
-        self.accepting.left == 0 && self.ports.open() == 0
+    pub fn is_over(&self) -> bool
+        ensures { result ≡ is_over self.now }
+    {
+        self.accepting.has_all(&self.ports) && self.ports.open() == 0
+    }
+
+    /// No more links are open at once, and no more were accepted, than may be. Does nothing; a fact of every server.
+    pub fn is_within_bounds(&self)
+        ensures { IsWithin self.now.bounds self.now.ports }
+    {
+        self.ports.are_queued();
     }
 
     /// Each link for which a turn would do something gets one in the next round. Does nothing; a fact of every server.
@@ -100,8 +115,10 @@ impl Server {
     /// Waits until something is ready, and then gives each connection that is ready a turn, makes the ticks that are
     /// due, and writes what was answered to any. An `Err` tells that the host can't wait; nothing was done then.
     pub fn round<H: Host>(&mut self, host: &mut H) -> io::Result<()>
-        ensures serves { Serves self.old.hub (H.moves host.old) (port_at self.old.ports) self.new.hub (H.moves host.new) (port_at self.new.ports) }
+        ensures serves { ServesAndOpens self.old.hub (H.moves host.old) self.old.ports self.new.hub (H.moves host.new) self.new.ports }
         ensures rests { OnOk result (NobodyIsOwed self.new.hub (open_at self.new.ports)) }
+        ensures continues { Continues self.old.ports self.new.ports }
+        ensures bounds { self.new.bounds ≡ self.old.bounds }
     {
         let alloc = self.desk.alloc;
         let now = host.moment();

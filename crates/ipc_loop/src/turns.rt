@@ -1,8 +1,8 @@
 //! What the loop does with its ports.
 
-ghost use Rattle.std.specs.Prelude.{◌≡◌, [], ℕ, None, Some, slice_get};
+ghost use Rattle.std.specs.Prelude.{◌≡◌, [], ℕ, None, Some, slice_get, slice_set};
 ghost use Rattle.ipc_hub.specs.Hub.{Hub};
-ghost use Rattle.ipc_loop.specs.Ports.{port_at, open_at, with_port};
+ghost use Rattle.ipc_loop.specs.Ports.{port_at, open_at, with_port, OnlyCloses};
 ghost use Rattle.ipc_loop.specs.Standing.{IsSettled};
 ghost use Rattle.ipc_loop.specs.Serving.{Serves, IsAnswered, IsOwedByMark, KeepsMarks, NobodyIsOwed};
 
@@ -25,10 +25,8 @@ fn settle<H: Host>(hub: &Hub, host: &mut H, ports: &mut Ports, number: u64, port
 {
     let ending = port.why().unwrap_or(Ending::NoMemory);
     if port.is_done(hub, number) {
-        ports.close();
         host.close(number, ending);
     } else if !ports.put(number, port) {
-        ports.close();
         host.close(number, ending);
     }
 }
@@ -45,6 +43,7 @@ fn turn<H: Host>(
     requires { slice_get ports.old.all number ≡ Some None }
     ensures serves { Serves hub.old (H.moves host.old) (with_port (port_at ports.old.all) number (Some port.value)) hub.new (H.moves host.new) (port_at ports.new.all) }
     ensures marks { KeepsMarks hub.old (with_port (open_at ports.old.all) number (Some port.value)) hub.new (open_at ports.new.all) }
+    ensures closes { OnlyCloses (slice_set ports.old.all number (Some port.value)) ports.new.all }
     ensures turns { ports.new.turns ≡ ports.old.turns }
 {
     let before = kept(hub, number);
@@ -70,6 +69,7 @@ fn largest(hub: &Hub, count: usize) -> u64 {
 fn keep_bound<H: Host>(hub: &mut Hub, host: &mut H, ports: &mut Ports, desk: &mut Desk)
     ensures serves { Serves hub.old (H.moves host.old) (port_at ports.old.all) hub.new (H.moves host.new) (port_at ports.new.all) }
     ensures marks { KeepsMarks hub.old (open_at ports.old.all) hub.new (open_at ports.new.all) }
+    ensures closes { OnlyCloses ports.old.all ports.new.all }
     ensures turns { ports.new.turns ≡ ports.old.turns }
 {
     if desk.unfinished <= MOST_UNFINISHED {
@@ -88,6 +88,7 @@ fn keep_bound<H: Host>(hub: &mut Hub, host: &mut H, ports: &mut Ports, desk: &mu
 pub fn give_turns<H: Host>(hub: &mut Hub, host: &mut H, ports: &mut Ports, desk: &mut Desk)
     ensures serves { Serves hub.old (H.moves host.old) (port_at ports.old.all) hub.new (H.moves host.new) (port_at ports.new.all) }
     ensures marks { KeepsMarks hub.old (open_at ports.old.all) hub.new (open_at ports.new.all) }
+    ensures closes { OnlyCloses ports.old.all ports.new.all }
     ensures turns { ports.new.turns ≡ [] }
 {
     while let Some((number, port)) = ports.next_turn() {
@@ -102,6 +103,7 @@ fn answer<H: Host>(hub: &mut Hub, host: &mut H, ports: &mut Ports, number: u64, 
     ensures serves { Serves hub.old (H.moves host.old) (port_at ports.old.all) hub.new (H.moves host.new) (port_at ports.new.all) }
     ensures answered { IsAnswered hub.new (open_at ports.new.all) number }
     ensures marks { KeepsMarks hub.old (open_at ports.old.all) hub.new (open_at ports.new.all) }
+    ensures closes { OnlyCloses ports.old.all ports.new.all }
     ensures marked { hub.new.marked ≡ hub.old.marked }
     ensures turns { ports.new.turns ≡ ports.old.turns }
 {
@@ -116,6 +118,7 @@ pub fn answer_all<H: Host>(hub: &mut Hub, host: &mut H, ports: &mut Ports, desk:
     requires { (i : ℕ) → IsOwedByMark hub.old (open_at ports.old.all) i }
     ensures serves { Serves hub.old (H.moves host.old) (port_at ports.old.all) hub.new (H.moves host.new) (port_at ports.new.all) }
     ensures rests { NobodyIsOwed hub.new (open_at ports.new.all) }
+    ensures closes { OnlyCloses ports.old.all ports.new.all }
     ensures turns { ports.new.turns ≡ ports.old.turns }
 {
     while let Some(conn) = hub.next_answered() {
@@ -127,6 +130,7 @@ pub fn answer_all<H: Host>(hub: &mut Hub, host: &mut H, ports: &mut Ports, desk:
 fn note<H: Host>(hub: &Hub, host: &mut H, ports: &mut Ports, ready: Ready)
     ensures serves { Serves hub.now (H.moves host.old) (port_at ports.old.all) hub.now (H.moves host.new) (port_at ports.new.all) }
     ensures marks { KeepsMarks hub.now (open_at ports.old.all) hub.now (open_at ports.new.all) }
+    ensures closes { OnlyCloses ports.old.all ports.new.all }
     ensures turns { ports.new.turns ≡ ports.old.turns }
 {
     let Ready::Link {
@@ -148,6 +152,7 @@ fn note<H: Host>(hub: &Hub, host: &mut H, ports: &mut Ports, ready: Ready)
 pub fn note_all<H: Host>(hub: &Hub, host: &mut H, ports: &mut Ports) -> bool
     ensures serves { Serves hub.now (H.moves host.old) (port_at ports.old.all) hub.now (H.moves host.new) (port_at ports.new.all) }
     ensures marks { KeepsMarks hub.now (open_at ports.old.all) hub.now (open_at ports.new.all) }
+    ensures closes { OnlyCloses ports.old.all ports.new.all }
     ensures turns { ports.new.turns ≡ ports.old.turns }
 {
     let mut is_told = false;

@@ -2,6 +2,7 @@ use Rattle.ipc_loop.proofs.OwingLemmas.{answers_keep}
 use Rattle.ipc_loop.proofs.ServingLemmas.{same_serves}
 use Rattle.ipc_loop.proofs.PortLemmas.{empty_slot}
 use Rattle.ipc_loop.proofs.TurnLemmas.{turned_serves, turned_keeps, taken_serves, taken_keeps, sent_answered, out_answered}
+use Rattle.ipc_loop.proofs.OpeningLemmas.{closes_same, settled_closes}
 use Rattle.ipc_loop.proofs.turns.answer.Goals as goal
 
 pub settle-requires : goal.settle-requires
@@ -26,3 +27,9 @@ returns-in_default-clause-serves g c = same_serves _ _ _ _ c.in_default.ensures.
 
 pub returns-in_default-clause-answered : goal.returns-in_default-clause-answered
 returns-in_default-clause-answered g c = out_answered c.args.number c.args.hub.now c.args.ports.now.all c.take.new.self.all c.take.ensures.out
+
+pub returns-in-Some-clause-closes : goal.returns-in-Some-clause-closes
+returns-in-Some-clause-closes g c = settled_closes c.args.number _ _ _ _ _ c.in-Some.ensures.port c.settle.ensures.settled
+
+pub returns-in_default-clause-closes : goal.returns-in_default-clause-closes
+returns-in_default-clause-closes g c = closes_same _ _ c.in_default.ensures.none

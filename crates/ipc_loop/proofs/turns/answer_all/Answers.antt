@@ -2,15 +2,17 @@ use Rattle.std.proofs.Common.{◌<◌, ◌≡◌, ◌≢◌, ◌⊎◌, List, []
 use Rattle.ipc_hub.specs.Hub.{Hub, untaken_at}
 use Rattle.ipc_loop.proofs.ServingLemmas.{served_nothing, serves_both, named_serves}
 use Rattle.ipc_loop.proofs.TurnLemmas.{how_many, named_others, named_fewer}
+use Rattle.ipc_loop.proofs.OpeningLemmas.{closes_same, closes_both}
 use Rattle.ipc_loop.proofs.turns.answer_all.Goals as goal
 
 pub loop-conn-init : goal.loop-conn-init
-loop-conn-init g c = record { serves = served_nothing _ _ _; marks = c.requires; turns = refl }
+loop-conn-init g c = record { serves = served_nothing _ _ _; marks = c.requires; closes = closes_same _ _ refl; turns = refl }
 
 pub loop-conn-preserved : goal.loop-conn-preserved
 loop-conn-preserved g c = record {
   serves = serves_both _ _ _ _ _ _ _ _ _ c.loop-conn.invariant.serves (serves_both _ _ _ _ _ _ _ _ _ (named_serves c.in-Some.conn.0 _ _ _ _ c.in-Some.ensures.some) c.answer.ensures.serves);
   marks = named_others c.in-Some.conn.0 c.loop-conn.hub c.next_answered.new.self c.answer.new.hub c.loop-conn.ports.all c.answer.new.ports.all c.in-Some.ensures.some (λ i is owed. c.answer.ensures.marks i owed) c.answer.ensures.answered c.loop-conn.invariant.marks;
+  closes = closes_both _ _ _ c.loop-conn.invariant.closes c.answer.ensures.closes;
   turns = c.answer.ensures.turns ∙ c.loop-conn.invariant.turns;
 }
 

@@ -1,5 +1,5 @@
 use Rattle.std.proofs.Common.{length}
-use Rattle.ipc_loop.specs.Ports.{port_at, open_at}
+use Rattle.ipc_loop.specs.Ports.{port_at, open_at, OnlyCloses}
 use Rattle.ipc_loop.specs.Serving.{Serves, KeepsMarks}
 use Rattle.ipc_loop.proofs.turns.give_turns.Given as goal
 
@@ -7,6 +7,7 @@ abbrev pub invariant-loop-number : goal.invariant-loop-number
 invariant-loop-number g l = record {
   serves : Serves l.fn.hub (g.H.Host.moves l.fn.host) (port_at l.fn.ports.all) l.hub (g.H.Host.moves l.host) (port_at l.ports.all);
   marks : KeepsMarks l.fn.hub (open_at l.fn.ports.all) l.hub (open_at l.ports.all);
+  closes : OnlyCloses l.fn.ports.all l.ports.all;
 }
 
 abbrev pub decreases-loop-number : goal.decreases-loop-number

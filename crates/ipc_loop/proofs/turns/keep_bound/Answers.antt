@@ -1,6 +1,8 @@
+use Rattle.std.proofs.Common.{refl}
 use Rattle.ipc_loop.proofs.ServingLemmas.{served_nothing, same_serves}
 use Rattle.ipc_loop.proofs.PortLemmas.{empty_slot}
 use Rattle.ipc_loop.proofs.TurnLemmas.{turned_serves, turned_keeps, taken_serves, taken_keeps}
+use Rattle.ipc_loop.proofs.OpeningLemmas.{closes_same, settled_closes}
 use Rattle.ipc_loop.proofs.turns.keep_bound.Goals as goal
 
 pub settle-requires : goal.settle-requires
@@ -21,3 +23,12 @@ returns-in-Some-clause-marks g c =
 
 pub returns-in_default-clause-serves : goal.returns-in_default-clause-serves
 returns-in_default-clause-serves g c = same_serves _ _ _ _ c.in_default.ensures.none
+
+pub returns-then-desk-le-MOST_UNFINISHED-clause-closes : goal.returns-then-desk-le-MOST_UNFINISHED-clause-closes
+returns-then-desk-le-MOST_UNFINISHED-clause-closes g c = closes_same _ _ refl
+
+pub returns-in-Some-clause-closes : goal.returns-in-Some-clause-closes
+returns-in-Some-clause-closes g c = settled_closes c.largest-number.result _ _ _ _ _ c.in-Some.ensures.port c.settle.ensures.settled
+
+pub returns-in_default-clause-closes : goal.returns-in_default-clause-closes
+returns-in_default-clause-closes g c = closes_same _ _ c.in_default.ensures.none

@@ -1,10 +1,11 @@
-use Rattle.std.proofs.Common.{ap}
+use Rattle.std.proofs.Common.{ap, refl}
 use Rattle.ipc_loop.specs.Ports.{Port}
 use Rattle.ipc_loop.proofs.MoveLemmas.{go_nowhere}
 use Rattle.ipc_loop.proofs.OwingLemmas.{same_keep}
 use Rattle.ipc_loop.proofs.ServingLemmas.{served_nothing, same_serves, stays_serve}
 use Rattle.ipc_loop.proofs.PortLemmas.{empty_slot}
 use Rattle.ipc_loop.proofs.TurnLemmas.{turned_serves, turned_keeps, taken_serves, taken_keeps}
+use Rattle.ipc_loop.proofs.OpeningLemmas.{closes_same, settled_closes}
 use Rattle.ipc_loop.proofs.turns.note.Goals as goal
 
 pub returns-in_default-clause-serves : goal.returns-in_default-clause-serves
@@ -28,3 +29,12 @@ returns-in-Some-clause-marks g c =
 
 pub returns-in_default-take-clause-serves : goal.returns-in_default-take-clause-serves
 returns-in_default-take-clause-serves g c = same_serves _ _ _ _ c.in_default-take.ensures.none
+
+pub returns-in_default-clause-closes : goal.returns-in_default-clause-closes
+returns-in_default-clause-closes g c = closes_same _ _ refl
+
+pub returns-in-Some-clause-closes : goal.returns-in-Some-clause-closes
+returns-in-Some-clause-closes g c = settled_closes c.in-Link.number _ _ _ _ _ c.in-Some.ensures.port c.settle.ensures.settled
+
+pub returns-in_default-take-clause-closes : goal.returns-in_default-take-clause-closes
+returns-in_default-take-clause-closes g c = closes_same _ _ c.in_default-take.ensures.none

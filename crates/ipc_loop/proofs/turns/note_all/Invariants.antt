@@ -1,5 +1,5 @@
 use Rattle.std.proofs.Common.{◌≡◌}
-use Rattle.ipc_loop.specs.Ports.{port_at, open_at}
+use Rattle.ipc_loop.specs.Ports.{port_at, open_at, OnlyCloses}
 use Rattle.ipc_loop.specs.Serving.{Serves, KeepsMarks}
 use Rattle.ipc_loop.proofs.turns.note_all.Given as goal
 
@@ -8,4 +8,5 @@ invariant-loop g l = record {
   serves : Serves l.hub (g.H.Host.moves l.fn.host) (port_at l.fn.ports.all) l.hub (g.H.Host.moves l.host) (port_at l.ports.all);
   marks : KeepsMarks l.hub (open_at l.fn.ports.all) l.hub (open_at l.ports.all);
   turns : l.ports.turns ≡ l.fn.ports.turns;
+  closes : OnlyCloses l.fn.ports.all l.ports.all;
 }

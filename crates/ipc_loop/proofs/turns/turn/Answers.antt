@@ -1,5 +1,6 @@
 use Rattle.ipc_loop.proofs.ServingLemmas.{serves_both}
 use Rattle.ipc_loop.proofs.TurnLemmas.{turned_serves, turned_keeps}
+use Rattle.ipc_loop.proofs.OpeningLemmas.{turned_closes, closes_both}
 use Rattle.ipc_loop.proofs.turns.turn.Goals as goal
 
 pub returns-clause-serves : goal.returns-clause-serves
@@ -7,3 +8,6 @@ returns-clause-serves g c = serves_both _ _ _ _ _ _ _ _ _ (turned_serves c.args.
 
 pub returns-clause-marks : goal.returns-clause-marks
 returns-clause-marks g c = λ i owed. c.keep_bound.ensures.marks i (turned_keeps c.args.number c.args.hub.now c.serve.new.hub c.args.port.value c.deref_mut.result.now c.serve.new.self c.args.ports.now.all c.settle.new.ports.all c.deref_mut.ensures.value c.requires c.serve.ensures.marks c.settle.ensures.settled i owed)
+
+pub returns-clause-closes : goal.returns-clause-closes
+returns-clause-closes g c = closes_both _ _ _ (turned_closes c.args.number c.args.port.value _ c.args.ports.now.all _ c.requires c.settle.ensures.settled) c.keep_bound.ensures.closes

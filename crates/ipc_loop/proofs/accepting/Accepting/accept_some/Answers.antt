@@ -1,19 +1,32 @@
-use Rattle.std.proofs.Common.{refl, ◌∙◌}
-use Rattle.ipc_loop.proofs.ServingLemmas.{served_nothing, serves_both}
+use Rattle.std.proofs.Common.{refl, sym, subst, ◌∙◌}
+use Rattle.ipc_loop.specs.declared.accepting.Bounds.{Bounds}
+use Rattle.ipc_loop.specs.Bounds.{IsWithin}
+use Rattle.ipc_loop.proofs.ServingLemmas.{served_nothing}
+use Rattle.ipc_loop.proofs.OpeningLemmas.{goes_same, goes_both, adds_goes, adds_within}
+use Rattle.ipc_loop.proofs.AcceptingLemmas.{opens_both, opens_none}
 use Rattle.ipc_loop.proofs.accepting.Accepting.accept_some.Goals as goal
 
 pub loop-init : goal.loop-init
-loop-init g c = record { serves = served_nothing _ _ _; marks = λ i owed. owed; turns = refl }
+loop-init g c = record { serves = opens_none _ _ _ _ _ _ refl (served_nothing _ _ _); marks = λ i owed. owed; bounds = refl; within = λ w. w; continues = goes_same _; turns = refl }
 
 pub returns-then-not-goes_on-clause-serves : goal.returns-then-not-goes_on-clause-serves
-returns-then-not-goes_on-clause-serves g c = serves_both _ _ _ _ _ _ _ _ _ c.loop.invariant.serves c.accept-accepted.ensures.serves
+returns-then-not-goes_on-clause-serves g c = opens_both _ _ _ _ _ _ _ _ _ c.loop.invariant.continues (adds_goes _ _ c.accept-accepted.ensures.adds) c.loop.invariant.serves c.accept-accepted.ensures.serves
 
 pub returns-then-not-goes_on-clause-marks : goal.returns-then-not-goes_on-clause-marks
 returns-then-not-goes_on-clause-marks g c = λ i owed. c.accept-accepted.ensures.marks i (c.loop.invariant.marks i owed)
 
+pub returns-then-not-goes_on-clause-within : goal.returns-then-not-goes_on-clause-within
+returns-then-not-goes_on-clause-within g c = λ w. subst (λ (b : Bounds). IsWithin b c.accept-accepted.new.ports.all) c.loop.invariant.bounds (adds_within c.loop.self.bounds _ _ (c.if-not-is_open.ensures refl) c.accept-accepted.ensures.adds (subst (λ (b : Bounds). IsWithin b c.loop.ports.all) (sym c.loop.invariant.bounds) (c.loop.invariant.within w)))
+
+pub returns-then-not-goes_on-clause-continues : goal.returns-then-not-goes_on-clause-continues
+returns-then-not-goes_on-clause-continues g c = goes_both _ _ _ c.loop.invariant.continues (adds_goes _ _ c.accept-accepted.ensures.adds)
+
 pub loop-preserved : goal.loop-preserved
 loop-preserved g c = record {
-  serves = serves_both _ _ _ _ _ _ _ _ _ c.loop.invariant.serves c.accept-accepted.ensures.serves;
+  serves = opens_both _ _ _ _ _ _ _ _ _ c.loop.invariant.continues (adds_goes _ _ c.accept-accepted.ensures.adds) c.loop.invariant.serves c.accept-accepted.ensures.serves;
   marks = λ i owed. c.accept-accepted.ensures.marks i (c.loop.invariant.marks i owed);
+  bounds = c.if-not-goes_on.ensures ∙ c.loop.invariant.bounds;
+  within = λ w. subst (λ (b : Bounds). IsWithin b c.accept-accepted.new.ports.all) c.loop.invariant.bounds (adds_within c.loop.self.bounds _ _ (c.if-not-is_open.ensures refl) c.accept-accepted.ensures.adds (subst (λ (b : Bounds). IsWithin b c.loop.ports.all) (sym c.loop.invariant.bounds) (c.loop.invariant.within w)));
+  continues = goes_both _ _ _ c.loop.invariant.continues (adds_goes _ _ c.accept-accepted.ensures.adds);
   turns = c.accept-accepted.ensures.turns ∙ c.loop.invariant.turns;
 }

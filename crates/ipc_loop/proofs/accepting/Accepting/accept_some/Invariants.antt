@@ -1,11 +1,15 @@
 use Rattle.std.proofs.Common.{◌≡◌}
-use Rattle.ipc_loop.specs.Ports.{port_at, open_at}
-use Rattle.ipc_loop.specs.Serving.{Serves, KeepsMarks}
+use Rattle.ipc_loop.specs.Ports.{open_at, Continues}
+use Rattle.ipc_loop.specs.Bounds.{IsWithin}
+use Rattle.ipc_loop.specs.Serving.{ServesAndOpens, KeepsMarks}
 use Rattle.ipc_loop.proofs.accepting.Accepting.accept_some.Given as goal
 
 abbrev pub invariant-loop : goal.invariant-loop
 invariant-loop g l = record {
-  serves : Serves l.fn.hub (g.H.Host.moves l.fn.host) (port_at l.fn.ports.all) l.hub (g.H.Host.moves l.host) (port_at l.ports.all);
+  serves : ServesAndOpens l.fn.hub (g.H.Host.moves l.fn.host) l.fn.ports.all l.hub (g.H.Host.moves l.host) l.ports.all;
   marks : KeepsMarks l.fn.hub (open_at l.fn.ports.all) l.hub (open_at l.ports.all);
+  bounds : l.self.bounds ≡ l.fn.self.bounds;
+  within : IsWithin l.fn.self.bounds l.fn.ports.all → IsWithin l.fn.self.bounds l.ports.all;
+  continues : Continues l.fn.ports.all l.ports.all;
   turns : l.ports.turns ≡ l.fn.ports.turns;
 }

@@ -1,6 +1,14 @@
-use Rattle.std.proofs.Common.{◌∙◌}
-use Rattle.ipc_loop.proofs.StandingLemmas.{pushed_queued}
+use Rattle.std.proofs.Common.{◌≡◌, ◌≤◌, length, rules}
+use Rattle.ipc_loop.specs.Ports.{how_many_open}
+use Rattle.ipc_loop.specs.Standing.{seen}
+use Rattle.ipc_loop.proofs.KeepingLemmas.{open_below, kept_push}
 use Rattle.ipc_loop.proofs.ports.Ports.push.Goals as goal
 
-pub invariant_of-self-2 : goal.invariant_of-self-2
-invariant_of-self-2 c = pushed_queued _ _ _ _ _ _ _ c.in_ok-port.port c.self.invariant c.in_ok-reserve.ensures.items c.push_reserved.ensures.items (c.in_ok-port.ensures.ok ∙ c.new.ensures) c.in_ok-push.ensures.items
+pub invariant_of-self : goal.invariant_of-self
+invariant_of-self c = kept_push _ _ _ _ _ _ c.args.port _ c.self.invariant c.push_reserved.ensures.items c.requires.new c.push_reserved-2.ensures.items
+
+pub overflow_add-self : goal.overflow_add-self
+overflow_add-self c =
+    let few : how_many_open (seen c.self.inside.all.items) ≤ length c.self.inside.all.items = open_below c.self.inside.all.items in
+    let count : c.self.inside.open ≡ how_many_open (seen c.self.inside.all.items) = c.self.invariant.count in
+    search rules

@@ -1,14 +1,21 @@
-use Rattle.std.proofs.Common.{◌<◌, List, Option, Some, length, set, refl, ap, sym, subst, ◌∙◌}
+use Rattle.std.proofs.Common.{◌≡◌, ◌≤◌, length, List, Option, Some, None, set, slice_get, refl, ap, sym, subst, ◌∙◌, rules}
 use Rattle.ipc_hub.specs.Marking.{is_set}
-use Rattle.ipc_loop.specs.Ports.{Port, has_work}
-use Rattle.ipc_loop.specs.Standing.{Ports}
-use Rattle.ipc_loop.proofs.StandingLemmas.{put_queued, seen_set}
+use Rattle.ipc_loop.specs.Ports.{Port, has_work, how_many_open}
+use Rattle.ipc_loop.specs.Standing.{Ports, seen}
+use Rattle.ipc_loop.proofs.StandingLemmas.{seen_set}
+use Rattle.ipc_loop.proofs.KeepingLemmas.{open_below, kept_put}
 use Rattle.ipc_loop.proofs.ports.Ports.put.Goals as goal
+
+pub overflow_add-self : goal.overflow_add-self
+overflow_add-self c =
+    let few : how_many_open (seen c.self.inside.all.items) ≤ length c.self.inside.all.items = open_below c.self.inside.all.items in
+    let count : c.self.inside.open ≡ how_many_open (seen c.self.inside.all.items) = c.self.invariant.count in
+    search rules
 
 pub invariant_of-self : goal.invariant_of-self
 invariant_of-self c =
-    put_queued c.self.inside.all.items c.self.inside.queued.items c.self.inside.turns.items c.self.inside.next.items c.args.number c.args.port
-    (subst (λ (zs : List (Option Port)). c.args.number < length zs) (sym (ap (λ (p : Ports). p.all) c.self.view_is ∙ c.queue.ensures.all)) c.requires)
+    kept_put c.self.inside.all.items c.self.inside.queued.items c.self.inside.turns.items c.self.inside.next.items c.args.number c.args.port c.self.inside.open
+    (subst (λ (zs : List (Option Port)). slice_get zs c.args.number ≡ Some None) (sym (ap (λ (p : Ports). p.all) c.self.view_is ∙ c.queue.ensures.all)) c.requires.out)
     (λ w. ap (λ (p : Ports). is_set p.queued c.args.number) c.self.view_is ∙ c.if-not-queue.ensures.queued refl (c.has_work-has_work.ensures ∙ ap has_work c.deref.ensures ∙ w))
     c.self.invariant
 

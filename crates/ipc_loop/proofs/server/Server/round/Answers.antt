@@ -1,15 +1,23 @@
 use Rattle.std.proofs.Common.{List, Option, refl, sym, subst, ◌∙◌}
-use Rattle.ipc_loop.specs.Ports.{Port, port_at, open_at}
+use Rattle.ipc_loop.specs.declared.accepting.Bounds.{Bounds}
+use Rattle.ipc_loop.specs.Ports.{Port, port_at, open_at, Continues}
+use Rattle.ipc_loop.specs.Bounds.{IsWithin}
 use Rattle.ipc_loop.specs.Server.{Server}
-use Rattle.ipc_loop.specs.Serving.{Serves, IsOwedByMark}
+use Rattle.ipc_loop.specs.Serving.{Serves, ServesAndOpens, IsOwedByMark}
 use Rattle.ipc_loop.proofs.ServingLemmas.{served_nothing, serves_both, moved_so}
+use Rattle.ipc_loop.proofs.OpeningLemmas.{closes_same, closes_both, closes_goes, closes_within, goes_same, goes_both}
+use Rattle.ipc_loop.proofs.AcceptingLemmas.{opens_both, opens_none}
 use Rattle.ipc_loop.proofs.server.Server.round.Goals as goal
 
 pub returns-in_err-wait-clause-serves : goal.returns-in_err-wait-clause-serves
 returns-in_err-wait-clause-serves g c =
-    subst (λ (s : Server). Serves s.hub (g.H.Host.moves c.args.host.now) (port_at s.ports) c.self.inside.hub (g.H.Host.moves c.wait.new.self) (port_at c.self.inside.ports.all)) c.self.view_is
+    subst (λ (s : Server). ServesAndOpens s.hub (g.H.Host.moves c.args.host.now) s.ports c.self.inside.hub (g.H.Host.moves c.wait.new.self) c.self.inside.ports.all) c.self.view_is
+    (opens_none _ _ _ _ _ _ refl
     (moved_so c.self.inside.hub c.self.inside.hub (g.H.Host.moves c.args.host.now) (g.H.Host.moves c.args.host.now) (g.H.Host.moves c.args.host.now) (g.H.Host.moves c.wait.new.self) (port_at c.self.inside.ports.all) (port_at c.self.inside.ports.all) refl (c.wait.ensures.moved ∙ c.moment-now.ensures.moved)
-    (served_nothing c.self.inside.hub (g.H.Host.moves c.args.host.now) (port_at c.self.inside.ports.all)))
+    (served_nothing c.self.inside.hub (g.H.Host.moves c.args.host.now) (port_at c.self.inside.ports.all))))
+
+pub returns-in_err-wait-clause-continues : goal.returns-in_err-wait-clause-continues
+returns-in_err-wait-clause-continues g c = subst (λ (s : Server). Continues s.ports c.self.inside.ports.all) c.self.view_is (goes_same c.self.inside.ports.all)
 
 pub answer_all-requires : goal.answer_all-requires
 answer_all-requires g c = λ i.
@@ -18,14 +26,31 @@ answer_all-requires g c = λ i.
     (c.make_ticks.ensures.marks (open_at c.accept_some.new.ports.all) i (c.accept_some.ensures.marks i (c.note_all-is_told.ensures.marks i (c.self.invariant.marked i)))))
 
 pub invariant_of-self-2 : goal.invariant_of-self-2
-invariant_of-self-2 g c = record { turns = c.answer_all.ensures.turns ∙ c.give_turns.ensures.turns; marked = λ i u. c.answer_all.ensures.rests i }
+invariant_of-self-2 g c =
+    let closes = closes_both _ _ _ (closes_same _ _ c.start_round.ensures.all) (closes_both _ _ _ c.give_turns.ensures.closes c.answer_all.ensures.closes) in
+    record {
+      turns = c.answer_all.ensures.turns ∙ c.give_turns.ensures.turns;
+      marked = λ i u. c.answer_all.ensures.rests i;
+      within =
+          subst (λ (b : Bounds). IsWithin b c.answer_all.new.ports.all) (sym c.accept_some.ensures.bounds)
+          (closes_within _ _ _ closes (c.accept_some.ensures.within (closes_within _ _ _ c.note_all-is_told.ensures.closes c.self.invariant.within)));
+    }
 
 pub returns-clause-serves : goal.returns-clause-serves
 returns-clause-serves g c =
     let noted = moved_so c.self.inside.hub c.self.inside.hub (g.H.Host.moves c.wait.new.self) (g.H.Host.moves c.note_all-is_told.new.host) (g.H.Host.moves c.args.host.now) (g.H.Host.moves c.note_all-is_told.new.host) (port_at c.self.inside.ports.all) (port_at c.note_all-is_told.new.ports.all) (c.wait.ensures.moved ∙ c.moment-now.ensures.moved) refl c.note_all-is_told.ensures.serves in
-    let accepted = serves_both _ _ _ _ _ _ _ _ _ noted c.accept_some.ensures.serves in
-    let ticked = serves_both _ _ _ _ _ _ _ _ _ accepted (c.make_ticks.ensures.serves (g.H.Host.moves c.accept_some.new.host) (port_at c.accept_some.new.ports.all)) in
+    let begun = closes_goes _ _ c.note_all-is_told.ensures.closes in
+    let accepted = opens_both _ _ _ _ _ _ _ _ _ begun c.accept_some.ensures.continues (opens_none _ _ _ _ _ _ c.note_all-is_told.ensures.closes.count noted) c.accept_some.ensures.serves in
+    let ticked = c.make_ticks.ensures.serves (g.H.Host.moves c.accept_some.new.host) (port_at c.accept_some.new.ports.all) in
     let turns = moved_so _ _ _ _ (g.H.Host.moves c.accept_some.new.host) _ _ _ c.moment-later.ensures.moved refl c.give_turns.ensures.serves in
     let turned = subst (λ (zs : List (Option Port)). Serves c.make_ticks.new.hub (g.H.Host.moves c.accept_some.new.host) (port_at zs) c.give_turns.new.hub (g.H.Host.moves c.give_turns.new.host) (port_at c.give_turns.new.ports.all)) c.start_round.ensures.all turns in
-    let all = serves_both _ _ _ _ _ _ _ _ _ (serves_both _ _ _ _ _ _ _ _ _ ticked turned) c.answer_all.ensures.serves in
-    subst (λ (s : Server). Serves s.hub (g.H.Host.moves c.args.host.now) (port_at s.ports) c.answer_all.new.hub (g.H.Host.moves c.answer_all.new.host) (port_at c.answer_all.new.ports.all)) c.self.view_is all
+    let rest = serves_both _ _ _ _ _ _ _ _ _ (serves_both _ _ _ _ _ _ _ _ _ ticked turned) c.answer_all.ensures.serves in
+    let closes = closes_both _ _ _ (closes_same _ _ c.start_round.ensures.all) (closes_both _ _ _ c.give_turns.ensures.closes c.answer_all.ensures.closes) in
+    let all = opens_both _ _ _ _ _ _ _ _ _ (goes_both _ _ _ begun c.accept_some.ensures.continues) (closes_goes _ _ closes) accepted (opens_none _ _ _ _ _ _ closes.count rest) in
+    subst (λ (s : Server). ServesAndOpens s.hub (g.H.Host.moves c.args.host.now) s.ports c.answer_all.new.hub (g.H.Host.moves c.answer_all.new.host) c.answer_all.new.ports.all) c.self.view_is all
+
+pub returns-clause-continues : goal.returns-clause-continues
+returns-clause-continues g c =
+    let closes = closes_both _ _ _ (closes_same _ _ c.start_round.ensures.all) (closes_both _ _ _ c.give_turns.ensures.closes c.answer_all.ensures.closes) in
+    subst (λ (s : Server). Continues s.ports c.answer_all.new.ports.all) c.self.view_is
+    (goes_both _ _ _ (goes_both _ _ _ (closes_goes _ _ c.note_all-is_told.ensures.closes) c.accept_some.ensures.continues) (closes_goes _ _ closes))
