@@ -1,9 +1,10 @@
-//! Runs rows of data whose outcome is known, and prints for each whether it comes out so: scripts, and streams through a hub.
-//! With the word `streams` it runs these alone.
+//! Runs rows of data whose outcome is known, and prints for each whether it comes out so: scripts, streams through a hub, and
+//! the same streams over links. With the word `streams` it leaves out the scripts.
 #![tactic(auto)]
 
 mod files;
 mod scripts;
+mod served;
 mod streams;
 
 use anyhow::Result;
@@ -14,5 +15,6 @@ fn main(rt: HostRuntime) -> Result<()> {
     if words.get(1).is_none_or(|word| word.as_str() != "streams") {
         scripts::run(&rt)?;
     }
-    streams::run(&rt)
+    streams::run(&rt)?;
+    served::run(&rt)
 }

@@ -7,14 +7,14 @@
 
 mod answers;
 mod calls;
-mod common;
+pub mod common;
 mod feeds;
 mod stream;
 
 use anyhow::Result;
 
 /// The streams, in the order in which they are fed.
-const STREAMS: [&str; 18] = [
+pub const STREAMS: [&str; 18] = [
     "open_that_creates",
     "send_and_receive",
     "interrupt_of_nothing",

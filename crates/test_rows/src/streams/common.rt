@@ -1,4 +1,4 @@
-//! What streams and calls have in common: the hub that they are fed to, and the bytes that digits mean.
+//! What streams and calls have in common: the users, the hub that they are fed to, and the bytes that digits mean.
 
 use anyhow::Result;
 use ipc_access::Users;
@@ -9,11 +9,15 @@ use std::alloc::Global;
 const USERS: &[u8] =
     b"root:r00t:0:0::\nann:ka1:1000:1000:50:\nbob:kb1:1001:1001:50,51:\ncy:kc1:1002:1002::\n";
 
-/// A hub of these users and the standard limits.
-pub fn new_hub(alloc: Global) -> Result<Hub> {
+/// These users and the standard limits.
+pub fn config(alloc: Global) -> Result<Config> {
     let users = Users::read(alloc, USERS)?;
     let limits = Limits::STANDARD;
-    Ok(Hub::new(alloc, Config { users, limits })?)
+    Ok(Config { users, limits })
+}
+
+pub fn new_hub(alloc: Global) -> Result<Hub> {
+    Ok(Hub::new(alloc, config(alloc)?)?)
 }
 
 /// The bytes whose hexadecimal digits stand in the words.
