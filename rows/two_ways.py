@@ -1,16 +1,22 @@
 #!/usr/bin/env python3
 """Plays random scripts two ways and compares every answer: once through `mqserve script`, and once step by step through
-`mqserve serve`, where each label is a client with a connection of its own; by workers and on one thread.
+`mqserve serve`, where each label is a client with a connection of its own; by workers and on one thread, one of them over TCP
+and the other at a Unix socket, by turns.
 
 A script has sessions of four users and calls of every kind, most of them sensible. Each answer must come to the same session,
-with the same words. `two_ways.py [COUNT] [SEED]` plays so many scripts, 50 where nothing is given; the last line counts the
-scripts and the answers that were compared. The programs are those that the gate or a build left.
+with the same words. Deadlines of timed calls are long past, just past, 40 ms ahead or an hour ahead: a script, whose time goes
+by ticks, gets a tick behind a call whose deadline comes. Pages of the audit must have the same lines; the server's trail also has
+its own ticks and the looks of the session that watches it, which don't count.
+
+`two_ways.py [COUNT] [SEED]` plays so many scripts, 50 where nothing is given; the last line counts the scripts and the answers
+that were compared. The programs are those that the gate or a build left.
 """
 
 import argparse
 import collections
 import pathlib
 import random
+import re
 import select
 import socket
 import struct
@@ -29,6 +35,9 @@ KEYS = ("r00t", "ka1", "kb1", "kc1", "unknown")
 # The words of each server that a script is played at.
 SERVERS = (("--workers", "8"), ("--one-thread",))
 
+# The kinds of addresses. A script is played at both servers, each at another kind, and the next the other way round.
+ADDRESSES = ("tcp", "unix")
+
 # The session that looks whether a step without an answer was recorded. Scripts don't use it.
 WATCH = "watch"
 
@@ -38,6 +47,16 @@ PARTING, PARTED = "?", "- fault line"
 SECONDS = 20
 STEPS = 120
 LATEST = 2**64 - 1
+
+# Deadlines that a step names by a word: the milliseconds from the server's clock, and those from the script's, which goes on by
+# MILLISECONDS with each step. The tick of a script comes behind both.
+DEADLINES = {"JUST_PAST": (-10, -10), "SOON": (40, 50)}
+MILLISECONDS, TICK, FIRST_MOMENT = 100, 60, 1_000_000
+LATER = "LATER"
+HOUR = 3_600_000
+
+# The place in an audit's line of a hello's session and of a tick's, and the calls of lines that aren't requests.
+NOBODY, AUDIT, TICKED = 2**64 - 1, 24, 29
 
 
 class Wrong(Exception):
@@ -56,8 +75,20 @@ class Script:
         for label in self.labels:
             self.steps.append((label, f"hello {dice.choice(KEYS[:4])}"))
             self.steps.append((label, f"umask {dice.choice(('0', '022', '077'))}"))
+        # Descriptions 0 and 1 are of the first label, so calls by them wait until their deadlines come.
+        self.add_open("sem-open /late --create")
+        self.add_open("mq-open /late rw --create --maxmsg 1 --msgsize 8")
         while len(self.steps) < STEPS:
             self.add_one()
+
+    def add_open(self, words):
+        self.steps.append((self.labels[0], words))
+        self.opens += 1
+
+    def late_call(self):
+        deadline = self.dice.choice((*DEADLINES, LATER))
+        calls = ("sem-timedwait 0 {}", "mq-timedreceive 1 8 {}", "mq-timedsend 1 0 {} m", "mq-timedsend 1 9 {} m")
+        return self.dice.choice(calls).format(deadline)
 
     def name(self):
         return self.dice.choice(("/a", "/a", "/b", "/c", "/d", "a", "/a/b"))
@@ -67,7 +98,7 @@ class Script:
         return self.dice.choice((recent - 1, recent - 1, self.dice.randrange(recent + 1), self.dice.randrange(recent + 1)))
 
     def deadline(self):
-        return self.dice.choice((0, LATEST))
+        return self.dice.choice((0, *DEADLINES, LATER, LATEST))
 
     def opening(self):
         dice, self.opens = self.dice, self.opens + 1
@@ -126,7 +157,12 @@ class Script:
         chance = dice.random()
         if chance < 0.04:
             self.steps += [(label, "hangup"), (label, f"hello {dice.choice(KEYS)}")]
-        elif chance < 0.2:
+        elif chance < 0.08:
+            self.steps.append((self.labels[0], self.late_call()))
+        elif chance < 0.11:
+            start, count = dice.choice((0, 0, dice.randrange(STEPS))), dice.choice((3, 40, 1000, 65_535))
+            self.steps.append((label, f"audit {start} {count}"))
+        elif chance < 0.24:
             self.steps.append((label, self.opening()))
         elif chance < 0.6:
             self.steps.append((label, self.message_call()))
@@ -136,12 +172,29 @@ class Script:
             self.steps.append((label, self.other_call()))
 
 
+def has_come(words):
+    """Whether a step has a deadline that comes while it is played."""
+    return any(word in words for word in DEADLINES)
+
+
+def with_deadlines(words, moment, clock):
+    """A step with numbers for its deadlines, at this moment of the server's clock (0) or the script's (1)."""
+    for word, ahead in DEADLINES.items():
+        words = words.replace(word, str(moment + ahead[clock]))
+    return words.replace(LATER, str(moment + HOUR))
+
+
 # ---- the first way: a script
 
 
 def by_script(steps):
     """What each step is answered: for each label its lines, in order."""
-    given = USERS + ".\n" + f"{WATCH} hello r00t\n{PARTING}\n" + "".join(f"{a} {b}\n{PARTING}\n" for a, b in steps)
+    given = USERS + ".\n" + f"{WATCH} hello r00t\n{PARTING}\n"
+    for number, (label, words) in enumerate(steps):
+        moment = FIRST_MOMENT + MILLISECONDS * number
+        given += f"{label} {with_deadlines(words, moment, 1)}\n"
+        given += f"{WATCH} tick {moment + TICK}\n" if has_come(words) else ""
+        given += f"{PARTING}\n"
     ran = subprocess.run([SERVER, "script"], input=given, capture_output=True, text=True, timeout=SECONDS)
     parts = ran.stdout.split(PARTED + "\n")
     if ran.returncode or len(parts) != len(steps) + 2:
@@ -154,8 +207,17 @@ def by_script(steps):
 
 def frames_of(commands):
     """The request of each command, by `mqctl`; None where it has none."""
-    ran = subprocess.run([CLIENT], input="".join(f"{it}\n" for it in commands), capture_output=True, text=True, timeout=SECONDS)
+    given = "".join(f"{with_deadlines(it, FIRST_MOMENT, 0)}\n" for it in commands)
+    ran = subprocess.run([CLIENT], input=given, capture_output=True, text=True, timeout=SECONDS)
     return [None if line.startswith("fault") else bytes.fromhex(line) for line in ran.stdout.splitlines()]
+
+
+def with_deadline_now(request, words):
+    """The request of a timed call, whose deadline is that of a step made now."""
+    at, behind = {26: (17, 25), 27: (17, 25), 28: (13, 21)}[request[4]]
+    moment = time.time_ns() // 1_000_000
+    ahead = next((ahead[0] for word, ahead in DEADLINES.items() if word in words), HOUR)
+    return request[:at] + (moment + ahead).to_bytes(8, "big") + request[behind:]
 
 
 RULES = {}
@@ -185,6 +247,45 @@ def names_in(fields):
     return " ".join([f"names {count}", *names])
 
 
+COMMANDS = {}
+
+
+def command_of(number):
+    """The first word of the command of a request's opcode, from docs/FRAMES.md."""
+    if not COMMANDS:
+        COMMANDS.update({25: "hangup", TICKED: "tick"})
+        for code, name in re.findall(r"(?m)^ ?(\d+) ([A-Z]\w+)", (TOP / "docs/FRAMES.md").read_text(encoding="utf-8")):
+            word = re.sub(r"^(Mq|Sem|Set)", r"\1-", name).lower()
+            COMMANDS[int(code)] = {"listnames": "ls", "statname": "stat"}.get(word, word)
+    return COMMANDS.get(number, str(number))
+
+
+def records_in(fields):
+    """The lines of a page of the trail: each its place, session, call, rule and name."""
+    (count,), at, records = struct.unpack_from(">H", fields), 2, []
+    for _ in range(count):
+        place, session, call, rule, size = struct.unpack_from(">QQBHH", fields, at)
+        records.append((place, session, call, rule, fields[at + 21 : at + 21 + size]))
+        at += 21 + size
+    return records
+
+
+def page_of(records):
+    """A page without places, ticks, and the looks of the session that watches."""
+    lines = []
+    for _, session, call, rule, name in records:
+        if call != TICKED and (session, call) != (0, AUDIT):
+            who = "-" if session == NOBODY else session
+            lines.append(f"{who}:{command_of(call)}:{rule}:{printed(name) if name else 'hex:'}")
+    return " ".join(["page", *lines])
+
+
+def page_in(line):
+    """The same of an audit's line that a script printed."""
+    lines = [word.split(":", 1)[1] for word in line.split(" ")[2:]]
+    return " ".join(["page", *(it for it in lines if it.split(":")[1] != "tick")])
+
+
 def line_of(opcode, fields):
     """The line of an answer, read anew from docs/FRAMES.md and docs/SCRIPTS.md."""
     word = {65: "started", 67: "opened", 72: "value", 78: "notice", 79: "taken"}.get(opcode)
@@ -202,18 +303,31 @@ def line_of(opcode, fields):
         return names_in(fields)
     if opcode == 74:
         return "stat {} {} {:04o}".format(*struct.unpack(">IIH", fields))
+    if opcode == 75:
+        return page_of(records_in(fields))
     if opcode == 76:
         number = int.from_bytes(fields, "big")
         return f"refused {number} {rules().get(number)}"
     return f"answer {opcode} {fields.hex()}"
 
 
+def connected(address):
+    """A connection to a port of this machine, or to a socket's file."""
+    if isinstance(address, int):
+        stream = socket.create_connection(("127.0.0.1", address), SECONDS)
+        stream.setsockopt(socket.IPPROTO_TCP, socket.TCP_NODELAY, 1)
+        return stream
+    stream = socket.socket(socket.AF_UNIX)
+    stream.settimeout(SECONDS)
+    stream.connect(str(address))
+    return stream
+
+
 class Session:
     """A client's connection, whose answers are read as they are asked for."""
 
-    def __init__(self, port, key):
-        self.stream, self.kept, self.come = socket.create_connection(("127.0.0.1", port), SECONDS), b"", collections.deque()
-        self.stream.setsockopt(socket.IPPROTO_TCP, socket.TCP_NODELAY, 1)
+    def __init__(self, address, key):
+        self.stream, self.kept, self.come = connected(address), b"", collections.deque()
         key = key.encode()
         self.stream.sendall(struct.pack(">IBH", 3 + len(key), 1, len(key)) + key)
 
@@ -239,17 +353,23 @@ class Session:
 class Server:
     """A server, the sessions of a script's labels, and the session that watches the trail."""
 
-    def __init__(self, folder, words):
-        with socket.socket() as probe:
-            probe.bind(("127.0.0.1", 0))
-            self.port = probe.getsockname()[1]
+    def __init__(self, folder, words, kind):
+        if kind == "unix":
+            self.address = pathlib.Path(folder) / f"socket{words[0]}"
+            spelled = f"unix:{self.address}"
+        else:
+            with socket.socket() as probe:
+                probe.bind(("127.0.0.1", 0))
+                self.address = probe.getsockname()[1]
+            spelled = f"127.0.0.1:{self.address}"
         users = pathlib.Path(folder) / "users"
         users.write_text(USERS)
-        command = [SERVER, "serve", users, f"127.0.0.1:{self.port}", *words]
+        command = [SERVER, "serve", users, spelled, *words]
         self.process = subprocess.Popen(command, stdin=subprocess.DEVNULL, stdout=subprocess.PIPE, text=True)
         if not self.process.stdout.readline():
             raise Wrong("the server doesn't start")
-        self.sessions, self.records = {}, 0
+        # How many steps were made that the trail must have, the places of those that were seen there, and the place after.
+        self.sessions, self.made, self.places, self.looked = {}, 0, [], 0
         self.started(WATCH, "r00t")
 
     def end(self):
@@ -261,32 +381,44 @@ class Server:
 
     def started(self, label, key):
         """A session of its own for the label, where its key is known; what the hello was answered."""
-        session = Session(self.port, key)
+        session = Session(self.address, key)
         opcode, fields = session.answer()
-        self.records += 1
+        self.made += 1
         if opcode == 65:
             self.sessions[label] = session
         else:
             session.stream.close()
         return [(label, line_of(opcode, fields))]
 
-    def wait_for_record(self):
-        """Until the step that has no answer is in the trail. Each look is a record too."""
-        place, start = self.records, time.monotonic()
-        self.records += 1
-        while True:
-            self.sessions[WATCH].stream.sendall(struct.pack(">IBQH", 11, 24, place, 1))
-            opcode, fields = self.sessions[WATCH].answer()
-            self.records += 1
-            if opcode != 75:
-                raise Wrong(f"the audit is answered {opcode}")
-            # An audit that came first has the place that the step was to have.
-            if fields[:2] == b"\0\1" and fields[18] != 24:
-                return
-            place += fields[:2] == b"\0\1"
+    def look(self):
+        """Notes the places of the steps that the trail got since the last look, which is a record too."""
+        self.sessions[WATCH].stream.sendall(struct.pack(">IBQH", 11, AUDIT, self.looked, 1000))
+        opcode, fields = self.sessions[WATCH].answer()
+        if opcode != 75:
+            raise Wrong(f"the audit is answered {opcode}")
+        for place, session, call, _, _ in records_in(fields):
+            self.looked = place + 1
+            if call != TICKED and (session, call) != (0, AUDIT):
+                self.places.append(place)
+
+    def wait_for_records(self):
+        """Until all steps that were made are in the trail."""
+        start, pause = time.monotonic(), 0.001
+        self.look()
+        while len(self.places) < self.made:
             if time.monotonic() - start > SECONDS:
                 raise Wrong("a step was never recorded")
-            time.sleep(0.001)
+            time.sleep(pause)
+            pause = min(2 * pause, 0.1)
+            self.look()
+
+    def audit(self, first, count):
+        """The request for the page of so many steps from the first on."""
+        self.wait_for_records()
+        if not count:
+            return struct.pack(">IBQH", 11, AUDIT, self.looked + 10_000, 1)
+        start, last = self.places[first], self.places[first + count - 1]
+        return struct.pack(">IBQH", 11, AUDIT, start, last + 1 - start)
 
     def step(self, label, words, request, wanted):
         """Makes the step, and gives the answers that came to the sessions which must get some."""
@@ -295,25 +427,52 @@ class Server:
             return self.started(label, rest[0])
         if request is None and verb != "hangup":
             return wanted
+        self.made += 1
         if verb == "hangup":
             self.sessions.pop(label).stream.close()
         else:
             self.sessions[label].stream.sendall(request)
         if not wanted:
-            self.wait_for_record()
-        else:
-            self.records += 1
+            self.wait_for_records()
         return [(to, line_of(*self.sessions[to].answer())) for to, _ in wanted]
 
 
-def by_server(steps, wanted, folder, words):
-    """Plays the steps at a server with these words, and compares what each is answered."""
+class Trail:
+    """What a script's trail has: which of its records are ticks."""
+
+    def __init__(self):
+        self.are_ticks = [False]
+
+    def add(self, words, request):
+        if request is not None or words.split(" ")[0] in ("hello", "hangup"):
+            self.are_ticks.append(False)
+        if has_come(words):
+            self.are_ticks.append(True)
+
+    def steps_of(self, words):
+        """The first step of the page that the words ask for, and how many steps are on it."""
+        _, start, count = words.split(" ")
+        first, count = int(start), min(int(count), 1000)
+        return self.are_ticks[:first].count(False), self.are_ticks[first : first + count].count(False)
+
+
+def request_now(server, trail, step, request):
+    """The step's request, with the deadline or the page that it has at this server."""
+    if request is not None and any(word in step for word in (*DEADLINES, LATER)):
+        return with_deadline_now(request, step)
+    return server.audit(*trail.steps_of(step)) if request is not None and step.startswith("audit ") else request
+
+
+def by_server(steps, wanted, folder, words, kind):
+    """Plays the steps at a server with these words and an address of this kind, and compares what each is answered."""
     requests = frames_of([words for _, words in steps])
-    server, compared = Server(folder, words), 0
+    server, trail, compared = Server(folder, words, kind), Trail(), 0
     try:
         for number, ((label, step), request, answers) in enumerate(zip(steps, requests, wanted)):
             if step.startswith("hello ") or label in server.sessions:
-                came = server.step(label, step, request, answers)
+                answers = [(to, page_in(line) if line.startswith("records ") else line) for to, line in answers]
+                came = server.step(label, step, request_now(server, trail, step, request), answers)
+                trail.add(step, request)
                 if came != answers:
                     raise Wrong(f"step {number}, {label} {step}: the script has {answers}, the server {came}")
                 compared += len(answers)
@@ -350,12 +509,12 @@ def main():
     for seed in range(given.seed, given.seed + given.count):
         steps = playable(Script(random.Random(seed)).steps)
         with tempfile.TemporaryDirectory(prefix="two-ways-") as folder:
-            for words in SERVERS:
+            for words, kind in zip(SERVERS, ADDRESSES[:: 1 if seed % 2 else -1]):
                 try:
-                    compared += by_server(steps, by_script(steps), folder, words)
+                    compared += by_server(steps, by_script(steps), folder, words, kind)
                 except (Wrong, OSError) as fault:
                     failed += 1
-                    print(f"seed {seed}, {' '.join(words)}: {type(fault).__name__}: {fault}")
+                    print(f"seed {seed}, {' '.join(words)}, {kind}: {type(fault).__name__}: {fault}")
     print(f"{given.count} scripts played two ways, {compared} answers compared, {failed} differ")
     sys.exit(1 if failed or not compared else 0)
 
