@@ -7,8 +7,9 @@ use Rattle.std.proofs.lemmas.Bool.{cases_lt}
 use Rattle.std.proofs.lemmas.Bool.Decides.{nat_tests}
 use Rattle.std.proofs.lemmas.List.{length_push, length-append, append_assoc, append-nil}
 use Rattle.ipc_terms.specs.Lists.{changed}
-use Rattle.ipc_numbered.specs.Slots.{at}
+use Rattle.ipc_numbered.specs.Slots.{at, how_many_filled, most_slots}
 use Rattle.ipc_numbered.specs.Numbers.{older_slots, AllBelow}
+use Rattle.ipc_numbered.proofs.SlotsLemmas.{filled_append}
 
 -- ---- the values below a number
 
@@ -56,6 +57,29 @@ absent_alike p (x ∷ es) (f ∷ fs) e none =
 
 pub keys_below : {V : Type 0} (m k : BTreeMap ℕ V) (n : ℕ) → keys k ≡ keys m → AllBelow m n → AllBelow k n
 keys_below m k n same below j le = absent_alike (is_at (nat_cmp j)) m.entries k.entries same (below j le)
+
+-- and as many stand
+filled_alike : {V : Type 0} (was is : Option V) → (was ≡ None → is ≡ None) → (is ≡ None → was ≡ None) → how_many_filled (is ∷ []) ≡ how_many_filled (was ∷ [])
+filled_alike None None there back = refl
+filled_alike (Some x) (Some y) there back = refl
+filled_alike None (Some y) there back = absurd (let none = there refl in cc)
+filled_alike (Some x) None there back = absurd (let none = back refl in cc)
+
+older_filled : {V : Type 0} (m k : BTreeMap ℕ V) (n : ℕ) → keys k ≡ keys m → how_many_filled (older_slots k n) ≡ how_many_filled (older_slots m n)
+older_filled m k zero same = refl
+older_filled m k (suc n) same =
+    let rest = older_filled m k n same in
+    let before = filled_append (older_slots m n) (get nat_cmp m n ∷ []) in
+    let after = filled_append (older_slots k n) (get nat_cmp k n ∷ []) in
+    let last = filled_alike (get nat_cmp m n) (get nat_cmp k n) (absent_alike (is_at (nat_cmp n)) m.entries k.entries same) (absent_alike (is_at (nat_cmp n)) k.entries m.entries (sym same)) in
+    omega arith
+
+pub same_most : {V : Type 0} (m k : BTreeMap ℕ V) (n : ℕ) (recent : List (Option V)) → keys k ≡ keys m → most_slots (older_slots k n ++ recent) ≡ most_slots (older_slots m n ++ recent)
+same_most m k n recent same =
+    let before = filled_append (older_slots m n) recent in
+    let after = filled_append (older_slots k n) recent in
+    let alike = older_filled m k n same in
+    omega arith
 
 pub under : (number base : ℕ) → (base ≤ number → ⊥) → number < base
 under number base above = ⊎_elim (λ less. less) (λ past. absurd (above past)) (cases_lt number base)

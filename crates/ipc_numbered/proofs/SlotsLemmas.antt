@@ -1,14 +1,15 @@
 -- What is found in a slot, and what taking it or writing there leaves.
-use Rattle.std.proofs.Common.{◌≡◌, ℕ, zero, suc, ◌+◌, ◌≤◌, List, [], ◌∷◌, ◌++◌, length, set, drop, ◌<◌, true, rules, Option, Some, None, refl, sym, ap, ◌∙◌, slice_get, arith}
+use Rattle.std.proofs.Common.{◌≡◌, ℕ, zero, suc, ◌+◌, ◌-◌, ◌≤◌, List, [], ◌∷◌, ◌++◌, length, set, take, drop, ◌<◌, true, false, rules, Option, Some, None, refl, sym, ap, ◌∙◌, slice_get, arith}
 use Rattle.std.specs.Borrow.{MutBor}
 use Rattle.std.specs.Bool.{if◌then◌else◌}
 use Rattle.std.specs.List.{IsItemAtMut}
 use Rattle.std.specs.Prelude.{min}
 use Rattle.std.specs.Option.{OnSome, IsSome, is_some, option_copied_mut}
+use Rattle.std.proofs.lemmas.Bool.Decides.{nat_tests}
 use Rattle.std.proofs.lemmas.Option.{slice_get_past, slice_get_read, slice_get_within}
 use Rattle.std.proofs.lemmas.List.{length-drop, drop-set-add, drop-append-le}
 use Rattle.ipc_terms.specs.Lists.{changed}
-use Rattle.ipc_numbered.specs.Slots.{at, emptied, how_many_filled, is_sparse}
+use Rattle.ipc_numbered.specs.Slots.{at, emptied, how_many_filled, is_sparse, most_slots}
 
 -- what `get_mut` found
 pub found : {X : Type 0} (rows : List X) (s : ℕ) (r : Option (MutBor X)) → IsItemAtMut rows s r → slice_get rows s ≡ option_copied_mut r
@@ -45,6 +46,11 @@ at_slot [] n y e = absurd cc
 at_slot (x ∷ xs) zero y e = cc
 at_slot (x ∷ xs) (suc n) y e = at_slot xs n y e
 
+pub slot_at : {X : Type 0} (xs : List (Option X)) (n : ℕ) (x : X) → at xs n ≡ Some x → slice_get xs n ≡ Some (Some x)
+slot_at [] n x e = absurd cc
+slot_at (y ∷ xs) zero x e = ap Some e
+slot_at (y ∷ xs) (suc n) x e = slot_at xs n x e
+
 -- a slot that is written is a slot that changes
 pub written : {X : Type 0} (change : X → X) (xs : List X) (n : ℕ) (x y : X) → slice_get xs n ≡ Some y → x ≡ change y → set xs n x ≡ changed change xs n
 written change [] n x y e is = absurd cc
@@ -71,12 +77,7 @@ emptied_none [] n none = refl
 emptied_none (x ∷ xs) zero none = ap (λ y. y ∷ xs) (sym none)
 emptied_none (x ∷ xs) (suc n) none = ap (λ ys. x ∷ ys) (emptied_none xs n none)
 
--- it holds wherever something is lent
-pub where_lent : {X : Type 0} {P Q : Type 0} (r : Option (MutBor X)) (w : Option X) → option_copied_mut r ≡ w → ((x : X) → w ≡ Some x → Q → P) → OnSome r Q → OnSome r P
-where_lent None w e k q = tt
-where_lent (Some r) w e k q = k r.now (sym e) q
-
--- and where a value is lent
+-- it holds wherever a value is lent
 pub if_lent : {X : Type 0} {P : Type 0} (r : Option (MutBor X)) (w : Option X) → option_copied_mut r ≡ w → ((x : X) → w ≡ Some x → P) → OnSome r P
 if_lent None w e k = tt
 if_lent (Some r) w e k = k r.now (sym e)
@@ -133,10 +134,22 @@ filled_more [] = refl
 filled_more (None ∷ xs) = filled_more xs
 filled_more (Some y ∷ xs) = ap suc (filled_more xs)
 
+pub filled_append : {X : Type 0} (xs ys : List (Option X)) → how_many_filled (xs ++ ys) ≡ how_many_filled xs + how_many_filled ys
+filled_append [] ys = omega arith
+filled_append (None ∷ xs) ys = filled_append xs ys
+filled_append (Some x ∷ xs) ys = let rest : how_many_filled (xs ++ ys) ≡ how_many_filled xs + how_many_filled ys = filled_append xs ys in omega arith
+
 -- the last slot goes
 pub filled_popped : {X : Type 0} (xs rest : List (Option X)) (slot : Option X) → xs ≡ rest ++ slot ∷ [] → how_many_filled xs ≡ (if is_some slot then how_many_filled rest + 1 else how_many_filled rest)
 filled_popped xs rest None e = ap how_many_filled e ∙ filled_more rest
 filled_popped xs rest (Some x) e = ap how_many_filled e ∙ filled_push rest x
+
+-- at most one value less for each slot that goes
+pub filled_take : {X : Type 0} (n : ℕ) (xs : List (Option X)) → how_many_filled xs ≤ how_many_filled (take n xs) + (length xs - n)
+filled_take zero xs = let within = filled_within xs in omega arith
+filled_take (suc n) [] = omega arith
+filled_take (suc n) (None ∷ xs) = let rest : how_many_filled xs ≤ how_many_filled (take n xs) + (length xs - n) = filled_take n xs in omega arith
+filled_take (suc n) (Some x ∷ xs) = let rest : how_many_filled xs ≤ how_many_filled (take n xs) + (length xs - n) = filled_take n xs in omega arith
 
 -- one value is taken
 pub filled_emptied : {X : Type 0} (xs : List (Option X)) (n : ℕ) (x : X) → slice_get xs n ≡ Some (Some x) → how_many_filled xs ≡ how_many_filled (changed emptied xs n) + 1
@@ -146,6 +159,14 @@ filled_emptied (Some y ∷ xs) zero x e = omega arith
 filled_emptied (None ∷ xs) (suc n) x e = filled_emptied xs n x e
 filled_emptied (Some y ∷ xs) (suc n) x e = let rest : how_many_filled xs ≡ how_many_filled (changed emptied xs n) + 1 = filled_emptied xs n x e in omega arith
 
+-- at most one is taken
+pub filled_emptied_one : {X : Type 0} (xs : List (Option X)) (n : ℕ) → how_many_filled xs ≤ how_many_filled (changed emptied xs n) + 1
+filled_emptied_one [] n = omega arith
+filled_emptied_one (None ∷ xs) zero = omega arith
+filled_emptied_one (Some x ∷ xs) zero = omega arith
+filled_emptied_one (None ∷ xs) (suc n) = filled_emptied_one xs n
+filled_emptied_one (Some x ∷ xs) (suc n) = let rest : how_many_filled xs ≤ how_many_filled (changed emptied xs n) + 1 = filled_emptied_one xs n in omega arith
+
 -- one value is changed
 pub filled_changed : {X : Type 0} (xs : List (Option X)) (n : ℕ) (x y : X) → slice_get xs n ≡ Some (Some x) → how_many_filled (changed (λ o. Some y) xs n) ≡ how_many_filled xs
 filled_changed [] n x y e = absurd cc
@@ -153,3 +174,12 @@ filled_changed (None ∷ xs) zero x y e = absurd cc
 filled_changed (Some z ∷ xs) zero x y e = refl
 filled_changed (None ∷ xs) (suc n) x y e = filled_changed xs n x y e
 filled_changed (Some z ∷ xs) (suc n) x y e = ap suc (filled_changed xs n x y e)
+
+-- ---- how many slots there are
+
+-- where they aren't sparse they are few, also beside others
+pub few_unless_sparse : {X : Type 0} (others slots : List (Option X)) → is_sparse slots ≡ false → length slots ≤ most_slots (others ++ slots)
+few_unless_sparse others slots dense =
+    let all = filled_append others slots in
+    let few : length slots ≤ most_slots slots = grind (arith, nat_tests) in
+    omega arith

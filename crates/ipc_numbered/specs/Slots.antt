@@ -18,3 +18,7 @@ how_many_filled (Some x ∷ slots) = suc (how_many_filled slots)
 -- there are over 64 slots, and more than half of them are empty
 abbrev pub is_sparse : {V : Type 0} → List (Option V) → Bool
 is_sparse slots = nat_lt 64 (length slots) && nat_lt (how_many_filled slots + how_many_filled slots) (length slots)
+
+-- 64, and two for each value
+abbrev pub most_slots : {V : Type 0} → List (Option V) → ℕ
+most_slots slots = 64 + (how_many_filled slots + how_many_filled slots)

@@ -1,6 +1,6 @@
 //! Large values at their numbers.
 
-ghost use Rattle.std.specs.Prelude.{◌≡◌, ◌-◌, [], ◌∷◌, ◌++◌, length, take, Some, OnOk, OnErr};
+ghost use Rattle.std.specs.Prelude.{◌≡◌, ◌+◌, ◌-◌, ◌^◌, ◌<◌, [], ◌∷◌, ◌++◌, length, take, Some, OnOk, OnErr};
 ghost use Rattle.std.specs.Option.{OnSome, option_copied, option_copied_mut};
 ghost use Rattle.ipc_terms.specs.Lists.{changed};
 ghost use Rattle.ipc_numbered.specs.Slots.{at, emptied};
@@ -57,6 +57,7 @@ impl<V: Drop> NumberedBoxes<V> {
 
     /// Gives the value the next number. An `Err` changes nothing.
     pub fn push(&mut self, value: V) -> Result<(), NoMemory>
+        requires { length self.old + 1 < 2 ^ 64 }
         ensures ok { OnOk result (self.new ≡ self.old ++ Some value ∷ []) }
         ensures err { OnErr result (self.new ≡ self.old) }
     {
@@ -67,14 +68,14 @@ impl<V: Drop> NumberedBoxes<V> {
         Ok(())
     }
 
-    /// Undoes the last push: its number is the next again. Takes no memory.
+    /// Undoes the last push: its number is the next again. It can't fail.
     pub fn undo_push(&mut self)
         ensures { self.new ≡ take (length self.old - 1) self.old }
     {
         self.boxes.undo_push();
     }
 
-    /// Takes the value of the number, if it is there. Its number isn't given again. Takes no memory.
+    /// Takes the value of the number, if it is there. Its number isn't given again. It can't fail.
     pub fn take(&mut self, number: usize) -> Option<V>
         ensures value { result ≡ at self.old number }
         ensures rest { self.new ≡ changed emptied self.old number }

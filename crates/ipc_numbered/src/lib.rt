@@ -1,6 +1,6 @@
 //! Values at the numbers that they were given in turn. A recent number is found by an index, an older one in an ordered
-//! map. There are at most 130 places of slots, or four times as many as there were values at once; nothing else is left of
-//! what was taken.
+//! map. There are at most 64 slots and two for each value, unless the map was refused memory, and room for at most
+//! 200 and 6 for each value; nothing else is left of what was taken.
 #![tactic(auto)]
 
 mod boxes;

@@ -1,12 +1,12 @@
 //! Values at their numbers: the newest in slots, the older ones in a map.
 
-ghost use Rattle.std.specs.Prelude.{◌≡◌, ◌<◌, ◌-◌, ◌^◌, [], ◌∷◌, ◌++◌, length, take, Some, None, OnOk, OnErr};
+ghost use Rattle.std.specs.Prelude.{◌≡◌, ℕ, ◌+◌, ◌<◌, ◌≤◌, ◌-◌, ◌^◌, [], ◌∷◌, ◌++◌, length, take, Some, None, false, OnOk, OnErr};
 ghost use Rattle.std.specs.BTreeMap.{get};
 ghost use Rattle.std.specs.Option.{OnSome, option_copied, option_copied_mut};
 ghost use Rattle.std.specs.Ordering.{nat_cmp};
 ghost use Rattle.ipc_terms.specs.Lists.{changed};
-ghost use Rattle.ipc_numbered.specs.Numbers.{SetsAt};
-ghost use Rattle.ipc_numbered.specs.Slots.{at, emptied};
+ghost use Rattle.ipc_numbered.specs.Numbers.{older_slots, AllBelow, SetsAt};
+ghost use Rattle.ipc_numbered.specs.Slots.{at, emptied, most_slots};
 
 use crate::recent::Recent;
 use ipc_terms::NoMemory;
@@ -14,29 +14,28 @@ use std::alloc::Global;
 use std::collections::BTreeMap;
 use std::marker::Model;
 
-/// Numbers are below this, so that no sum of two wraps.
-const MOST: usize = 0x7fff_ffff_ffff_ffff;
-
 /// Values at the numbers that they were given in turn. Those from `base` on have a slot each, so they are found by an
-/// index. Where there are over 64 slots and most are empty, each push first moves two: an empty one goes, and a value
-/// enters the map. So a push adds a slot only to 64 or fewer, or where half of them have a value.
+/// index. Where there are over 64 slots and most are empty, two go with each value that leaves: nothing is left of an empty
+/// one, and a value enters the map. So there are at most 64 slots and two for each value, unless the map is refused memory.
 #[derive(Drop)]
 pub struct Numbered<V: Drop> {
     older: BTreeMap<usize, V>,
     /// The number of the first of the recent slots.
     base: usize,
     recent: Recent<V>,
+    /// Whether the map was refused memory, and since then most of the recent slots have been empty.
+    refused: bool,
 }
 
 impl<V: Drop> Model for Numbered<V> {
-    ghost use Rattle.std.specs.Prelude.{◌++◌, ◌<◌, ◌^◌, List, Option};
-    ghost use Rattle.ipc_numbered.specs.Numbers.{older_slots, AllBelow};
+    ghost use Rattle.std.specs.Prelude.{◌++◌, List, Option};
+    ghost use Rattle.ipc_numbered.specs.Numbers.{older_slots, IsNumbered};
 
     ghost Value = { List (Option V) };
 
     ghost view = { λ a. older_slots a.older a.base ++ a.recent };
 
-    ghost invariant = { λ a. AllBelow a.older a.base × (a.base < 2 ^ 63) };
+    ghost invariant = { λ a. IsNumbered a.older a.base a.recent a.refused };
 }
 
 impl<V: Drop> Numbered<V> {
@@ -51,6 +50,7 @@ impl<V: Drop> Numbered<V> {
             older: BTreeMap::new(alloc),
             base: 0,
             recent: Recent::new(alloc),
+            refused: false,
         }
     }
 
@@ -73,23 +73,25 @@ impl<V: Drop> Numbered<V> {
 
     /// Gives the value the next number. An `Err` changes nothing.
     pub fn push(&mut self, value: V) -> Result<(), NoMemory>
+        requires { length self.old + 1 < 2 ^ 64 }
         ensures ok { OnOk result (self.new ≡ self.old ++ Some value ∷ []) }
         ensures err { OnErr result (self.new ≡ self.old) }
     {
-        if self.next_number() >= MOST {
-            return Err(NoMemory);
-        }
-        self.settle()?;
-        self.settle()?;
         self.recent.push(value)?;
         Ok(())
     }
 
-    /// Undoes the last push: its number is the next again. Takes no memory.
+    /// Undoes the last push: its number is the next again. It can't fail.
     pub fn undo_push(&mut self)
         ensures { self.new ≡ take (length self.old - 1) self.old }
     {
         if self.recent.pop() {
+            settle(
+                &mut self.older,
+                &mut self.base,
+                &mut self.recent,
+                &mut self.refused,
+            );
             return;
         }
         if let Some(last) = self.base.checked_sub(1) {
@@ -98,15 +100,19 @@ impl<V: Drop> Numbered<V> {
         }
     }
 
-    /// Takes the value of the number, if it is there. Its number isn't given again. Takes no memory.
+    /// Takes the value of the number, if it is there. Its number isn't given again. It can't fail.
     pub fn take(&mut self, number: usize) -> Option<V>
         ensures value { result ≡ at self.old number }
         ensures rest { self.new ≡ changed emptied self.old number }
     {
-        match number.checked_sub(self.base) {
-            Some(slot) => self.recent.take(slot),
-            None => self.older.remove(&number),
-        }
+        let value = take_out(&mut self.older, self.base, &mut self.recent, number);
+        settle(
+            &mut self.older,
+            &mut self.base,
+            &mut self.recent,
+            &mut self.refused,
+        );
+        value
     }
 
     /// The value of the number, if it wasn't taken, to be changed.
@@ -115,24 +121,75 @@ impl<V: Drop> Numbered<V> {
         ensures value { option_copied_mut result ≡ at self.old number }
     {
         match number.checked_sub(self.base) {
-            Some(slot) => self.recent.get_mut(slot),
+            Some(slot) => {
+                let value = self.recent.get_mut(slot)?;
+                Some(value)
+            }
             None => self.older.get_mut(&number),
         }
     }
+}
 
-    /// Where most of the recent slots are empty, the first of them goes, and its value enters the map. An `Err` changes nothing.
-    fn settle(&mut self) -> Result<(), NoMemory>
-        requires { length self.old < 2 ^ 63 }
-        ensures { self.new ≡ self.old }
-    {
-        if !self.recent.is_sparse() {
-            return Ok(());
-        }
-        move_first(&mut self.older, self.base, &mut self.recent)?;
-        self.recent.drop_first();
-        self.base += 1;
-        Ok(())
+/// Takes the value of the number, if it is there.
+fn take_out<V: Drop>(
+    older: &mut BTreeMap<usize, V>,
+    base: usize,
+    recent: &mut Recent<V>,
+    number: usize,
+) -> Option<V>
+    requires { AllBelow older.old base }
+    ensures below { AllBelow older.new base }
+    ensures value { result ≡ at (older_slots older.old base ++ recent.old) number }
+    ensures rest { older_slots older.new base ++ recent.new ≡ changed emptied (older_slots older.old base ++ recent.old) number }
+{
+    match number.checked_sub(base) {
+        Some(slot) => recent.take(slot),
+        None => older.remove(&number),
     }
+}
+
+/// Where most of the recent slots are empty, the first two of them go, and their values enter the map. Where that is refused
+/// memory, they stay.
+fn settle<V: Drop>(
+    older: &mut BTreeMap<usize, V>,
+    base: &mut usize,
+    recent: &mut Recent<V>,
+    refused: &mut bool,
+)
+    requires below { AllBelow older.old base.old }
+    requires fits { base.old + length recent.old < 2 ^ 64 }
+    ensures below { AllBelow older.new base.new }
+    ensures values { older_slots older.new base.new ++ recent.new ≡ older_slots older.old base.old ++ recent.old }
+    ensures two_fewer { (most : ℕ) → most_slots (older_slots older.old base.old ++ recent.old) ≤ most → (refused.old ≡ false → length recent.old ≤ most + 2) → refused.new ≡ false → length recent.new ≤ most }
+{
+    move_oldest(older, base, recent, refused);
+    move_oldest(older, base, recent, refused);
+}
+
+/// Where most of the recent slots are empty, the first of them goes, and its value enters the map. Where that is refused
+/// memory, it stays.
+fn move_oldest<V: Drop>(
+    older: &mut BTreeMap<usize, V>,
+    base: &mut usize,
+    recent: &mut Recent<V>,
+    refused: &mut bool,
+)
+    requires below { AllBelow older.old base.old }
+    requires fits { base.old + length recent.old < 2 ^ 64 }
+    ensures below { AllBelow older.new base.new }
+    ensures values { older_slots older.new base.new ++ recent.new ≡ older_slots older.old base.old ++ recent.old }
+    ensures one_fewer { (most : ℕ) → most_slots (older_slots older.old base.old ++ recent.old) ≤ most → (refused.old ≡ false → length recent.old ≤ most + 1) → refused.new ≡ false → length recent.new ≤ most }
+{
+    if !recent.is_sparse() {
+        *refused = false;
+        return;
+    }
+    let Ok(()) = move_first(older, *base, recent) else {
+        *refused = true;
+        return;
+    };
+    recent.drop_first();
+    *base += 1;
 }
 
 /// The value of the first slot, if there is one, goes to its number in the map, at which none stands. An `Err` changes

@@ -12,8 +12,8 @@ use std::marker::Model;
 /// So many slots stay, however few of them have a value.
 const FEW: usize = 64;
 
-/// Slots in a row, some of them empty. Slots leave in front, and their places stay until more have left than stand: so each
-/// slot that is moved to the front is paid for by one that left.
+/// Slots in a row, some of them empty. Slots leave in front, and their places stay until more than half as many have left as
+/// stand: so two slots at most are moved to the front for each that left.
 #[derive(Drop)]
 pub struct Recent<V: Drop> {
     /// The slots, behind the places of those that left.
@@ -133,7 +133,7 @@ impl<V: Drop> Recent<V> {
         self.filled += 1;
     }
 
-    /// The first slot goes, which is empty. Takes no memory.
+    /// The first slot goes, which is empty. It can't fail.
     pub fn drop_first(&mut self)
         requires { slice_get self.old 0 ≡ Some None }
         ensures { self.new ≡ drop 1 self.old }
@@ -142,13 +142,16 @@ impl<V: Drop> Recent<V> {
         self.compact();
     }
 
-    /// Where more slots have left than stand, their places go too. Takes no memory.
+    /// Where more than half as many slots have left as stand, their places go too, and room for twice those that stand is
+    /// kept. If the smaller block is refused, the room stays.
     fn compact(&mut self)
         ensures { self.new ≡ self.old }
     {
-        if self.gone > self.len() {
-            self.slots.drain(..self.gone);
-            self.gone = 0;
+        if self.gone <= self.len() / 2 {
+            return;
         }
+        self.slots.drain(..self.gone);
+        self.gone = 0;
+        self.slots.shrink_to(2 * self.slots.len().max(FEW));
     }
 }

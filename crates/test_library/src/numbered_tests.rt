@@ -121,11 +121,19 @@ static STEPS: [Step; 84] = [
     Get(203, Some(8)),
 ];
 
+/// Pushes the value, and gives its number. No test comes to the last one.
+fn push(values: &mut Numbered<u32>, value: u32) -> Result<usize, NoMemory> {
+    let number = values.next_number();
+    if number == usize::MAX {
+        return Err(NoMemory);
+    }
+    values.push(value)?;
+    Ok(number)
+}
+
 /// Pushes the value, and says whether it got this number.
 fn pushes(values: &mut Numbered<u32>, value: u32, number: usize) -> Result<bool, NoMemory> {
-    let next = values.next_number();
-    values.push(value)?;
-    Ok(next == number)
+    Ok(push(values, value)? == number)
 }
 
 /// Pushes the numbers from 0 on, and says whether each got its own.
@@ -148,8 +156,7 @@ fn take_all(values: &mut Numbered<u32>, from: usize, to: usize) {
 /// So many values come and go, one at a time.
 fn come_and_go(values: &mut Numbered<u32>, count: u32) -> Result<(), NoMemory> {
     for value in 0..count {
-        let number = values.next_number();
-        values.push(value)?;
+        let number = push(values, value)?;
         values.take(number);
     }
     Ok(())

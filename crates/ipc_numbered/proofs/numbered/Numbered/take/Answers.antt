@@ -1,34 +1,39 @@
-use Rattle.std.proofs.Common.{◌++◌, ◌∙◌, None, refl, sym, ap, arith}
-use Rattle.ipc_numbered.specs.Slots.{emptied}
+use Rattle.std.proofs.Common.{◌++◌, ◌∙◌, length, ap, arith}
+use Rattle.ipc_terms.proofs.Lists.{count_changed}
+use Rattle.ipc_numbered.specs.Slots.{emptied, most_slots}
 use Rattle.ipc_numbered.specs.Numbers.{older_slots}
-use Rattle.ipc_numbered.proofs.NumbersLemmas.{recent_at, recent_changed, value_at, value_changed, still_below, under}
+use Rattle.ipc_numbered.proofs.SlotsLemmas.{filled_emptied_one}
+use Rattle.ipc_numbered.proofs.NumbersLemmas.{all_length}
 use Rattle.ipc_numbered.proofs.numbered.Numbered.take.Goals as goal
 
-pub returns-in-Some-clause-value : goal.returns-in-Some-clause-value
-returns-in-Some-clause-value g c =
+pub settle-requires-clause-fits : goal.settle-requires-clause-fits
+settle-requires-clause-fits g c =
     let inside = c.self.inside in
-    let low = c.in-Some.ensures.0 in
-    let slot = c.in-Some.ensures.1 in
-    rw (← c.self.view_is) (c.take.ensures.value ∙ sym (recent_at inside.older inside.recent inside.base c.in-Some.slot c.args.number (omega arith)))
+    let out = c.take_out-value in
+    let same = ap (λ slots. length slots) out.ensures.rest ∙ count_changed emptied (older_slots inside.older inside.base ++ inside.recent) c.args.number in
+    let before = all_length inside.older inside.recent inside.base in
+    let after = all_length out.new.older out.new.recent inside.base in
+    let fits = c.self.invariant.fits in
+    omega arith
 
-pub returns-in-Some-clause-rest : goal.returns-in-Some-clause-rest
-returns-in-Some-clause-rest g c =
+pub invariant_of-self : goal.invariant_of-self
+invariant_of-self g c =
     let inside = c.self.inside in
-    let low = c.in-Some.ensures.0 in
-    let slot = c.in-Some.ensures.1 in
-    rw (← c.self.view_is) (ap (λ slots. older_slots inside.older inside.base ++ slots) c.take.ensures.rest ∙ sym (recent_changed emptied inside.older inside.recent inside.base c.in-Some.slot c.args.number (omega arith)))
-
-pub invariant_of-self-in-None : goal.invariant_of-self-in-None
-invariant_of-self-in-None g c =
-    let inside = c.self.inside in
-    (still_below inside.older c.remove.new.self inside.base c.args.number None (under c.args.number inside.base c.in-None.ensures) c.remove.ensures.updates.0 c.self.invariant.0, c.self.invariant.1)
-
-pub returns-in-None-clause-value : goal.returns-in-None-clause-value
-returns-in-None-clause-value g c =
-    let inside = c.self.inside in
-    rw (← c.self.view_is) (c.remove.ensures.value ∙ sym (value_at inside.older inside.recent inside.base c.args.number (under c.args.number inside.base c.in-None.ensures)))
-
-pub returns-in-None-clause-rest : goal.returns-in-None-clause-rest
-returns-in-None-clause-rest g c =
-    let inside = c.self.inside in
-    rw (← c.self.view_is) (value_changed emptied inside.older c.remove.new.self inside.recent inside.base c.args.number None (under c.args.number inside.base c.in-None.ensures) c.remove.ensures.updates.0 refl)
+    let out = c.take_out-value in
+    let new = c.settle.new in
+    let all = older_slots inside.older inside.base ++ inside.recent in
+    let left = older_slots new.older new.base ++ new.recent in
+    let long = ap (λ slots. length slots) out.ensures.rest ∙ count_changed emptied all c.args.number in
+    let same = ap (λ slots. length slots) c.settle.ensures.values ∙ long in
+    let before = all_length inside.older inside.recent inside.base in
+    let taken = all_length out.new.older out.new.recent inside.base in
+    let after = all_length new.older new.recent new.base in
+    let fits = c.self.invariant.fits in
+    let most = ap (λ slots. most_slots slots) c.settle.ensures.values in
+    let rest = ap (λ slots. most_slots slots) (c.settle.ensures.values ∙ out.ensures.rest) in
+    let one = filled_emptied_one all c.args.number in
+    record {
+      below = c.settle.ensures.below;
+      fits = omega arith;
+      few = λ now. c.settle.ensures.two_fewer (most_slots left) (omega arith) (λ was. let few = c.self.invariant.few was in omega arith) now;
+    }
