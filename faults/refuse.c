@@ -2,17 +2,19 @@
  * read or recv, and a write one of write or send.
  *
  * DISTURB_WHAT  allocation (refused), read-fails, read-short, read-interrupted, write-fails, write-short or write-interrupted;
- *               or kept: nothing is disturbed
+ *               or kept or bytes: nothing is disturbed
  * DISTURB_AT    which one, counted from 1 over the whole process
  * DISTURB_TIMES how many, with that one; without it, one
  * DISTURB_TOLD  a file descriptor that gets a byte once that one was met; of kept, a line with how many allocations there are,
- *               each time that there are more than ever before
+ *               each time that there are more than ever before; of bytes, a line with how many bytes are allocated, at each
+ *               write that ends a line
  * DISTURB_PIECE the most bytes of a read or a write; without it there is no such bound
  *
  * It counts every call of the C library's allocator, whoever makes it, and never one that only frees.
  */
 
 #include <errno.h>
+#include <malloc.h>
 #include <stdatomic.h>
 #include <stddef.h>
 #include <stdint.h>
@@ -30,14 +32,14 @@ extern void *__libc_realloc(void *, size_t);
 extern void *__libc_memalign(size_t, size_t);
 extern void __libc_free(void *);
 
-enum call { ALLOCATION, READ, WRITE, KEPT, NONE };
+enum call { ALLOCATION, READ, WRITE, KEPT, BYTES, NONE };
 enum way { FAILS, SHORT, INTERRUPTED };
 
 static enum call disturbed_call = NONE;
 static enum way disturbed_way;
 static int told;
 static long times = 1;
-static atomic_long left, kept, most_kept;
+static atomic_long left, kept, most_kept, bytes_kept;
 static size_t piece = SIZE_MAX;
 
 static const struct {
@@ -53,6 +55,7 @@ static const struct {
     {"write-short", WRITE, SHORT},
     {"write-interrupted", WRITE, INTERRUPTED},
     {"kept", KEPT, FAILS},
+    {"bytes", BYTES, FAILS},
 };
 
 __attribute__((constructor)) static void begin(void)
@@ -87,19 +90,25 @@ static int is_met(enum call call)
     return 1;
 }
 
+static void tell(long number)
+{
+    char text[24];
+    int length = snprintf(text, sizeof text, "%ld\n", number);
+    syscall(SYS_write, told, text, length);
+}
+
 /* Counts an allocation that was made, if it was; tells how many there are, where it is more than ever before. */
 static void *counted(void *made)
 {
+    if (made && disturbed_call == BYTES)
+        atomic_fetch_add(&bytes_kept, malloc_usable_size(made));
     if (!made || disturbed_call != KEPT)
         return made;
     long now = atomic_fetch_add(&kept, 1) + 1, most = atomic_load(&most_kept);
     while (now > most && !atomic_compare_exchange_weak(&most_kept, &most, now))
         ;
-    if (now > most) {
-        char text[24];
-        int length = snprintf(text, sizeof text, "%ld\n", now);
-        syscall(SYS_write, told, text, length);
-    }
+    if (now > most)
+        tell(now);
     return made;
 }
 
@@ -125,6 +134,8 @@ void free(void *old)
 {
     if (old && disturbed_call == KEPT)
         atomic_fetch_sub(&kept, 1);
+    if (old && disturbed_call == BYTES)
+        atomic_fetch_sub(&bytes_kept, malloc_usable_size(old));
     __libc_free(old);
 }
 
@@ -136,7 +147,13 @@ void *realloc(void *old, size_t size)
         free(old);
         return NULL;
     }
-    return is_refused() ? NULL : __libc_realloc(old, size);
+    if (is_refused())
+        return NULL;
+    long before = disturbed_call == BYTES ? malloc_usable_size(old) : 0;
+    void *made = __libc_realloc(old, size);
+    if (made && disturbed_call == BYTES)
+        atomic_fetch_add(&bytes_kept, (long)malloc_usable_size(made) - before);
+    return made;
 }
 
 void *memalign(size_t alignment, size_t size)
@@ -179,6 +196,8 @@ ssize_t read(int file, void *bytes, size_t count)
 ssize_t write(int file, const void *bytes, size_t count)
 {
     ssize_t most = room(WRITE, count);
+    if (disturbed_call == BYTES && count && ((const char *)bytes)[count - 1] == '\n')
+        tell(atomic_load(&bytes_kept));
     return most < 0 ? -1 : syscall(SYS_write, file, bytes, most);
 }
 

@@ -50,11 +50,18 @@ HARMLESS = ["read-short", "read-interrupted", "write-short", "write-interrupted"
 
 # How many connections a server has whose allocations are counted, and how many allocations more a hundred may leave.
 FEW, MANY, LEFT = 10, 110, 20
+# How many values there are at once, the least bytes that each takes, and how many bytes may be left when they are gone.
+VALUES, EACH, ROOM = 100_000, 16, 8_192
+
+
+def program_at(folder, name):
+    """The program, in `folder` or else where builds leave it."""
+    return folder / name if folder else TOP / "crates" / name / "out" / name
 
 
 def programs(folder):
     """The programs, in `folder` or else where builds leave them."""
-    at = lambda name: folder / name if folder else TOP / "crates" / name / "out" / name
+    at = lambda name: program_at(folder, name)
     beside = lambda name, ending: (HERE / name).with_suffix(ending).read_bytes()
     tests = TOP / "crates" / "test_memory" / "stdout"
     yield Program("test_memory", at("test_memory"), [], b"", tests.read_bytes(), 0, again=True)
@@ -154,6 +161,22 @@ def kept_difference(file, library):
     return "" if most[1] - most[0] <= LEFT else "connections that are over leave allocations"
 
 
+def room_difference(file, library):
+    """Where values that are gone leave room, or nothing."""
+    lines = b"new\nfilled\ntaken\ngone on\n"
+    program = Program("bench_calls", file, ["numbers", str(VALUES)], b"", lines, 0)
+    ended, said = run(program, library, "bytes", 1)
+    differs = program.whole_difference(ended)
+    counts = list(map(int, said.split()))
+    if differs or len(counts) != lines.count(b"\n"):
+        return differs or f"{len(counts)} counts of bytes"
+    new, filled, taken, gone_on = counts
+    print(f"bench_calls numbers: {filled} bytes with {VALUES} values, {taken} with none, {gone_on} when as many came and went", flush=True)
+    if filled - new < VALUES * EACH:
+        return "the bytes of values aren't counted"
+    return "" if max(taken, gone_on) - new <= ROOM else "values that are gone leave room"
+
+
 def server_differences(pool, jobs, file, library):
     """What else differs of a server."""
     def outcome(at, times):
@@ -170,10 +193,11 @@ def main():
     parser.add_argument("--jobs", type=int, default=os.cpu_count(), help="how many runs at a time")
     parser.add_argument("names", nargs="*", help="programs alone that are run; else all are")
     asked = parser.parse_args()
+    folder = asked.programs and asked.programs.resolve()
     allocations, transfers, failed = 0, 0, 0
     with tempfile.TemporaryDirectory() as room, concurrent.futures.ThreadPoolExecutor(asked.jobs) as pool:
         library = library_in(room)
-        for program in programs(asked.programs and asked.programs.resolve()):
+        for program in programs(folder):
             if asked.names and program.name not in asked.names:
                 continue
             for way in ways_of(program):
@@ -185,6 +209,11 @@ def main():
                 for why in filter(None, server_differences(pool, asked.jobs, program.file, library)):
                     print(f"{program.name}: {why}")
                     failed += 1
+        if not asked.names or "bench_calls" in asked.names:
+            why = room_difference(program_at(folder, "bench_calls"), library)
+            if why:
+                print(f"bench_calls numbers: {why}")
+                failed += 1
     if not asked.names and (allocations < LEAST or transfers < LEAST):
         print(f"fewer than {LEAST} of a kind were met: the library that refuses them has no effect")
         failed += 1

@@ -1,10 +1,12 @@
 //! Times calls without sockets. `bench_calls hub KIND CONNECTIONS PIECE ROUNDS` makes calls through a hub and prints how many
 //! bytes came out, and the microseconds; `bench_calls frames PIECE COUNT` reads sends and prints how many requests came, and
-//! the microseconds. Without words it does a little of each, and prints no time.
+//! the microseconds. `bench_calls numbers COUNT` lets values come and go. Without words it does a little of each, and prints no
+//! time.
 #![tactic(auto)]
 
 mod frames;
 mod hub;
+mod numbers;
 
 use anyhow::{Result, bail};
 use hub::{Job, KINDS};
@@ -19,7 +21,7 @@ fn run_small(rt: &HostRuntime) -> Result<()> {
     }
     let (requests, _) = frames::run(rt, 7, 10)?;
     println!(rt; "{requests} requests")?;
-    Ok(())
+    numbers::run(rt, 100)
 }
 
 fn run(rt: &HostRuntime) -> Result<()> {
@@ -30,7 +32,10 @@ fn run(rt: &HostRuntime) -> Result<()> {
         [_, what, piece, count] if what.as_str() == "frames" => {
             frames::run(rt, piece.parse()?, count.parse()?)?
         }
-        _ => bail!("hub KIND CONNECTIONS PIECE ROUNDS, or frames PIECE COUNT"),
+        [_, what, count] if what.as_str() == "numbers" => {
+            return numbers::run(rt, count.parse()?);
+        }
+        _ => bail!("hub KIND CONNECTIONS PIECE ROUNDS, frames PIECE COUNT, or numbers COUNT"),
     };
     println!(rt; "{count} {microseconds}")?;
     Ok(())
