@@ -2,6 +2,7 @@ pub mod Answering
 pub mod AmongOthers
 pub mod ChargesLemmas
 pub mod KeepingLemmas
+pub mod KeptLemmas
 pub mod NumbersLemmas
 pub mod PassingLemmas
 pub mod PlacesLemmas

@@ -1,10 +1,10 @@
 //! The rows, found by their numbers.
 
 ghost use Rattle.std.specs.Prelude.{◌≡◌, ◌+◌, ◌^◌, ◌<◌, [], ◌∷◌, ◌++◌, find, is_some, IsSome, IfSome, IfNone, OnOk, OnErr, Some};
-ghost use Rattle.std.specs.Option.{option_map, option_copied, option_and_then};
-ghost use Rattle.slab.specs.Slab.{get, Updates};
-ghost use Rattle.ipc_terms.specs.Lists.{changed_first};
-ghost use Rattle.ipc_numbered.specs.Slots.{at};
+ghost use Rattle.std.specs.Option.{OnSome, option_map, option_copied, option_and_then};
+ghost use Rattle.slab.specs.Slab.{get, slab_len, Updates};
+ghost use Rattle.ipc_terms.specs.Lists.{changed, changed_first};
+ghost use Rattle.ipc_numbered.specs.Slots.{at, emptied};
 ghost use Rattle.ipc_descr.specs.Descriptions.{is_desc, if_of, row_of, without_desc, with_nonblock, with_session, Rise};
 ghost use Rattle.ipc_descr.specs.Counting.{Gone};
 ghost use Rattle.ipc_descr.specs.Places.{row_numbered};
@@ -29,11 +29,13 @@ impl Model for Table {
     ghost use Rattle.std.specs.Prelude.{length};
     ghost use Rattle.slab.specs.Slab.{get};
     ghost use Rattle.ipc_descr.specs.Descriptions.{Descriptions};
-    ghost use Rattle.ipc_descr.specs.Places.{rows_of};
+    ghost use Rattle.ipc_descr.specs.Places.{rows_of, Kept};
 
     ghost Value = { Descriptions };
 
     ghost view = { λ a. record { rows = rows_of (get a.rows) 0 a.slots; opened = length a.slots } };
+
+    ghost invariant = { λ a. Kept a.rows a.slots };
 }
 
 impl Table {
@@ -112,8 +114,7 @@ impl Table {
         ensures gone { IfSome result (λ row. Gone row self.old.rows self.new.rows) }
     {
         let slot = slot_of(&self.rows, &self.slots, sid, desc)?;
-        self.slots.take(desc.0 as usize);
-        self.rows.try_remove(slot)
+        take_row(&mut self.rows, &mut self.slots, slot, desc)
     }
 
     /// The session that holds the description.
@@ -153,9 +154,26 @@ fn slot_of(rows: &Slab<Row>, slots: &Numbered<usize>, sid: Sid, desc: Desc) -> O
     }
 }
 
+/// Takes the row out of the slab, and its key from its number.
+fn take_row(
+    rows: &mut Slab<Row>,
+    slots: &mut Numbered<usize>,
+    slot: usize,
+    desc: Desc,
+) -> Option<Row>
+    ensures row { result ≡ get rows.old slot }
+    ensures updates { Updates rows.old rows.new slot None }
+    ensures len { OnSome result (slab_len rows.new + 1 ≡ slab_len rows.old) }
+    ensures slots { slots.new ≡ changed emptied slots.old desc.0 }
+{
+    slots.take(desc.0 as usize);
+    rows.try_remove(slot)
+}
+
 /// Makes the row another session's.
 fn pass_row(rows: &mut Slab<Row>, slot: usize, taker: Sid)
-    ensures { Updates rows.old rows.new slot (option_map (with_session taker) (get rows.old slot)) }
+    ensures row { Updates rows.old rows.new slot (option_map (with_session taker) (get rows.old slot)) }
+    ensures len { slab_len rows.new ≡ slab_len rows.old }
 {
     if let Some(row) = rows.get_mut(slot) {
         row.session = taker;
@@ -164,7 +182,8 @@ fn pass_row(rows: &mut Slab<Row>, slot: usize, taker: Sid)
 
 /// Sets whether the calls by the description of the row are refused where they would wait.
 fn set_row(rows: &mut Slab<Row>, slot: usize, nonblock: bool)
-    ensures { Updates rows.old rows.new slot (option_map (with_nonblock nonblock) (get rows.old slot)) }
+    ensures row { Updates rows.old rows.new slot (option_map (with_nonblock nonblock) (get rows.old slot)) }
+    ensures len { slab_len rows.new ≡ slab_len rows.old }
 {
     if let Some(row) = rows.get_mut(slot) {
         row.nonblock = nonblock;

@@ -1,8 +1,9 @@
-use Rattle.std.proofs.Common.{◌∙◌, IsSome, sym, ap, subst, length}
+use Rattle.std.proofs.Common.{◌∙◌, IsSome, refl, sym, ap, subst, length}
 use Rattle.slab.specs.Slab.{get}
-use Rattle.ipc_descr.specs.Descriptions.{Descriptions, row_of}
+use Rattle.ipc_descr.specs.Descriptions.{Descriptions, row_of, with_session}
 use Rattle.ipc_descr.proofs.PlacesLemmas.{found_of}
 use Rattle.ipc_descr.proofs.KeepingLemmas.{passed}
+use Rattle.ipc_descr.proofs.KeptLemmas.{kept_changed}
 use Rattle.ipc_descr.proofs.table.Table.set_session.Goals as goal
 
 pub returns-in_default : goal.returns-in_default
@@ -18,5 +19,8 @@ returns-in_default c =
 pub returns : goal.returns
 returns c =
     let slot = c.in-Some.ensures in
-    let set = passed _ _ c.self.inside.slots c.args.sid.0 c.args.desc.0 c.in-Some.slot _ slot.slot slot.row slot.held c.pass_row.ensures in
+    let set = passed _ _ c.self.inside.slots c.args.sid.0 c.args.desc.0 c.in-Some.slot _ slot.slot slot.row slot.held c.pass_row.ensures.row in
     rw (← c.self.view_is) (ap (λ rows. record { rows = rows; opened = length c.self.inside.slots }) set)
+
+pub invariant_of-self : goal.invariant_of-self
+invariant_of-self c = kept_changed c.self.inside.rows c.pass_row.new.rows c.self.inside.slots c.in-Some.slot (with_session c.args.taker) c.self.invariant (λ row. refl) c.pass_row.ensures.row c.pass_row.ensures.len
