@@ -1,6 +1,6 @@
 //! A stream of frames, in whatever pieces it comes.
 
-ghost use Rattle.std.specs.Prelude.{◌≡◌, ℕ, List, [], ◌∷◌, ◌++◌, length, drop, Some, option_map, IsSome, IsNone, IfOk, IsOkAnd, OnOk, OnErr, ◌≤◌, vec_len, vec_capacity};
+ghost use Rattle.std.specs.Prelude.{◌≡◌, ◌<◌, ℕ, List, [], ◌∷◌, ◌++◌, length, drop, Some, option_map, IsSome, IsNone, IfOk, IsOkAnd, OnOk, OnErr, ◌≤◌, vec_len, vec_capacity};
 ghost use Rattle.ipc_fields.specs.Given.{Gives};
 ghost use Rattle.ipc_wire.specs.Streams.{front, cut, Feeds, new_stream, still_first};
 
@@ -91,16 +91,29 @@ fn still_first(first: bool, requests: &[Request]) -> bool
 /// The most memory that a stream keeps while nothing waits in it: 1 MiB.
 pub const KEPT_ROOM: usize = 1_048_576;
 
-/// Takes the first bytes of a stream away. A buffer that has grown large is given back once it is empty.
+/// Moves what stands behind the first bytes to the front. Who takes nothing away may not call it: a piece that completes no
+/// frame would walk over all that is kept.
+fn move_to_front(bytes: &mut Vec<u8>, n: usize)
+    requires some { 0 < n }
+    requires within { n ≤ vec_len bytes.old }
+    ensures { bytes.new.items ≡ drop n bytes.old.items }
+{
+    let left = bytes.len() - n;
+    bytes.copy_within(n.., 0);
+    bytes.truncate(left);
+}
+
+/// Takes the first bytes of a stream away. A buffer that has grown large is given back once it is empty. Where bytes are
+/// taken away, those behind them are moved; else nothing is done.
 pub fn remove_front(alloc: Global, bytes: &mut Vec<u8>, n: usize)
     requires { n ≤ vec_len bytes.old }
     ensures rest { bytes.new.items ≡ drop n bytes.old.items }
     ensures given_back { n ≡ vec_len bytes.old → vec_capacity bytes.new ≤ KEPT_ROOM }
 {
-    let left = bytes.len() - n;
-    if left > 0 {
-        bytes.copy_within(n.., 0);
-        bytes.truncate(left);
+    if n < bytes.len() {
+        if n > 0 {
+            move_to_front(bytes, n);
+        }
     } else if bytes.capacity() > KEPT_ROOM {
         *bytes = Vec::new(alloc);
     } else {
