@@ -121,22 +121,11 @@ rest_dropped first w c e =
     let k : length w - length c.rest ≡ h.taken = omega (arith, h.within) in
     (omega arith, ap (λ (n : ℕ). drop n w) k ∙ sym h.rest_is)
 
-pub feeds : (old : Stream) (piece : List ℕ) (c : Cut) (whole kept : List ℕ) (n : ℕ) (first : Bool) → whole ≡ old.kept ++ piece → cut old.first whole ≡ c → n ≡ length whole → kept ≡ drop (n - length c.rest) whole → first ≡ still_first old.first c.requests
-    → Feeds old piece c.requests (record { kept = kept; first = first; fault = c.fault })
-feeds old piece c whole kept n first w e len k f =
-    let rest : kept ≡ c.rest = k ∙ ap (λ (m : ℕ). drop (m - length c.rest) whole) len ∙ (rest_dropped old.first whole c e).1 in
-    let cut_is_c : c ≡ cut old.first (old.kept ++ piece) = sym e ∙ ap (cut old.first) w in
-    let new_is : record { kept = kept; first = first; fault = c.fault } ≡ stream_after old.first c = rw (rest, f) refl in
-    record { requests_are = ap (λ (x : Cut). x.requests) cut_is_c; stream_is = new_is ∙ ap (stream_after old.first) cut_is_c }
-
--- a piece before which nothing is kept is the stream's cut by itself
-pub feeds_first : (old : Stream) (piece : List ℕ) (c : Cut) (kept : List ℕ) (first : Bool) → old.kept ≡ [] → cut old.first piece ≡ c → kept ≡ old.kept ++ c.rest → first ≡ still_first old.first c.requests
-    → Feeds old piece c.requests (record { kept = kept; first = first; fault = c.fault })
-feeds_first old piece c kept first none e k f =
-    let cut_is_c : c ≡ cut old.first (old.kept ++ piece) = sym e ∙ ap (λ (l : List ℕ). cut old.first (l ++ piece)) (sym none) in
-    let rest : kept ≡ c.rest = k ∙ ap (λ (l : List ℕ). l ++ c.rest) none in
-    let new_is : record { kept = kept; first = first; fault = c.fault } ≡ stream_after old.first c = rw (rest, f) refl in
-    record { requests_are = ap (λ (x : Cut). x.requests) cut_is_c; stream_is = new_is ∙ ap (stream_after old.first) cut_is_c }
+-- so the cut is known by what is kept of it
+pub rest_kept : (first : Bool) (w : List ℕ) (c : Cut) (n : ℕ) (kept : List ℕ) → cut first w ≡ c → n ≡ length w → kept ≡ drop (n - length c.rest) w → cut first w ≡ record c { rest = kept }
+rest_kept first w c n kept e len k =
+    let rest : c.rest ≡ kept = sym (rest_dropped first w c e).1 ∙ ap (λ (m : ℕ). drop (m - length c.rest) w) (sym len) ∙ sym k in
+    e ∙ ap (λ (l : List ℕ). record c { rest = l }) rest
 
 -- ---- a stream in two pieces
 

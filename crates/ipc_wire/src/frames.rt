@@ -121,6 +121,47 @@ pub fn remove_front(alloc: Global, bytes: &mut Vec<u8>, n: usize)
     }
 }
 
+/// Cuts what is kept and the piece, and keeps the rest. Gives the requests, and the fault that ends them.
+fn cut_behind(
+    alloc: Global,
+    first: bool,
+    kept: &mut Vec<u8>,
+    piece: &[u8],
+) -> Result<(Vec<Request>, Option<WireFault>), NoMemory>
+    ensures cut { IfOk result (λ x. cut first (kept.old.items ++ piece.now) ≡ record { requests = x.0.items; rest = kept.new.items; fault = x.1 }) }
+    ensures err { OnErr result (kept.new.items ≡ kept.old.items) }
+{
+    let kept_before = kept.len();
+    kept.extend_from_slice(piece)?;
+    match cut_of(alloc, first, kept) {
+        Ok((requests, rest, fault)) => {
+            let taken = kept.len() - rest.len();
+            remove_front(alloc, kept, taken);
+            Ok((requests, fault))
+        }
+        Err(NoMemory) => {
+            kept.truncate(kept_before);
+            Err(NoMemory)
+        }
+    }
+}
+
+/// The same where nothing is kept: the piece is cut where it lies, and its rest alone is copied.
+fn cut_in_place(
+    alloc: Global,
+    first: bool,
+    kept: &mut Vec<u8>,
+    piece: &[u8],
+) -> Result<(Vec<Request>, Option<WireFault>), NoMemory>
+    requires { kept.old.items ≡ [] }
+    ensures cut { IfOk result (λ x. cut first (kept.old.items ++ piece.now) ≡ record { requests = x.0.items; rest = kept.new.items; fault = x.1 }) }
+    ensures err { OnErr result (kept.new.items ≡ kept.old.items) }
+{
+    let (requests, rest, fault) = cut_of(alloc, first, piece)?;
+    kept.extend_from_slice(rest)?;
+    Ok((requests, fault))
+}
+
 /// A stream of requests. Contracts see what it keeps of the stream, whether a hello is still to come,
 /// and the fault that ended it.
 #[derive(Drop)]
@@ -169,34 +210,11 @@ impl Frames {
         if self.fault.is_some() {
             return Ok(Vec::new(alloc));
         }
-        if self.kept.is_empty() {
-            return self.feed_first(alloc, piece);
-        }
-        let kept_before = self.kept.len();
-        self.kept.extend_from_slice(piece)?;
-        match cut_of(alloc, self.first, &self.kept) {
-            Ok((requests, rest, fault)) => {
-                let taken = self.kept.len() - rest.len();
-                remove_front(alloc, &mut self.kept, taken);
-                self.first = still_first(self.first, &requests);
-                self.fault = fault;
-                Ok(requests)
-            }
-            Err(NoMemory) => {
-                self.kept.truncate(kept_before);
-                Err(NoMemory)
-            }
-        }
-    }
-
-    /// Takes a piece before which nothing is kept: it is cut where it lies, and its rest alone is kept.
-    fn feed_first(&mut self, alloc: Global, piece: &[u8]) -> Result<Vec<Request>, NoMemory>
-        requires { self.old.kept ≡ [] }
-        ensures cut { IfOk result (λ requests. Feeds self.old piece.now requests.items self.new) }
-        ensures err { OnErr result (self.new ≡ self.old) }
-    {
-        let (requests, rest, fault) = cut_of(alloc, self.first, piece)?;
-        self.kept.extend_from_slice(rest)?;
+        let (requests, fault) = if self.kept.is_empty() {
+            cut_in_place(alloc, self.first, &mut self.kept, piece)?
+        } else {
+            cut_behind(alloc, self.first, &mut self.kept, piece)?
+        };
         self.first = still_first(self.first, &requests);
         self.fault = fault;
         Ok(requests)
