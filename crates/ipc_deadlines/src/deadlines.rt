@@ -1,8 +1,8 @@
 //! The timed calls of a server.
 
-ghost use Rattle.std.specs.Prelude.{◌≡◌, [], ◌∷◌, ◌++◌, find, OnOk, OnErr};
+ghost use Rattle.std.specs.Prelude.{◌≡◌, [], ◌∷◌, ◌++◌, find, IfSome, IfNone, OnOk, OnErr};
 ghost use Rattle.std.specs.Option.{option_map};
-ghost use Rattle.ipc_deadlines.specs.Calls.{is_over, without, AllBelow};
+ghost use Rattle.ipc_deadlines.specs.Calls.{is_over, without, AllBelow, IsLeast};
 
 use crate::timed::Timed;
 use crate::tree::Tree;
@@ -67,5 +67,13 @@ impl Deadlines {
             Some(tree) => tree.due(moment),
             None => None,
         }
+    }
+
+    /// The least deadline, if there is a call. Takes no memory.
+    pub fn least(&self) -> Option<u64>
+        ensures some { IfSome result (λ least. IsLeast least self.now) }
+        ensures none { IfNone result (self.now ≡ []) }
+    {
+        Some(self.tree.as_ref()?.least())
     }
 }

@@ -1,8 +1,8 @@
 //! The timed calls of a server, by place and by session.
 
-ghost use Rattle.std.specs.Prelude.{◌≡◌, ◌+◌, ◌<◌, [], ◌∷◌, ◌++◌, find, slice_get, option_and_then, OnOk, OnErr};
+ghost use Rattle.std.specs.Prelude.{◌≡◌, ◌+◌, ◌<◌, [], ◌∷◌, ◌++◌, find, slice_get, option_and_then, IfSome, IfNone, OnOk, OnErr};
 ghost use Rattle.std.specs.Option.{option_map};
-ghost use Rattle.ipc_deadlines.specs.Calls.{is_over, AllBelow};
+ghost use Rattle.ipc_deadlines.specs.Calls.{is_over, AllBelow, IsLeast};
 ghost use Rattle.ipc_deadlines.specs.TimedView.{without_session, NoneOf};
 
 use crate::deadlines::Deadlines;
@@ -81,6 +81,14 @@ impl TimedCalls {
         ensures { result ≡ option_map (λ t. t.session) (find (is_over moment) self.now.calls) }
     {
         self.deadlines.due(moment)
+    }
+
+    /// The least deadline, if there is a call. Takes no memory.
+    pub fn least(&self) -> Option<u64>
+        ensures some { IfSome result (λ least. IsLeast least self.now.calls) }
+        ensures none { IfNone result (self.now.calls ≡ []) }
+    {
+        self.deadlines.least()
     }
 }
 

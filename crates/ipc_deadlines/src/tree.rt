@@ -58,7 +58,7 @@ impl Tree {
     }
 
     /// The least deadline. There is a call.
-    fn least(&self) -> u64
+    pub(crate) fn least(&self) -> u64
         ensures least { IsLeast result self.now }
         ensures some { 1 ≤ length self.now }
     {

@@ -25,3 +25,4 @@ pub mod Ending
 pub mod Opened
 pub mod Changed
 pub mod Looked
+pub mod Deadlines

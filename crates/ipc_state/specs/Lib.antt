@@ -7,3 +7,4 @@ pub mod Meetings
 pub mod Waiting
 pub mod OnTime
 pub mod Rows
+pub mod NextDeadline

@@ -11,6 +11,7 @@ ghost use Rattle.ipc_state.specs.Ranges.{first_bad};
 ghost use Rattle.ipc_state.specs.StateView.{with_event};
 ghost use Rattle.ipc_state.specs.Agrees.{IsCore};
 ghost use Rattle.ipc_state.specs.Meetings.{by_description, by_name, object_by, object_bound};
+ghost use Rattle.ipc_state.specs.NextDeadline.{IsNextDeadline, EndsOncePast};
 ghost use Rattle.ipc_state.specs.OnTime.{ended_call, IsOnTime, IsState};
 
 use crate::accept::change;
@@ -106,6 +107,14 @@ impl State {
         ensures { option_map (λ s. s.0) result ≡ due self.now.config self.now.history moment }
     {
         due_at(&self.clock, moment)
+    }
+
+    /// The least deadline of the calls that are parked, if one of them has one. A tick ends a call exactly where it is past.
+    pub fn least_deadline(&self) -> Option<u64>
+        ensures least { IsNextDeadline self.now.config self.now.history result }
+        ensures due { EndsOncePast self.now.config self.now.history result }
+    {
+        self.clock.calls.least()
     }
 
     /// Whether the session is live.
