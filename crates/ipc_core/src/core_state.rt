@@ -6,6 +6,7 @@ ghost use Rattle.ipc_terms.specs.Timed.{plain};
 ghost use Rattle.ipc_policy.specs.Bodies.{due};
 ghost use Rattle.ipc_policy.specs.Rules.{would_park};
 ghost use Rattle.ipc_state.specs.OnTime.{ended_call};
+ghost use Rattle.ipc_state.specs.NextDeadline.{IsNextDeadline, EndsOncePast};
 ghost use Rattle.ipc_terms.specs.Lists.{changed};
 ghost use Rattle.ipc_core.specs.Boxes.{box_at, taken};
 ghost use Rattle.ipc_policy.specs.Sessions.{live};
@@ -115,6 +116,15 @@ impl Core {
         ensures { option_map (λ s. s.0) result ≡ due self.now.config self.now.history moment }
     {
         self.state.due(moment)
+    }
+
+    /// The least deadline of the calls that are parked, if one of them has one. A tick ends a call exactly where it is past.
+    /// Takes no memory.
+    pub fn least_deadline(&self) -> Option<u64>
+        ensures least { IsNextDeadline self.now.config self.now.history result }
+        ensures due { EndsOncePast self.now.config self.now.history result }
+    {
+        self.state.least_deadline()
     }
 
     /// The answers that the session has not taken yet, in order; nothing, where there is no such

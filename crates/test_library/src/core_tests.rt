@@ -64,6 +64,8 @@ enum Step {
     Decide(Asked, Option<Rule>),
     /// The session that a tick of this moment would answer.
     Due(u64, Option<Sid>),
+    /// The least deadline of a parked call.
+    Least(Option<u64>),
     /// How many answers the session has not taken yet.
     Waiting(u64, usize),
     /// How many it takes.
@@ -81,7 +83,7 @@ enum Step {
 }
 
 use Asked::{Create, Give, Hangup, Hello, Interrupt, Receive, ReceiveUntil, Send, Tick, Umask};
-use Step::{Clear, Decide, Due, New, Post, Records, Run, Standard, Take, Waiting};
+use Step::{Clear, Decide, Due, Least, New, Post, Records, Run, Standard, Take, Waiting};
 
 const ANN: Option<Sid> = Some(Sid(0));
 
@@ -157,6 +159,7 @@ fn gives(alloc: Global, core: &mut Core, step: &Step) -> Result<bool, Fail> {
         Post(asked, rule, caller, other) => { posts(alloc, core, asked, *rule, (*caller, *other))? }
         Decide(asked, rule) => core.decide(&event(alloc, asked)?) == *rule,
         Due(moment, sid) => core.due(*moment) == *sid,
+        Least(deadline) => core.least_deadline() == *deadline,
         Waiting(sid, count) => {
             core.waiting(Sid(*sid)) == *count && core.answers(Sid(*sid)).len() == *count
         }
@@ -174,7 +177,7 @@ fn gives(alloc: Global, core: &mut Core, step: &Step) -> Result<bool, Fail> {
 
 /// Answers wait in outboxes until they are taken, once; a call that parks is answered later; what is
 /// answered to nobody, or to a session that is not live, stands nowhere.
-static STEPS: [Step; 66] = [
+static STEPS: [Step; 69] = [
     Records(0),
     Post(Hello(Some(Uid(1000))), None, ANN, None),
     Post(Hello(None), Some(Rule::BadKey), Some(Sid::NOBODY), None),
@@ -224,15 +227,18 @@ static STEPS: [Step; 66] = [
     Post(Give(0, 0, 1), None, ANN, BOB),
     Post(Create(0, b"/q"), None, ANN, None),
     Due(u64::MAX, None),
+    Least(None),
     Post(ReceiveUntil(1, 0, 7), None, None, None),
     Post(ReceiveUntil(0, 1, 5), None, None, None),
     Due(4, None),
     Due(5, ANN),
     Due(6, ANN),
     Due(7, BOB),
+    Least(Some(5)),
     Post(Tick(4), None, None, None),
     Post(Tick(9), None, BOB, None),
     Due(0, ANN),
+    Least(Some(5)),
     Take(1, 3),
     Decide(Tick(0), None),
     Post(Tick(0), None, ANN, None),

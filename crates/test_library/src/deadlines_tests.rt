@@ -1,4 +1,4 @@
-//! Parked calls with deadlines: whose is due, and what is left when one ends.
+//! Parked calls with deadlines: whose is due, which deadline is the least, and what is left when one ends.
 
 use ipc_deadlines::{Deadlines, Timed, TimedCalls};
 use ipc_terms::Sid;
@@ -24,10 +24,11 @@ fn the_earliest_call_that_is_over_is_due(rt: HostRuntime) -> Result<(), Fail> {
     deadlines.push(rt.alloc(), LATER)?;
     assert!(rt; deadlines.due(9).is_none() && deadlines.due(10) == Some(Sid(1)));
     assert!(rt; deadlines.due(19) == Some(Sid(1)) && deadlines.due(20) == Some(Sid(0)));
+    assert!(rt; deadlines.least() == Some(10));
     deadlines.remove(3);
     assert!(rt; deadlines.due(20) == Some(Sid(1)));
     deadlines.remove(7);
-    assert!(rt; deadlines.due(u64::MAX).is_none());
+    assert!(rt; deadlines.due(u64::MAX).is_none() && deadlines.least().is_none());
     Ok(())
 }
 
@@ -40,6 +41,7 @@ fn a_session_s_call_ends_and_another_comes(rt: HostRuntime) -> Result<(), Fail> 
     calls.push(rt.alloc(), LATER)?;
     calls.end(Sid(1));
     assert!(rt; calls.due(19).is_none() && calls.due(20) == Some(Sid(0)));
+    assert!(rt; calls.least() == Some(20));
     calls.end(Sid(0));
     assert!(rt; calls.due(u64::MAX).is_none());
     calls.push(rt.alloc(), LATER)?;
