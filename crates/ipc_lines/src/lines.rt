@@ -222,13 +222,17 @@ impl<R: Read + Drop> Lines<R> {
         Err(LineFault::Read)
     }
 
-    /// Adds the bytes that are at hand to the line, up to a line feed, which is read too; reads some where none are.
+    /// Adds the bytes that are at hand to the line, up to a line feed, which is read too; reads some where none are and
+    /// the line isn't too long yet.
     fn read_piece(&mut self) -> Result<Piece, LineFault>
         ensures counted { self.new.count ≡ self.old.count }
         ensures read { IfOk result (λ piece. ReadsPiece piece self.old.line.items self.new.line.items (unread_input R.remaining self.old) (unread_input R.remaining self.new)) }
         ensures blamed { IfErr result (BlamesOnly (self.old.count + 1)) }
     {
         let room = (LONGEST_LINE + 1).saturating_sub(self.line.len());
+        if room == 0 {
+            return Ok(Piece::Last);
+        }
         let shown = match self.input.fill_buf() {
             Ok(shown) => shown,
             Err(e) if e.kind() == ErrorKind::Interrupted => return Ok(Piece::Open),

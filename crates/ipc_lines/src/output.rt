@@ -48,15 +48,30 @@ impl<W: Write + Drop> Output<W> {
         self.writer.flush().map_err(fault_of_writer)
     }
 
-    /// Writes what was put, and gives the writer back.
+    /// Writes what was put, and gives the writer back. Where that fails, what is left is tried once more, as where a
+    /// `BufWriter` is dropped.
     pub fn finish(self) -> (W, Result<(), LineFault>)
         ensures kept { OnOk result.1 (Keeps (written W.contents self) (W.contents result.0)) }
         ensures fault { IfErr result.1 IsOfWriter }
     {
         let mut output = self;
         let outcome = output.flush();
-        let (writer, _unwritten) = output.writer.into_parts();
+        if outcome.is_err() {
+            return (after_one_more_try(output.writer), outcome);
+        }
+        let (writer, _none) = output.writer.into_parts();
         (writer, outcome)
+    }
+}
+
+/// Tries to write what a failed write left, and gives the writer back however that ends.
+fn after_one_more_try<W: Write + Drop>(writer: BufWriter<W>) -> W {
+    match writer.into_inner() {
+        Ok(writer) => writer,
+        Err(unwritten) => {
+            let (writer, _unwritten) = unwritten.into_inner().into_parts();
+            writer
+        }
     }
 }
 

@@ -4,7 +4,7 @@ use ipc_lines::{LineFault, Lines, Output, words_of};
 use std::alloc::Global;
 use std::cell::Cell;
 use std::io;
-use std::io::Read;
+use std::io::{ErrorKind, Read, Write};
 use std::test::Fail;
 
 /// Lines, and their words.
@@ -108,6 +108,52 @@ fn the_end_is_read_once(rt: HostRuntime) -> Result<(), Fail> {
     Ok(())
 }
 
+/// So many bytes without a line feed, behind which each read fails.
+#[derive(Drop)]
+struct Unbroken<'a> {
+    left: usize,
+    reads: &'a Cell<usize>,
+}
+
+impl Read for Unbroken<'_> {
+    fn read(&mut self, buffer: &mut [u8]) -> io::Result<usize> {
+        self.reads.set(self.reads.get().saturating_add(1));
+        if self.left == 0 {
+            return Err(io::Error::from(ErrorKind::Other));
+        }
+        let count = buffer.len().min(self.left);
+        buffer[..count].fill(b'a');
+        self.left -= count;
+        Ok(count)
+    }
+}
+
+/// How many bytes have no line feed, what the first line is then, and after how many reads of 8,192 bytes.
+static UNBROKEN: [(usize, LineFault, usize); 3] = [
+    (1_048_576, LineFault::Read, 129),
+    (1_048_577, LineFault::Bad(1), 129),
+    (1_100_000, LineFault::Bad(1), 129),
+];
+
+/// A line that is too long is refused as soon as that is read: a pipe that stays open is not waited for.
+#[test]
+fn a_line_that_is_too_long_waits_for_no_more(rt: HostRuntime) -> Result<(), Fail> {
+    for (left, fault, wanted) in &UNBROKEN {
+        let reads = Cell::new(0);
+        let reader = Unbroken {
+            left: *left,
+            reads: &reads,
+        };
+        let Ok(mut lines) = Lines::new(rt.alloc(), reader) else {
+            return Err(Fail::new("no lines"));
+        };
+        if lines.next_line() != Err(*fault) || reads.get() != *wanted {
+            return Err(Fail::new(format_args!("of {left} bytes")));
+        }
+    }
+    Ok(())
+}
+
 /// The number of the next line and whether it is at hand, before each line of three.
 fn numbers(alloc: Global) -> Result<Vec<(u64, bool)>, LineFault> {
     let mut lines = Lines::new(alloc, b"a\nb\nc".as_slice())?;
@@ -148,4 +194,53 @@ fn lines_are_written(rt: HostRuntime) {
     let mut bytes = Vec::new(rt.alloc());
     let outcome = written(rt.alloc(), &mut bytes);
     assert!(rt; outcome == Ok(()) && bytes.as_slice() == b"a b\nc\n".as_slice());
+}
+
+/// A writer to memory whose first writes fail.
+#[derive(Drop)]
+struct Recovering {
+    failures: usize,
+    written: Vec<u8>,
+}
+
+impl Write for Recovering {
+    fn write(&mut self, buffer: &[u8]) -> io::Result<usize> {
+        if let Some(left) = self.failures.checked_sub(1) {
+            self.failures = left;
+            return Err(io::Error::from(ErrorKind::Other));
+        }
+        self.written.write(buffer)
+    }
+
+    fn flush(&mut self) -> io::Result<()> {
+        Ok(())
+    }
+}
+
+/// How many of the first writes fail, what is written, and how an output ends then.
+static FAILURES: [(usize, &[u8], Result<(), LineFault>); 3] = [
+    (0, b"a b\n", Ok(())),
+    (1, b"a b\n", Err(LineFault::Write)),
+    (2, b"", Err(LineFault::Write)),
+];
+
+/// What a failed write left at the end is tried once more, and the end is at fault still.
+#[test]
+fn the_end_is_tried_once_more(rt: HostRuntime) -> Result<(), Fail> {
+    let alloc = rt.alloc();
+    for (failures, wanted, outcome) in &FAILURES {
+        let writer = Recovering {
+            failures: *failures,
+            written: Vec::new(alloc),
+        };
+        let Ok(mut output) = Output::new(alloc, writer) else {
+            return Err(Fail::new("no output"));
+        };
+        let put = output.put("a b\n");
+        let (writer, ended) = output.finish();
+        if put != Ok(()) || ended != *outcome || writer.written.as_slice() != *wanted {
+            return Err(Fail::new(format_args!("of {failures} failures")));
+        }
+    }
+    Ok(())
 }

@@ -291,6 +291,46 @@ fn each_read_and_write_fails_once(rt: HostRuntime) -> Result<(), Fail> {
     Ok(())
 }
 
+/// A writer to memory whose first writes fail.
+#[derive(Drop)]
+struct Recovering {
+    failures: usize,
+    written: Vec<u8>,
+}
+
+impl Write for Recovering {
+    fn write(&mut self, buffer: &[u8]) -> io::Result<usize> {
+        if let Some(left) = self.failures.checked_sub(1) {
+            self.failures = left;
+            return Err(io::Error::from(ErrorKind::BrokenPipe));
+        }
+        self.written.write(buffer)
+    }
+
+    fn flush(&mut self) -> io::Result<()> {
+        Ok(())
+    }
+}
+
+/// What was answered is tried to be written before more is waited for, at the run's end, and once more where that fails.
+#[test]
+fn answers_are_tried_three_times(rt: HostRuntime) -> Result<(), Fail> {
+    for (failures, wanted) in [(1, WRITTEN), (2, WRITTEN), (3, "")] {
+        let writer = Recovering {
+            failures,
+            written: Vec::new(rt.alloc()),
+        };
+        let ended = run_script_on(rt.alloc(), Limits::STANDARD, SCRIPT.as_bytes(), writer);
+        let Ok((writer, Err(ScriptFault::Write))) = ended else {
+            return Err(Fail::new(format_args!("no fault by {failures} failures")));
+        };
+        if writer.written.as_slice() != wanted.as_bytes() {
+            return Err(Fail::new(format_args!("by {failures} failures")));
+        }
+    }
+    Ok(())
+}
+
 /// Where the writer fails, what it lost was answered before the line that is at fault.
 #[test]
 fn a_writer_s_fault_comes_before_a_later_line_s(rt: HostRuntime) -> Result<(), Fail> {
