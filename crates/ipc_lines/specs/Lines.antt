@@ -12,6 +12,10 @@ reads_left lines = (reader_inner lines.input).left
 abbrev pub lines_read : {R : Type 0} → Lines R → ℕ
 lines_read lines = lines.count
 
+-- the bytes of the line that was read last
+abbrev pub last_line : {R : Type 0} → Lines R → List ℕ
+last_line lines = lines.line.items
+
 -- the bytes that the reader is yet to give and those that wait in its block, where the reader's bytes are known
 abbrev pub unread_input : {R : Type 0} → (R → Option (List ℕ)) → Lines R → Option (List ℕ)
 unread_input remaining lines = reader_remaining (λ counted. remaining counted.reader) lines.input

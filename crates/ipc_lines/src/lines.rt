@@ -2,9 +2,8 @@
 
 ghost use Rattle.std.specs.Prelude.{◌≡◌, ◌+◌, ◌-◌, ◌^◌, ◌≤◌, min, Some, None, OnOk, IfErr, IfOk, IfSome, IsErr, if◌then◌else◌, true, length};
 ghost use Rattle.std.specs.Io.KnownBytes.{Keeps};
-ghost use Rattle.std.specs.String.{string_bytes};
 ghost use Rattle.ipc_lines.specs.Faults.{BlamesOnly};
-ghost use Rattle.ipc_lines.specs.Lines.{lines_read, reads_left, unread, unread_input, written};
+ghost use Rattle.ipc_lines.specs.Lines.{last_line, lines_read, reads_left, unread, unread_input, written};
 ghost use Rattle.ipc_lines.specs.Reading.{IsNextLine, ReadsLine, ReadsPiece};
 
 use crate::fault::LineFault;
@@ -118,13 +117,10 @@ impl<R: Read + Drop> Lines<R> {
         ensures fits { IfOk result (λ found. IfSome found (λ line. length line.now ≤ 1048576)) }
         ensures blamed { IfErr result (BlamesOnly (lines_read self.old + 1)) }
     {
-        if !self.read_line()? {
+        if !self.read_next()? {
             return Ok(None);
         }
-        match str::from_utf8(&self.line) {
-            Ok(line) => Ok(Some(line)),
-            Err(_) => Err(LineFault::Bad(self.count)),
-        }
+        Ok(Some(self.line()?))
     }
 
     /// The next line, as `next_line` gives it. Where it must be waited for, what was put into the output is
@@ -142,47 +138,13 @@ impl<R: Read + Drop> Lines<R> {
         self.next_line()
     }
 
-    /// Reads the next line into the text, as `next_line` gives it. `false` at the input's end, and then the text
-    /// stays as it was. No further line is to be asked for after an `Err`.
-    pub fn read_next(&mut self, text: &mut String) -> Result<bool, LineFault>
-        ensures next { IfOk result (λ is_there. IsNextLine (if is_there then Some (string_bytes text.new) else None) (unread R.remaining self.old) (unread R.remaining self.new)) }
+    /// Reads the next line, which `line` then gives. `false` at the input's end. No further line is to be asked for
+    /// after an `Err`.
+    pub fn read_next(&mut self) -> Result<bool, LineFault>
+        ensures next { IfOk result (λ is_there. IsNextLine (if is_there then Some (last_line self.new) else None) (unread R.remaining self.old) (unread R.remaining self.new)) }
         ensures counted { IfOk result (λ is_there. lines_read self.new ≡ (if is_there then lines_read self.old + 1 else lines_read self.old)) }
+        ensures fits { IfOk result (λ is_there. is_there ≡ true → length (last_line self.new) ≤ 1048576) }
         ensures blamed { IfErr result (BlamesOnly (lines_read self.old + 1)) }
-    {
-        if !self.read_line()? {
-            return Ok(false);
-        }
-        let Ok(line) = str::from_utf8(&self.line) else {
-            return Err(LineFault::Bad(self.count));
-        };
-        text.clear();
-        text.push_str(line)?;
-        Ok(true)
-    }
-
-    /// The same. Where the line must be waited for, what was put into the output is written first.
-    pub fn read_next_after<W: Write + Drop>(
-        &mut self,
-        output: &mut Output<W>,
-        text: &mut String,
-    ) -> Result<bool, LineFault>
-        ensures next { IfOk result (λ is_there. IsNextLine (if is_there then Some (string_bytes text.new) else None) (unread R.remaining self.old) (unread R.remaining self.new)) }
-        ensures kept { Keeps (written W.contents output.old) (written W.contents output.new) }
-        ensures blamed { IfErr result (BlamesOnly (lines_read self.old + 1)) }
-    {
-        if !self.is_at_hand() {
-            output.flush()?;
-        }
-        let is_there = self.read_next(text)?;
-        Ok(is_there)
-    }
-
-    /// Reads the next line's bytes. `false` at the input's end.
-    fn read_line(&mut self) -> Result<bool, LineFault>
-        ensures counted { IfOk result (λ is_there. self.new.count ≡ (if is_there then self.old.count + 1 else self.old.count)) }
-        ensures next { IfOk result (λ is_there. IsNextLine (if is_there then Some self.new.line.items else None) (unread R.remaining self.old) (unread R.remaining self.new)) }
-        ensures fits { IfOk result (λ is_there. is_there ≡ true → length self.new.line.items ≤ 1048576) }
-        ensures blamed { IfErr result (BlamesOnly (self.old.count + 1)) }
     {
         if self.is_over {
             return Ok(false);
@@ -201,6 +163,35 @@ impl<R: Read + Drop> Lines<R> {
             return Err(LineFault::Bad(self.count));
         }
         Ok(true)
+    }
+
+    /// Reads the next line, as `read_next` does. Where it must be waited for, what was put into the output is written
+    /// first.
+    pub fn read_next_after<W: Write + Drop>(
+        &mut self,
+        output: &mut Output<W>,
+    ) -> Result<bool, LineFault>
+        ensures next { IfOk result (λ is_there. IsNextLine (if is_there then Some (last_line self.new) else None) (unread R.remaining self.old) (unread R.remaining self.new)) }
+        ensures counted { IfOk result (λ is_there. lines_read self.new ≡ (if is_there then lines_read self.old + 1 else lines_read self.old)) }
+        ensures kept { Keeps (written W.contents output.old) (written W.contents output.new) }
+        ensures blamed { IfErr result (BlamesOnly (lines_read self.old + 1)) }
+    {
+        if !self.is_at_hand() {
+            output.flush()?;
+        }
+        let is_there = self.read_next()?;
+        Ok(is_there)
+    }
+
+    /// The line that was read last. `Bad` where it is not UTF-8.
+    pub fn line(&self) -> Result<&str, LineFault>
+        ensures text { IfOk result (λ line. line.now ≡ last_line self.now) }
+        ensures blamed { IfErr result (λ fault. fault ≡ LineFault.Bad (lines_read self.now)) }
+    {
+        match str::from_utf8(&self.line) {
+            Ok(line) => Ok(line),
+            Err(_) => Err(LineFault::Bad(self.count)),
+        }
     }
 
     /// Reads the next line's bytes, and says whether a line feed stood behind them. Without one the input ends there,

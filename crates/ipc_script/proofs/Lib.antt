@@ -1,3 +1,6 @@
 mod LabelMapsLemmas
 mod PrintLemmas
 mod RunLemmas
+mod LivingLemmas
+mod ToldLemmas
+mod SteppingLemmas

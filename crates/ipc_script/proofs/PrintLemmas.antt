@@ -1,18 +1,22 @@
 -- What is printed one behind the other.
 use Rattle.std.proofs.Common.{◌≡◌, ◌∙◌, ℕ, ◌+◌, ◌<◌, List, [], ◌∷◌, ◌++◌, length, take, get_or, Option, append_assoc, append-nil, ap, subst, sym, refl}
 use Rattle.std.specs.Io.KnownBytes.{Appends, Keeps}
+use Rattle.std.specs.Prelude.{Ok}
 use Rattle.std.specs.String.{string_bytes}
-use Rattle.std.proofs.lemmas.List.{take_more}
+use Rattle.std.proofs.lemmas.List.{map-append, take_more}
 use Rattle.std.proofs.KnownBytes.{Appends-kept, Appends-trans}
 use Rattle.ipc_lines.specs.Lines.{written}
 use Rattle.ipc_lines.specs.declared.output.Output.{Output}
 use Rattle.ipc_terms.specs.declared.call.Answer.{Answer}
 use Rattle.ipc_terms.specs.declared.ids.Sid.{Sid}
+use Rattle.ipc_terms.specs.declared.record.Event.{Event}
 use Rattle.ipc_core.specs.CoreView.{CoreView}
 use Rattle.ipc_policy.specs.declared.config.Config.{Config}
+use Rattle.ipc_policy.specs.Verdict.{after_event, answers}
 use Rattle.ipc_script.specs.Labels.{label_for}
-use Rattle.ipc_script.specs.Printing.{LinePrints, LinesPrint, Scene, answer_lines, labelled_line, with_start, with_starts}
+use Rattle.ipc_script.specs.Printing.{LinePrints, LinesPrint, Scene, StepPrints, answer_lines, labelled_line, with_start, with_starts}
 use Rattle.ipc_script.specs.Running.{AreWritten, Prints, scene_of}
+use Rattle.ipc_script.specs.Told.{to_session}
 use Rattle.ipc_script.specs.declared.labels.Started.{Started}
 use Rattle.ipc_script.specs.declared.script.Script.{Script}
 
@@ -29,42 +33,60 @@ prints_then contents P Q R a b d joins (out, appended, p, same) (more, grown, q,
 
 -- ---- answers
 
-lines_one_more : (started : List Started) (label : List ℕ) (told : List (Sid × Answer)) (p : Sid × Answer)
-    → answer_lines started label (told ++ p ∷ []) ≡ answer_lines started label told ++ answer_lines (with_starts started label told) label (p ∷ [])
-lines_one_more started label [] p = refl
-lines_one_more started label (q ∷ told) p =
+lines_more_told : (started : List Started) (label : List ℕ) (told more : List (Sid × Answer))
+    → answer_lines started label (told ++ more) ≡ answer_lines started label told ++ answer_lines (with_starts started label told) label more
+lines_more_told started label [] more = refl
+lines_more_told started label (q ∷ told) more =
     let now = with_start started label q.1 in
     let first = labelled_line (label_for now label q.0) q.1 in
-    ap (λ l. first ++ l) (lines_one_more now label told p)
-    ∙ sym (append_assoc first (answer_lines now label told) (answer_lines (with_starts now label told) label (p ∷ [])))
+    ap (λ l. first ++ l) (lines_more_told now label told more)
+    ∙ sym (append_assoc first (answer_lines now label told) (answer_lines (with_starts now label told) label more))
 
-starts_one_more : (started : List Started) (label : List ℕ) (told : List (Sid × Answer)) (p : Sid × Answer)
-    → with_starts started label (told ++ p ∷ []) ≡ with_start (with_starts started label told) label p.1
-starts_one_more started label [] p = refl
-starts_one_more started label (q ∷ told) p = starts_one_more (with_start started label q.1) label told p
+starts_more_told : (started : List Started) (label : List ℕ) (told more : List (Sid × Answer))
+    → with_starts started label (told ++ more) ≡ with_starts (with_starts started label told) label more
+starts_more_told started label [] more = refl
+starts_more_told started label (q ∷ told) more = starts_more_told (with_start started label q.1) label told more
 
-pub written_more : (label : List ℕ) (told : List (Sid × Answer)) (p : Sid × Answer) (x y z : Scene) (o m : List ℕ)
-    → AreWritten label told x y o → AreWritten label (p ∷ []) y z m → AreWritten label (told ++ p ∷ []) x z (o ++ m)
-written_more label told p x y z o m (scene, lines) (later, more) =
+pub written_more : (label : List ℕ) (told more : List (Sid × Answer)) (x y z : Scene) (o m : List ℕ)
+    → AreWritten label told x y o → AreWritten label more y z m → AreWritten label (told ++ more) x z (o ++ m)
+written_more label told more x y z o m (scene, lines) (later, others) =
     let started = ap (λ s. s.started) scene in
     let history = ap (λ s. s.history) scene in (
       later
-          ∙ ap (λ h. record { history = h; started = with_start y.started label p.1 }) history
-          ∙ ap (λ s. record { history = x.history; started = s }) (ap (λ s. with_start s label p.1) started ∙ sym (starts_one_more x.started label told p)),
+          ∙ ap (λ h. record { history = h; started = with_starts y.started label more }) history
+          ∙ ap (λ s. record { history = x.history; started = s }) (ap (λ s. with_starts s label more) started ∙ sym (starts_more_told x.started label told more)),
       ap (λ l. l ++ m) lines
-          ∙ ap (λ l. answer_lines x.started label told ++ l) (more ∙ ap (λ s. answer_lines s label (p ∷ [])) started)
-          ∙ sym (lines_one_more x.started label told p),
+          ∙ ap (λ l. answer_lines x.started label told ++ l) (others ∙ ap (λ s. answer_lines s label more) started)
+          ∙ sym (lines_more_told x.started label told more),
     )
 
--- one answer more, behind those before it; what was untaken is cleared between
-pub written_next : {W : Type 0} (contents : W → Option (List ℕ)) (label : List ℕ) (told : List (Sid × Answer)) (i : ℕ) (p : Sid × Answer) (a b d : Script W) (k : CoreView) (u : List (List Answer))
-    → i < length told → p ≡ get_or told i p → k ≡ record b.core { untaken = u } → Prints contents (AreWritten label (take i told)) a b
-    → Prints contents (AreWritten label (p ∷ [])) (record b { core = k }) d → Prints contents (AreWritten label (take (i + 1) told)) a d
-written_next contents label told i p a b d k u within at is first second =
-    let more : take (i + 1) told ≡ take i told ++ p ∷ [] = take_more told i p within ∙ ap (λ q. take i told ++ q ∷ []) (sym at) in
-    rw more (prints_then contents (AreWritten label (take i told)) (AreWritten label (p ∷ [])) (AreWritten label (take i told ++ p ∷ []))
-    a (record b { core = record b.core { untaken = u } }) d (written_more label (take i told) p) first
-    (subst (λ k. Prints contents (AreWritten label (p ∷ [])) (record b { core = k }) d) is second))
+-- one answer more to a session, behind those before it
+pub written_next : {W : Type 0} (contents : W → Option (List ℕ)) (label : List ℕ) (sid : Sid) (told : List Answer) (i : ℕ) (answer : Answer) (a b d : Script W)
+    → i < length told → answer ≡ get_or told i answer → Prints contents (AreWritten label (to_session sid (take i told))) a b
+    → Prints contents (AreWritten label ((sid, answer) ∷ [])) b d → Prints contents (AreWritten label (to_session sid (take (i + 1) told))) a d
+written_next contents label sid told i answer a b d within at first second =
+    let one_more : take (i + 1) told ≡ take i told ++ answer ∷ [] = take_more told i answer within ∙ ap (λ l. take i told ++ l ∷ []) (sym at) in
+    let more : to_session sid (take (i + 1) told) ≡ to_session sid (take i told) ++ (sid, answer) ∷ [] =
+    ap (to_session sid) one_more ∙ map-append (λ l. (sid, l)) (take i told) (answer ∷ []) in
+    rw more (prints_then contents (AreWritten label (to_session sid (take i told))) (AreWritten label ((sid, answer) ∷ []))
+    (AreWritten label (to_session sid (take i told) ++ (sid, answer) ∷ [])) a b d (written_more label (to_session sid (take i told)) ((sid, answer) ∷ [])) first second)
+
+-- what is told of a step is printed
+pub step_prints : {W : Type 0} (contents : W → Option (List ℕ)) (label : List ℕ) (event : Event) (told : List (Sid × Answer)) (core : CoreView) (a d : Script W)
+    → told ≡ answers a.core.config a.core.history event → core.history ≡ after_event a.core.config a.core.history event → core.config ≡ a.core.config
+    → Prints contents (AreWritten label told) (record a { core = core }) d
+    → Prints contents (λ x y o. StepPrints a.core.config label x (Ok event) y o) a d
+step_prints contents label event told core a d is recorded config (out, appended, (scene, lines), same) = (
+  out,
+  appended,
+  (
+    scene
+        ∙ ap (λ h. record { history = h; started = with_starts a.labels label told }) recorded
+        ∙ ap (λ t. record { history = after_event a.core.config a.core.history event; started = with_starts a.labels label t }) is,
+    lines ∙ ap (answer_lines a.labels label) is,
+  ),
+  same ∙ config,
+)
 
 -- the scene, the configuration and the output after each part of the writing of one answer
 pub written_one : {W : Type 0} (contents : W → Option (List ℕ)) (label : List ℕ) (sid : Sid) (answer : Answer) (a b d e : Script W)

@@ -4,3 +4,4 @@ pub mod LabelMaps
 pub mod Steps
 pub mod Printing
 pub mod Running
+pub mod Told

@@ -4,6 +4,7 @@
 mod fault;
 mod labels;
 mod script;
+mod stepping;
 
 pub use fault::ScriptFault;
 pub use script::{run_script, run_script_on};

@@ -2,9 +2,8 @@
 
 ghost use Rattle.std.specs.Prelude.{◌≡◌, ℕ, List, [], ◌∷◌, ◌++◌, IfErr, IfOk, Ok, Err, IfSome, OnOk, MatchResult, codes, false, map};
 ghost use Rattle.std.specs.String.{string_bytes};
-ghost use Rattle.std.specs.Io.KnownBytes.{Appends, Keeps};
+ghost use Rattle.std.specs.Io.KnownBytes.{Appends};
 ghost use Rattle.ipc_access.specs.UserFile.{lines_of, users_of};
-ghost use Rattle.ipc_lines.specs.Faults.{IsOfWriter};
 ghost use Rattle.ipc_lines.specs.Lines.{lines_read, unread, written};
 ghost use Rattle.ipc_lines.specs.Reading.{lines_in};
 ghost use Rattle.ipc_script.specs.Faults.{IsOfOutput, is_users_memory, of_line};
@@ -12,13 +11,15 @@ ghost use Rattle.ipc_script.specs.Labels.{acting_for, label_for};
 ghost use Rattle.ipc_script.specs.Printing.{AskedPrint, FaultPrints, LinePrints, NoLabelPrints, ScriptWrites, StepPrints, WordsPrint, is_skipped, labelled_line, with_start};
 ghost use Rattle.ipc_script.specs.Running.{AreWritten, FileIsRead, Prints, RunPrints};
 ghost use Rattle.ipc_script.specs.Steps.{AskFor, IsCall, IsHangup, IsHello, IsTick, tick_at};
+ghost use Rattle.ipc_script.specs.Told.{to_session};
 ghost use Rattle.ipc_words.specs.FaultLines.{fault_line};
 ghost use Rattle.ipc_words.specs.Readings.{Reads};
 
 use crate::fault::ScriptFault;
 use crate::labels::{Labels, is_label};
+use crate::stepping::{Stepper, Told};
 use ipc_access::Users;
-use ipc_core::{Config, Core, Limits};
+use ipc_core::{Config, Limits};
 use ipc_lines::{LineFault, Lines, Output, words_of};
 use ipc_terms::{Answer, Event, NoMemory, Sid};
 use ipc_words::{WordFault, call_of_words, put_fault, put_line, read_decimal};
@@ -101,33 +102,33 @@ fn read_core<R: Read + Drop>(
     alloc: Global,
     limits: Limits,
     lines: &mut Lines<R>,
-) -> Result<Core, ScriptFault>
+) -> Result<Stepper, ScriptFault>
     ensures core { IfOk result (λ core. (file : List ℕ)
         × FileIsRead [] file (lines_read lines.old) (lines_read lines.new) (unread R.remaining lines.old) (unread R.remaining lines.new)
         × (core.config ≡ record { users = users_of (lines_of file); limits = limits }) × (core.history ≡ [])) }
     ensures fault { IfErr result (λ fault. is_users_memory fault ≡ false) }
 {
-    let (mut file, mut line) = (Vec::new(alloc), String::new(alloc));
-    read_user_file(lines, &mut line, &mut file)?;
+    let mut file = Vec::new(alloc);
+    read_user_file(lines, &mut file)?;
     let users = Users::read(alloc, &file)?;
-    let core = Core::new(alloc, Config { users, limits })?;
+    let core = Stepper::new(alloc, Config { users, limits })?;
     Ok(core)
 }
 
 /// Adds the lines up to a line `.` to the file, each with a line end.
 fn read_user_file<R: Read + Drop>(
     lines: &mut Lines<R>,
-    line: &mut String,
     file: &mut Vec<u8>,
 ) -> Result<(), ScriptFault>
     ensures read { OnOk result (FileIsRead file.old.items file.new.items (lines_read lines.old) (lines_read lines.new) (unread R.remaining lines.old) (unread R.remaining lines.new)) }
     ensures fault { IfErr result (λ fault. is_users_memory fault ≡ false) }
 {
     for _ in 0..u64::MAX {
-        if !lines.read_next(line)? {
+        if !lines.read_next()? {
             break;
         }
-        if line.as_str() == "." {
+        let line = lines.line()?;
+        if line == "." {
             return Ok(());
         }
         file.extend_from_slice(line.as_bytes())?;
@@ -180,7 +181,7 @@ fn is_skipped(line: &[u8]) -> bool
 #[derive(Drop)]
 struct Script<W: Write + Drop> {
     alloc: Global,
-    core: Core,
+    core: Stepper,
     labels: Labels,
     output: Output<W>,
     /// The line that is written next.
@@ -217,22 +218,8 @@ fn lay_fault(line: &mut String, label: &str, fault: &WordFault) -> Result<(), No
     Ok(())
 }
 
-/// Writes all answers, unless the next line is read without waiting.
-fn write_unless_at_hand<R: Read + Drop, W: Write + Drop>(
-    output: &mut Output<W>,
-    lines: &Lines<R>,
-) -> Result<(), LineFault>
-    ensures kept { Keeps (written W.contents output.old) (written W.contents output.new) }
-    ensures fault { IfErr result IsOfWriter }
-{
-    if !lines.is_at_hand() {
-        output.flush()?;
-    }
-    Ok(())
-}
-
 impl<W: Write + Drop> Script<W> {
-    fn new(alloc: Global, core: Core, writer: W) -> Result<Self, ScriptFault>
+    fn new(alloc: Global, core: Stepper, writer: W) -> Result<Self, ScriptFault>
         ensures core { IfOk result (λ script. script.core ≡ core) }
         ensures labels { IfOk result (λ script. script.labels ≡ []) }
         ensures nothing { IfOk result (λ script. Appends (W.contents writer) (written W.contents script.output) []) }
@@ -253,13 +240,11 @@ impl<W: Write + Drop> Script<W> {
             RunPrints W.contents (lines_read lines) (lines_in input) result self.old self.new) }
         ensures fault { IfErr result (λ fault. is_users_memory fault ≡ false) }
     {
-        let mut line = String::new(self.alloc);
         for _ in 0..u64::MAX {
-            write_unless_at_hand(&mut self.output, &lines)?;
-            if !lines.read_next(&mut line)? {
+            if !lines.read_next_after(&mut self.output)? {
                 return Ok(());
             }
-            self.take_line(line.as_str())?;
+            self.take_line(lines.line()?)?;
         }
         // The reads end long before.
         Err(ScriptFault::Read)
@@ -368,19 +353,25 @@ impl<W: Write + Drop> Script<W> {
         ensures prints { OnOk result (Prints W.contents (λ before after out. StepPrints self.old.core.config label.now before (Ok event) after out) self.old self.new) }
         ensures fault { IfErr result IsOfOutput }
     {
-        let told = self.core.step(self.alloc, event)?;
-        self.write_all(label, &told)?;
+        match self.core.step(self.alloc, event)? {
+            Told::Refused(sid, rule) => {
+                self.write_answer(label, sid, &Answer::Refused(rule))?;
+            }
+            Told::Given(first, second) => {
+                self.write_answers(label, first.sid, &first.answers)?;
+                self.write_answers(label, second.sid, &second.answers)?;
+            }
+        }
         Ok(())
     }
 
-    /// Writes answers in their order. What is written isn't kept for the session to take.
-    fn write_all(&mut self, label: &str, told: &[(Sid, Answer)]) -> Result<(), ScriptFault>
-        ensures prints { OnOk result (Prints W.contents (AreWritten label.now told.now) self.old self.new) }
+    /// Writes the answers to a session, in their order.
+    fn write_answers(&mut self, label: &str, sid: Sid, told: &[Answer]) -> Result<(), ScriptFault>
+        ensures prints { OnOk result (Prints W.contents (AreWritten label.now (to_session sid told.now)) self.old self.new) }
         ensures fault { IfErr result IsOfOutput }
     {
-        for entry in told {
-            self.core.clear(entry.0);
-            self.write_answer(label, entry.0, &entry.1)?;
+        for answer in told {
+            self.write_answer(label, sid, answer)?;
         }
         Ok(())
     }

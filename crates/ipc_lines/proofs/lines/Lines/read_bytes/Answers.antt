@@ -1,4 +1,4 @@
-use Rattle.std.proofs.Common.{rules, ◌≡◌, refl}
+use Rattle.std.proofs.Common.{rules, refl}
 use Rattle.ipc_lines.proofs.LineLemmas.{fed_line, last_line, no_run, run_longer}
 use Rattle.ipc_lines.proofs.lines.Lines.read_bytes.Goals as goal
 

@@ -1,7 +1,7 @@
-use Rattle.std.proofs.Common.{rules, ◌≡◌, arith}
+use Rattle.std.proofs.Common.{rules}
 use Rattle.ipc_lines.proofs.LineLemmas.{fed_next, none_next, none_over, unfed_next}
-use Rattle.ipc_lines.proofs.lines.Lines.read_line.Goals.{else-self-3-via-then-self-3+else-is_empty, else-self-3-via-else-self-3}
-use Rattle.ipc_lines.proofs.lines.Lines.read_line.Goals as goal
+use Rattle.ipc_lines.proofs.lines.Lines.read_next.Goals.{else-self-3-via-then-self-3+else-is_empty, else-self-3-via-else-self-3}
+use Rattle.ipc_lines.proofs.lines.Lines.read_next.Goals as goal
 
 pub returns-then-self-clause-next : goal.returns-then-self-clause-next
 returns-then-self-clause-next g c = none_over _ _ _ c.if-self.true
