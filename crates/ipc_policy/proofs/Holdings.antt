@@ -2,3 +2,4 @@
 pub mod Holding
 pub mod Granting
 pub mod HeldRights
+pub mod Leading

@@ -1,5 +1,6 @@
 -- Where a message that is received comes from, and who may receive it.
-use Rattle.std.specs.Prelude.{◌≡◌, Bool, false, ℕ, ◌<◌, ◌≤◌, ◌||◌, List, [], ◌∷◌, length, IsTrue, Option, Some, None, is_none, if◌then◌else◌}
+use Rattle.std.specs.Prelude.{◌≡◌, Bool, true, false, ℕ, ◌<◌, ◌≤◌, ◌||◌, ◌==◌, List, [], ◌∷◌, length, IsTrue, Option, Some, None, is_none, if◌then◌else◌}
+use Rattle.std.specs.List.{list_any}
 use Rattle.std.specs.Option.{option_map, option_to_list}
 use Rattle.ipc_terms.specs.Timed.{plain}
 use Rattle.ipc_terms.specs.declared.ids.Sid.{Sid}
@@ -48,25 +49,38 @@ pub record Give : Type 0 where
   pub giver : Sid
   pub taker : Sid
 
--- gives of description d, the newest first, lead from what its session had by it at one place to what a session had by it
--- before another: without any that is the same; else the newest was accepted in between, its giver then held the description
--- and its taker got the same object and access, and those before it lead to what the giver had
+-- what came before each record behind one place and up to another says that a session held this by description d
+abbrev pub HeldThroughout : History → ℕ → Held → ℕ → ℕ → Type 0
+HeldThroughout h d x from until = (place : ℕ) → from < place → place ≤ until → holds (before_at place h) x.session.0 d ≡ Some x
+
+-- the gives of description d, the newest first, that led from what its session had by it behind one place to what a session had
+-- by it at another. Without any both are the same, and that session held it throughout. Else the newest was accepted in
+-- between, its taker held the description from there on, and those before it led to what its giver had up to that give: the
+-- same object and access
 abbrev pub Lead : History → ℕ → List Give → Held → ℕ → Held → ℕ → Type 0
-Lead h d [] first from last until = (first ≡ last) × (from < until)
+Lead h d [] first from last until = (first ≡ last) × (from < until) × HeldThroughout h d last from until
 Lead h d (g ∷ gs) first from last until =
     IsAccepted h g.place (Do g.giver (MqGive (record { 0 = d }) g.taker))
     × (g.place < until)
     × (last.session ≡ g.taker)
-    × (holds (before_at g.place h) g.giver.0 d ≡ Some (record last { session = g.giver }))
+    × HeldThroughout h d last g.place until
     × Lead h d gs first from (record last { session = g.giver }) g.place
+
+-- in a legal history they are all: a give of the description that was accepted in between stands at the place of one of them
+abbrev pub EachLeadIsWhole : Type 0
+EachLeadIsWhole =
+    (c : Config) (h : History) (d : ℕ) (gs : List Give) (first : Held) (from : ℕ) (last : Held) (until place : ℕ) (giver taker : Sid) →
+    Legal c h → Lead h d gs first from last until → IsAccepted h place (Do giver (MqGive (record { 0 = d }) taker)) →
+    from < place → place < until → list_any (λ g. g.place == place) gs ≡ true
 
 -- an open creates what it gives, or the object grants the caller the access that the open asks for
 abbrev pub created_or_granted : Config → History → Opening → ℕ → Bool
 created_or_granted c before asked o = creating before asked || grants_to (cred c before asked.session.0) (facts c before o) (bits_wanted asked.access)
 
--- before the place of an act a session had all that this says by description d: an accepted open gave the description to its
--- session, and accepted gives, each by the session that then held it, led from that session to the one that acts. The open
--- created the object, or the object, by its owner, group and mode of that moment, granted the access that the open asked for
+-- at the place of an act a session had all that this says by description d: an accepted open gave the description to its
+-- session, and accepted gives led from there to the session that acts. Each of these sessions held it from the open or its give
+-- to the next give or the act. The open created the object, or the object, by its
+-- owner, group and mode of that moment, granted the access that the open asked for
 pub record IsGranted (c : Config) (h : History) (d : ℕ) (x : Held) (act : ℕ) : Type 0 where
   pub place : ℕ
   pub event : Event

@@ -51,7 +51,7 @@ sent_on c h q o m known =
       held = ap (λ b. holds b m.session m.desc) (before_stays h q m.place lt) ∙ known.held;
       object = known.object;
       writable = known.writable;
-      granted = granted_on c h q m.desc known.writer m.place known.granted;
+      granted = granted_on c h q m.desc known.writer m.place lt known.granted;
     }
 
 -- what is held at a place of a longer history
@@ -70,7 +70,7 @@ received_on c h q o w known now = record {
   held = held_at h q w.session w.desc w.place known.reader now known.held;
   object = known.object;
   readable = known.readable;
-  granted = granted_on c h q w.desc known.reader w.place known.granted;
+  granted = granted_on c h q w.desc known.reader w.place (made_below h w.place _ known.made) known.granted;
 }
 
 writable_of : (c : Config) (h : History) (sid : Sid) (desc : Desc) (priority : ℕ) (bytes : List ℕ) (x : Held) → None ≡ verdict c h (Do sid (MqSend desc priority bytes)) → holds h sid.0 desc.0 ≡ Some x → reads_only x.access ≡ false
@@ -97,7 +97,7 @@ sent_now c h e o m legal of =
       held = subst (λ (n : ℕ). holds (before_at n (record { event = e; rule = None } ∷ h)) m.session m.desc ≡ Some of.x) (sym of.place) (ap (λ b. holds b m.session m.desc) (before_now h (record { event = e; rule = None })) ∙ mine);
       object = of.object;
       writable = writable_of c h of.sid of.desc m.priority m.bytes of.x lawful of.held;
-      granted = subst (IsGranted c (record { event = e; rule = None } ∷ h) m.desc of.x) (sym of.place) (granted_on c h (record { event = e; rule = None }) m.desc of.x (length h) (held_granted c h m.desc of.x legal.1 (holds_is_held h m.session m.desc of.x mine)));
+      granted = subst (IsGranted c (record { event = e; rule = None } ∷ h) m.desc of.x) (sym of.place) (held_granted c h m.desc of.x legal.1 (holds_is_held h m.session m.desc of.x mine) (record { event = e; rule = None }));
     }
 
 -- a receive that is made now
@@ -116,7 +116,7 @@ received_now c h e o w legal of =
       held = held_at h (record { event = e; rule = None }) w.session w.desc w.place of.x mine (λ i le lt. absurd (omega arith));
       object = of.object;
       readable = readable_of c h of.sid of.desc of.length' of.x lawful of.held;
-      granted = subst (IsGranted c (record { event = e; rule = None } ∷ h) w.desc of.x) (sym place) (granted_on c h (record { event = e; rule = None }) w.desc of.x (length h) (held_granted c h w.desc of.x legal.1 (holds_is_held h w.session w.desc of.x mine)));
+      granted = subst (IsGranted c (record { event = e; rule = None } ∷ h) w.desc of.x) (sym place) (held_granted c h w.desc of.x legal.1 (holds_is_held h w.session w.desc of.x mine) (record { event = e; rule = None }));
     }
 
 -- a receive that is parked: its session holds its description still

@@ -1,5 +1,5 @@
 -- Small histories, worked out by the definitions alone.
-use Rattle.std.proofs.Common.{◌≡◌, ℕ, Bool, true, false, List, [], ◌∷◌, ◌++◌, map, Some, None, refl}
+use Rattle.std.proofs.Common.{◌≡◌, ℕ, Bool, true, false, List, [], ◌∷◌, ◌++◌, map, Some, None, refl, arith}
 use Rattle.std.specs.Prelude.{codes}
 use Rattle.ipc_terms.specs.declared.rule.Rule.TheVariants.{NoSession, InCall, NotInCall, NotAdmin, NoUser, BadDescr, NotForRead, Absent, ModeDenied, NotOwner, ChownDenied, ValueRange, QueueCount, ByteLimit, NotifyTaken, WouldBlock, Overflow, TimedOut, NoTaker}
 use Rattle.ipc_terms.specs.declared.ids.Sid.{Sid}
@@ -18,6 +18,7 @@ use Rattle.ipc_terms.specs.declared.record.Event.{Event}
 use Rattle.ipc_terms.specs.declared.record.Event.TheVariants.{Hello, Do, Hangup, Tick}
 use Rattle.ipc_access.specs.declared.users.User.{User}
 use Rattle.ipc_policy.specs.declared.config.Config.{Config}
+use Rattle.ipc_policy.specs.declared.config.Held.{Held}
 use Rattle.ipc_policy.specs.History.{History, after_accepted}
 use Rattle.ipc_policy.specs.Sessions.{hellos, user, live, cred, mask}
 use Rattle.ipc_policy.specs.Names.{is_bound, creating, creations, bound}
@@ -31,6 +32,7 @@ use Rattle.ipc_policy.specs.Life.{named, alive}
 use Rattle.ipc_policy.specs.Charges.{bytes_of, charge_of, charged, queues_alive, limit}
 use Rattle.ipc_policy.specs.Rules.{forbids, no_session, in_call, not_in_call, name_form, name_long, not_admin, no_user, bad_descr, not_for_write, not_for_read, dir_search, dir_read, absent, present, mode_denied, dir_write, sticky, not_owner, chown_denied, attr_range, value_range, queue_count, byte_limit, descr_limit, prio_range, message_long, buffer_short, notify_taken, would_block, overflow, bad_key, timed_out, no_taker}
 use Rattle.ipc_policy.specs.Deliveries.{delivery, receive_that_took}
+use Rattle.ipc_policy.specs.Confined.{Lead}
 use Rattle.ipc_policy.specs.Fates.{StaysParked, IsWithdrawn, StaysInQueue, IsTaken, IsLeft, became}
 use Rattle.ipc_policy.specs.Verdict.{verdict, answers, outbox, after_events, all_answers}
 
@@ -134,6 +136,14 @@ shared_out = after_events world [] (hello 1000 ∷ by 0 (small 1 Both) ∷ by 0 
 -- which of its fates each send has
 abbrev fates : History → ℕ → List Bool
 fates h i = became StaysParked world h 0 i ∷ became IsWithdrawn world h 0 i ∷ became StaysInQueue world h 0 i ∷ became IsTaken world h 0 i ∷ became IsLeft world h 0 i ∷ []
+
+-- a description is given away and back, and then something is sent by it
+abbrev given_back : History
+given_back = after_events world [] (hello 1000 ∷ hello 1001 ∷ by 0 (small 1 Both) ∷ by 0 (give 0 1) ∷ by 1 (give 0 0) ∷ by 0 (MqSend (d 0) 0 (codes "p")) ∷ [])
+
+-- what session 0 holds before and after
+abbrev held_by_0 : Held
+held_by_0 = record { session = record { 0 = 0 }; object = 0; access = Both }
 
 record Worked : Type 0 where
   -- a full queue parks a send; an interrupt withdraws it, and its message does not come
@@ -313,6 +323,8 @@ record Worked : Type 0 where
       (by 1 (give 1 0), to 1 (Refused InCall) ∷ []) ∷ (hang_up 0, []) ∷ (Tick 6, to 1 (Refused TimedOut) ∷ []) ∷
       (by 1 (MqTimedSend (d 0) 0 0 (codes "p")), to 1 Sent ∷ []) ∷ (by 1 (MqReceive (d 1) 8), to 1 (Received 0 (codes "p")) ∷ []) ∷
       (by 1 (give 1 0), to 1 (Refused NoTaker) ∷ []) ∷ [])
+  -- a chain that leaves out the two gives does not lead from the open, at place 2, to the send, at place 5
+  unled : Lead given_back 0 [] held_by_0 2 held_by_0 5 → ⊥
 
 worked : Worked
 unfolding hellos user live cred mask is_bound creating creations bound object owner group mode facts directory_owner directory_group directory_mode directory opens held holds held_count is_nonblock named alive bytes_of charge_of charged queues_alive limit queue registered semaphore value parked forbids no_session in_call not_in_call name_form name_long not_admin no_user bad_descr not_for_write not_for_read dir_search dir_read absent present mode_denied dir_write sticky not_owner chown_denied attr_range value_range queue_count byte_limit descr_limit prio_range message_long buffer_short notify_taken would_block overflow bad_key timed_out now no_taker verdict answers outbox delivery
@@ -346,4 +358,5 @@ worked = record {
   passed_on = refl;
   given_while_parked = refl;
   given_and_timed = refl;
+  unled = λ led. let gap : None ≡ Some held_by_0 = led.2 4 (omega arith) (omega arith) in absurd cc;
 }
