@@ -1,6 +1,8 @@
 -- What ticks end, and what timed calls do: laws that hold of every history, or of every legal one where they say so.
-use Rattle.std.specs.Prelude.{◌≡◌, true, ℕ, ◌≤◌, ◌==◌, max, Some, None, is_some, MatchOption, if◌then◌else◌}
-use Rattle.ipc_terms.specs.Timed.{plain}
+use Rattle.std.specs.Prelude.{◌≡◌, true, ℕ, ◌≤◌, ◌&&◌, ◌==◌, max, Some, None, is_some, MatchOption, if◌then◌else◌}
+use Rattle.std.specs.Option.{option_or}
+use Rattle.ipc_terms.specs.Timed.{plain, deadline}
+use Rattle.ipc_terms.specs.declared.rule.Rule.TheVariants.{TimedOut}
 use Rattle.ipc_terms.specs.declared.ids.Sid.{Sid}
 use Rattle.ipc_terms.specs.declared.call.Call.{Call}
 use Rattle.ipc_terms.specs.declared.record.Event.{Event}
@@ -41,14 +43,15 @@ TickEndsOne =
 abbrev pub DueIsLive : Type 0
 DueIsLive = (c : Config) (h : History) (moment s : ℕ) → Legal c h → due c h moment ≡ Some s → live h s ≡ true
 
--- an event without the deadline of its call is accepted too, and answered the same
+-- the verdict on an event is the one on it without the deadline of its call, if there is one; else it is TimedOut where the
+-- deadline is past and the call would park, and none otherwise. Where both verdicts are the same, the answers are
 pub record CountsAsPlain (c : Config) (h : History) (e : Event) : Type 0 where
-  pub accepted : verdict c h (plain e) ≡ None
-  pub answered : answers c h e ≡ answers c h (plain e)
+  pub judged : verdict c h e ≡ option_or (verdict c h (plain e)) (if is_past (now h) (deadline e) && would_park c h (plain e) then Some TimedOut else None)
+  pub answered : verdict c h e ≡ verdict c h (plain e) → answers c h e ≡ answers c h (plain e)
 
--- so it is of each event that is accepted
+-- so it is of each event
 abbrev pub EachCountsAsPlain : Type 0
-EachCountsAsPlain = (c : Config) (h : History) (e : Event) → verdict c h e ≡ None → CountsAsPlain c h e
+EachCountsAsPlain = (c : Config) (h : History) (e : Event) → CountsAsPlain c h e
 
 -- the calls that rule 32 takes to park are those that park
 abbrev pub EachWouldPark : Type 0

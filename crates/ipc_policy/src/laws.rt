@@ -55,8 +55,9 @@ pub fn ticks()
     ensures live { DueIsLive }
 {}
 
-/// An event that is accepted would be accepted without the deadline of its call too, and is answered the same. The calls
-/// that the rule of deadlines takes to park are those that park.
+/// The verdict on an event is the one on it without the deadline of its call. Where that is none, rule 32 alone may refuse it:
+/// where the deadline is past and the call would park. Where the two verdicts are the same, so are the answers. The calls that
+/// rule 32 takes to park are those that park.
 pub fn timed()
     ensures plain { EachCountsAsPlain }
     ensures parks { EachWouldPark }

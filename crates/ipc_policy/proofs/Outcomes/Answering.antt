@@ -15,7 +15,7 @@ use Rattle.ipc_terms.specs.declared.ids.Target.TheVariants.{Dir, Name}
 use Rattle.ipc_terms.specs.declared.facts.Facts.{Facts}
 use Rattle.ipc_terms.specs.declared.call.Attributes.{Attributes}
 use Rattle.ipc_terms.specs.declared.call.Answer.{Answer}
-use Rattle.ipc_terms.specs.declared.call.Answer.TheVariants.{Sent, Done}
+use Rattle.ipc_terms.specs.declared.call.Answer.TheVariants.{Sent, Done, Refused}
 use Rattle.ipc_terms.specs.declared.call.Call.{Call}
 use Rattle.ipc_terms.specs.declared.call.Call.TheVariants.{Umask, MqOpen, MqClose, MqSend, MqReceive, MqGetattr, MqSetattr, MqNotify, MqGive, MqUnlink, SemOpen, SemClose, SemUnlink, SemPost, SemWait, SemTryWait, SemGetvalue, ListNames, StatName, Chmod, Chown, SetLimit, Interrupt, Audit, MqTimedSend, MqTimedReceive, SemTimedWait}
 use Rattle.ipc_terms.specs.declared.record.Event.{Event}
@@ -32,7 +32,7 @@ use Rattle.ipc_policy.specs.Bodies.{contents, senders, receivers, queue, is_full
 use Rattle.ipc_policy.specs.Parking.{ParkedKind, Sending, Receiving, Waiting, Parked, parked_on, plain_parks, parks, seen}
 use Rattle.ipc_policy.specs.Readings.{IsNext}
 use Rattle.ipc_policy.specs.Rules.{would_park, not_held, is_of_family, forbids, no_session, in_call, not_in_call, name_form, name_long, not_admin, no_user, bad_descr, not_for_write, not_for_read, dir_search, dir_read, absent, present, mode_denied, dir_write, sticky, not_owner, chown_denied, attr_range, value_range, queue_count, byte_limit, descr_limit, prio_range, message_long, buffer_short, notify_taken, would_block, overflow, bad_key, timed_out, no_taker}
-use Rattle.ipc_policy.specs.Verdict.{verdict, Legal, answers, answers_at, accepted_answers, answers_of, receiver_answers, noticed, send_answers, received, receive_answers, attributes_told, post_answers, wait_answers, value_told, stat_answers, facts_meant}
+use Rattle.ipc_policy.specs.Verdict.{verdict, caller, Legal, answers, answers_at, accepted_answers, answers_of, receiver_answers, noticed, send_answers, received, receive_answers, attributes_told, post_answers, wait_answers, value_told, stat_answers, facts_meant}
 use Rattle.ipc_policy.specs.Ticks.{EachCountsAsPlain, EachWouldPark}
 use Rattle.ipc_policy.specs.Answered.{is_uncalled, IsAnsweredFirst, EachCallIsAnswered, ParkingAnswersNobody, HelloAnswersItsSession, HangupAnswersNobody, RefusalAnswersItsCaller, EachTickIsAnswered}
 use Rattle.ipc_policy.proofs.Queues.ActsOf.{queue_given}
@@ -41,7 +41,7 @@ use Rattle.ipc_policy.proofs.Lists.EntryOrder.{next_is_greatest}
 use Rattle.ipc_policy.proofs.Histories.Known.{bound_iff}
 use Rattle.ipc_policy.proofs.Lists.Lengths.{none_is_empty}
 use Rattle.ipc_policy.proofs.Histories.Unforbidden.{unforbidden, off, call_free}
-use Rattle.ipc_policy.proofs.Histories.PlainForms.{plain_accepted}
+use Rattle.ipc_policy.proofs.Histories.PlainForms.{judged_plain}
 
 -- what is answered by the verdict
 by_verdict : (c : Config) (h : History) (e : Event) (r : Option Rule) → verdict c h e ≡ r → answers c h e ≡ answers_at r c h e
@@ -221,10 +221,21 @@ plain_answers c h (Do sid call) = refl
 plain_answers c h (Hangup sid) = refl
 plain_answers c h (Tick moment) = refl
 
+caller_plain : (e : Event) → caller e ≡ caller (plain e)
+caller_plain (Hello found) = refl
+caller_plain (Do sid call) = refl
+caller_plain (Hangup sid) = refl
+caller_plain (Tick moment) = refl
+
+alike_at : (c : Config) (h : History) (e : Event) (r : Option Rule) → answers_at r c h e ≡ answers_at r c h (plain e)
+alike_at c h e None = plain_answers c h e
+alike_at c h e (Some rule) = ap (λ s. (s, Refused rule) ∷ []) (caller_plain e)
+
+plain_answered : (c : Config) (h : History) (e : Event) → verdict c h e ≡ verdict c h (plain e) → answers c h e ≡ answers c h (plain e)
+plain_answered c h e same = by_verdict c h e (verdict c h (plain e)) same ∙ alike_at c h e (verdict c h (plain e)) ∙ sym (by_verdict c h (plain e) (verdict c h (plain e)) refl)
+
 pub counts_as_plain : EachCountsAsPlain
-counts_as_plain c h e accepted =
-    let plainly' : verdict c h (plain e) ≡ None = sym (plain_accepted c h e (sym accepted)) in
-    record { accepted = plainly'; answered = by_verdict c h e None accepted ∙ plain_answers c h e ∙ sym (by_verdict c h (plain e) None plainly') }
+counts_as_plain c h e = record { judged = judged_plain c h e; answered = plain_answered c h e }
 
 -- a call by which its own session parks
 own_parks : (test : ℕ → Bool) (kind : ParkedKind) (place : ℕ) (b : Bool) (w : Option Held) → b ≡ true → is_some_and (λ x. test x.object) w ≡ is_some (cond b (option_and_then (parked_on test kind place) w) None)
