@@ -12,10 +12,12 @@ use Rattle.ipc_terms.specs.declared.record.Event.TheVariants.{Do}
 use Rattle.ipc_policy.specs.declared.asking.Described.{Described}
 use Rattle.ipc_policy.specs.declared.config.Config.{Config}
 use Rattle.ipc_policy.specs.declared.config.Held.{Held}
+use Rattle.ipc_policy.specs.declared.config.Registration.{Registration}
 use Rattle.ipc_policy.specs.History.{History, after_accepted}
 use Rattle.ipc_policy.specs.Sessions.{live}
 use Rattle.ipc_policy.specs.Objects.{object}
 use Rattle.ipc_policy.specs.Descriptions.{holds, held_count, is_nonblock, ends_held}
+use Rattle.ipc_policy.specs.Life.{gives_object}
 use Rattle.ipc_policy.specs.Timed.{now}
 use Rattle.ipc_policy.specs.Queues.{attributes}
 use Rattle.ipc_policy.specs.Bodies.{contents, value}
@@ -44,6 +46,10 @@ EachHasOneHolder = (h : History) (s t d : ℕ) → is_some (holds h s d) ≡ tru
 -- a session that is parked gives nothing away
 abbrev pub ParkedGivesNothing : Type 0
 ParkedGivesNothing = (c : Config) (h : History) (sid taker : Sid) (desc : Desc) → verdict c h (Do sid (MqGive desc taker)) ≡ None → parked c h sid.0 ≡ None
+
+-- who is registered for the notice of a queue holds the description by which it is registered, and that gives the queue
+abbrev pub RegisteredIsHeld : Type 0
+RegisteredIsHeld = (c : Config) (h : History) (o : ℕ) (x : Registration) → registered c h o ≡ Some x → gives_object o (holds h x.session.0 x.desc.0) ≡ true
 
 -- object o is alike in both histories: its family, its attributes, whether it has a registration, how many messages it
 -- has, and its value

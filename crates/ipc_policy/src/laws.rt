@@ -5,7 +5,7 @@
 ghost use Rattle.ipc_policy.specs.Laws.{VerdictIsLeast, RefusedIsQuiet, RefusedIsAnswered, EachCallerIsKnown, ListedIsBound, BoundIsToObject, NamedIsBound, NamesDiffer, BoundIsMade, ParkedIsListed, ParkedIsAlive, EachIsBounded, EachIsInRange, WaitsAtZero, EachValueIsCounted, WithinLimit};
 ghost use Rattle.ipc_policy.specs.Ticks.{EarliestIsDue, TickEndsOne, DueIsLive, EachCountsAsPlain, EachWouldPark};
 ghost use Rattle.ipc_policy.specs.Grow.{AcceptedGrows};
-ghost use Rattle.ipc_policy.specs.Rights.{HeldOutlives, HeldIsHandedOver, EachHasOneHolder, ParkedGivesNothing, RightsByDescription};
+ghost use Rattle.ipc_policy.specs.Rights.{HeldOutlives, HeldIsHandedOver, EachHasOneHolder, ParkedGivesNothing, RegisteredIsHeld, RightsByDescription};
 ghost use Rattle.ipc_policy.specs.Answered.{EachCallIsAnswered, ParkingAnswersNobody, HelloAnswersItsSession, HangupAnswersNobody, RefusalAnswersItsCaller, EachTickIsAnswered};
 ghost use Rattle.ipc_policy.specs.Sizes.{EachNameIsShort, EachMessageFits, EachDeliveryFits, EachSizeIsInRange, EachAnswerIsSmall, EachOutboxIsSmall};
 ghost use Rattle.ipc_policy.specs.Readings.{EachParkedByPlace, EachInsideByPlace, EachInsideInOrder, EachNextIsGreatest};
@@ -126,10 +126,12 @@ pub fn rights()
     ensures by_description { RightsByDescription }
 {}
 
-/// A description has one holder, and a session that is parked gives none away.
+/// A description has one holder, and a session that is parked gives none away. Who is registered for the notice of a queue
+/// holds the description by which it is registered, of that queue: so no notice goes to a session that let it go.
 pub fn holders()
     ensures one { EachHasOneHolder }
     ensures parked { ParkedGivesNothing }
+    ensures registered { RegisteredIsHeld }
 {}
 
 /// After a legal history an accepted call that does not park is answered to its session, before anybody else, and neither

@@ -1,7 +1,7 @@
 -- What is registered is held: the description gives the queue to the session.
-use Rattle.std.proofs.Common.{◌≡◌, ℕ, Bool, true, false, ◌&&◌, [], ◌∷◌, cond, Option, Some, None, refl, sym, subst}
+use Rattle.std.proofs.Common.{◌≡◌, ℕ, Bool, true, false, ◌&&◌, [], ◌∷◌, cond, Option, Some, None, refl, sym, ap, subst, ◌∙◌}
 use Rattle.std.specs.Option.{option_or}
-use Rattle.std.proofs.lemmas.Bool.{eqb-true}
+use Rattle.std.proofs.lemmas.Bool.{eqb-true, eq-eqb}
 use Rattle.ipc_terms.specs.declared.rule.Rule.{Rule}
 use Rattle.ipc_terms.specs.declared.call.Call.TheVariants.{MqNotify}
 use Rattle.ipc_terms.specs.declared.record.Event.{Event}
@@ -14,6 +14,7 @@ use Rattle.ipc_policy.specs.Descriptions.{held, holds, lets_go, ends_held}
 use Rattle.ipc_policy.specs.Life.{gives_object}
 use Rattle.ipc_policy.specs.Bodies.{act, queue}
 use Rattle.ipc_policy.specs.Registrations.{registers, turns_off, fires, ends_registration, registered}
+use Rattle.ipc_policy.specs.Rights.{RegisteredIsHeld}
 use Rattle.ipc_policy.proofs.Blocked.Waits.{or_left, or_right}
 use Rattle.ipc_policy.proofs.Blocked.ParkedSessions.{holds_on, if_of_is, session_is}
 
@@ -73,3 +74,8 @@ pub registered_held : (c : Config) (h : History) (o : ℕ) (x : Registration) �
 unfolding registered
 registered_held c [] o x k = absurd cc
 registered_held c (r ∷ h) o x k = registered_next c h o (registered_held c h o) r.event r.rule x k
+
+pub registered_is_held : RegisteredIsHeld
+registered_is_held c h o x k =
+    let known = registered_held c h o x k in
+    ap (gives_object o) known.held ∙ eq-eqb known.x'.object o known.object
