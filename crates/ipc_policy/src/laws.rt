@@ -1,6 +1,6 @@
 //! Laws of the policy, over every history; `known`, `bound`, `parked_listed`, `parked_alive`, `bounded`, `in_range`, `counted`,
-//! `within_limit` and `sized` are over the legal ones, and so is what `answered` says of calls. These functions do nothing:
-//! what they ensure is what is proved.
+//! `within_limit` and `sized` are over the legal ones, and so is what `answered` says of calls, and `ticks` of which call a tick
+//! ends and that its session is live. These functions do nothing: what they ensure is what is proved.
 
 ghost use Rattle.ipc_policy.specs.Laws.{VerdictIsLeast, RefusedIsQuiet, RefusedIsAnswered, EachCallerIsKnown, ListedIsBound, BoundIsToObject, NamedIsBound, NamesDiffer, BoundIsMade, ParkedIsListed, ParkedIsAlive, EachIsBounded, EachIsInRange, WaitsAtZero, EachValueIsCounted, WithinLimit};
 ghost use Rattle.ipc_policy.specs.Ticks.{EarliestIsDue, TickEndsOne, DueIsLive, EachCountsAsPlain, EachWouldPark};
