@@ -49,14 +49,14 @@ pub record Give : Type 0 where
   pub giver : Sid
   pub taker : Sid
 
--- what came before each record behind one place and up to another says that a session held this by description d
+-- at each place behind `from`, up to `until` and there too, a session held this by description d
 abbrev pub HeldThroughout : History → ℕ → Held → ℕ → ℕ → Type 0
 HeldThroughout h d x from until = (place : ℕ) → from < place → place ≤ until → holds (before_at place h) x.session.0 d ≡ Some x
 
--- the gives of description d, the newest first, that led from what its session had by it behind one place to what a session had
--- by it at another. Without any both are the same, and that session held it throughout. Else the newest was accepted in
--- between, its taker held the description from there on, and those before it led to what its giver had up to that give: the
--- same object and access
+-- the gives of description d, the newest first, that led from what a session had by it behind place `from` to what a session had
+-- by it at place `until`. Without any both are the same, and it held that throughout. Else the newest was accepted in between,
+-- its taker held the description from there on, and those before it led to what its giver had up to that give: the same object
+-- and access
 abbrev pub Lead : History → ℕ → List Give → Held → ℕ → Held → ℕ → Type 0
 Lead h d [] first from last until = (first ≡ last) × (from < until) × HeldThroughout h d last from until
 Lead h d (g ∷ gs) first from last until =
