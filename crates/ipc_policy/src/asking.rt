@@ -1,4 +1,5 @@
-//! What an event asks for, in the policy's words.
+//! What an event asks for, in the policy's words. Where rules ask this of each event it is inlined, since most events ask for
+//! nothing of the kind, and a call costs more than to see that.
 
 ghost use Rattle.std.specs.Prelude.{◌≡◌};
 ghost use Rattle.ipc_policy.specs.Names.{naming, opening, unlinking};
@@ -48,6 +49,7 @@ impl<'a> Model for Opening<'a> {
 }
 
 /// The open that the event is, if it is one.
+#[inline(always)]
 pub fn opening_of(event: &Event) -> Option<Opening<'_>>
     ensures { result ≡ opening event.now }
 {
@@ -81,6 +83,7 @@ pub fn opening_of(event: &Event) -> Option<Opening<'_>>
 }
 
 /// What an unlink names, if the event is one.
+#[inline(always)]
 pub fn unlinking_of(event: &Event) -> Option<Naming<'_>>
     ensures { result ≡ unlinking event.now }
 {
@@ -100,6 +103,7 @@ pub fn unlinking_of(event: &Event) -> Option<Naming<'_>>
 }
 
 /// What a named call names, if the event is one.
+#[inline(always)]
 pub fn naming_of(event: &Event) -> Option<Naming<'_>>
     ensures { result ≡ naming event.now }
 {
@@ -134,6 +138,7 @@ pub struct Described {
 }
 
 /// The description that a call names, if it names one.
+#[inline(always)]
 pub fn description_of(call: &Call) -> Option<Described>
     ensures { result ≡ described call.now }
 {
