@@ -16,6 +16,7 @@ import struct
 import subprocess
 import sys
 import tempfile
+import time
 
 TOP = pathlib.Path(__file__).resolve().parent.parent
 USERS = TOP / "rows" / "mqserve" / "two.users"
@@ -23,6 +24,9 @@ SECONDS = 60
 MANY = 200
 
 HELLO, UMASK, SEM_OPEN, STARTED, MASK = 1, 2, 11, 65, 68
+MQ_OPEN, MQ_SEND, MQ_TIMED_RECEIVE = 3, 6, 27
+OPENED, SENT, RECEIVED, REFUSED = 67, 70, 71, 76
+TIMED_OUT = 32
 ONE_THREAD = ["--one-thread"]
 
 
@@ -157,6 +161,15 @@ def is_answer(stream, opcode):
     return fields
 
 
+def is_silent(who, stream):
+    """Nothing comes for 300 ms."""
+    stream.settimeout(0.3)
+    try:
+        raise Wrong(f"{who} is answered {answer(stream)}")
+    except socket.timeout:
+        stream.settimeout(SECONDS)
+
+
 def third_waits(programs, address, *words):
     """Who connects while there are as many as there may be is served once one has ended."""
     with serving(programs, address, "--stop-after", "3", *words) as server, contextlib.ExitStack() as stack:
@@ -166,11 +179,7 @@ def third_waits(programs, address, *words):
             is_answer(stream, STARTED)
         with connect(address) as third:
             third.sendall(frame(HELLO, b"\0\3ka1"))
-            third.settimeout(0.3)
-            try:
-                raise Wrong(f"a third is answered {answer(third)}")
-            except socket.timeout:
-                third.settimeout(SECONDS)
+            is_silent("a third", third)
             first.close()
             is_answer(third, STARTED)
         second.close()
@@ -183,6 +192,37 @@ def leaves(programs, address, *words):
         with connect(address) as stream:
             stream.sendall(frame(HELLO, b"\0\3ka1") + frame(SEM_OPEN, b"\0\5/left\1\1\x80" + bytes(4)))
         is_same("opened", told(programs, address, "ka1", "sem-open", "/left"), b"opened 1\n")
+        ends(server, 2)
+
+
+def moment():
+    """Milliseconds since 1970, as servers and clients have them."""
+    return time.time_ns() // 1_000_000
+
+
+def timed_receive(deadline):
+    return frame(MQ_TIMED_RECEIVE, struct.pack(">QIQ", 0, 8192, deadline))
+
+
+def timed(programs, address, *words):
+    """A receive ends at its deadline, which is 200 ms away, and not before. Another, which a later deadline leaves waiting, is
+    served by a send."""
+    with serving(programs, address, "--stop-after", "2", *words) as server, contextlib.ExitStack() as stack:
+        receiver, sender = [stack.enter_context(connect(address)) for _ in range(2)]
+        for stream in (receiver, sender):
+            stream.sendall(frame(HELLO, b"\0\3ka1") + frame(MQ_OPEN, b"\0\2/t\3\1\1\x80\0"))
+            is_answer(stream, STARTED)
+            is_answer(stream, OPENED)
+        deadline = moment() + 200
+        receiver.sendall(timed_receive(deadline))
+        is_same("rule", is_answer(receiver, REFUSED), struct.pack(">H", TIMED_OUT))
+        is_same("milliseconds too early", max(0, deadline - moment()), 0)
+        receiver.sendall(timed_receive(moment() + 1000 * SECONDS))
+        is_silent("a receive before its deadline", receiver)
+        sender.sendall(frame(MQ_SEND, struct.pack(">QI", 1, 5) + b"hi"))
+        is_answer(sender, SENT)
+        is_same("message", is_answer(receiver, RECEIVED), struct.pack(">I", 5) + b"hi")
+        stack.pop_all().close()
         ends(server, 2)
 
 
@@ -250,6 +290,7 @@ ANYWHERE = {
     f"{MANY} clients at once": (many_at_once, {"one thread": ONE_THREAD}),
     "a third client waits": (third_waits, {"workers": ["--workers", "2"], "one thread": [*ONE_THREAD, "--connections", "2"]}),
     "a client that leaves at once": (leaves, ONE_AT_A_TIME),
+    "a receive until a moment": (timed, KINDS),
     "a log at the end of a file": (log, KINDS),
 }
 AT_A_FILE = {
