@@ -1,17 +1,21 @@
 -- What a seat learns through the lock.
-use Rattle.std.proofs.Common.{◌≡◌, List, [], ◌++◌, Option, Some, None, sym, ap, subst, ◌∙◌, inl, inr, append-nil}
+use Rattle.std.proofs.Common.{◌≡◌, ℕ, List, [], ◌++◌, Option, Some, None, refl, is_some, sym, ap, subst, ◌∙◌, inl, inr, append-nil}
 use Rattle.std.specs.Prelude.{Result}
 use Rattle.ipc_terms.specs.declared.ids.Sid.{Sid}
 use Rattle.ipc_terms.specs.declared.call.Answer.{Answer}
+use Rattle.ipc_terms.specs.declared.rule.Rule.{Rule}
+use Rattle.ipc_terms.specs.declared.record.Event.TheVariants.{Tick}
 use Rattle.ipc_trail.specs.declared.audit.Receipt.{Receipt}
-use Rattle.ipc_policy.specs.Verdict.{Legal, outbox}
+use Rattle.ipc_policy.specs.Bodies.{due}
+use Rattle.ipc_policy.specs.Sessions.{hellos}
+use Rattle.ipc_policy.specs.Verdict.{Legal, verdict, outbox}
 use Rattle.ipc_state.specs.Ranges.{first_bad}
 use Rattle.ipc_core.specs.CoreView.{CoreView}
 use Rattle.ipc_core.specs.Outboxes.{BoxesAgree}
 use Rattle.ipc_book.specs.declared.entry.Entry.{Entry}
 use Rattle.ipc_book.specs.declared.entry.StepFault.{StepFault}
-use Rattle.ipc_book.specs.Seats.{StaleExactly, session_of}
-use Rattle.ipc_book.specs.Locked.{Collects, AnswersSay, StaleSays}
+use Rattle.ipc_book.specs.Seats.{SeatView, Stepped, StaleExactly, session_of, session_ruled}
+use Rattle.ipc_book.specs.Locked.{Collects, AnswersSay, ReceiptSays, EndedCall, StaleSays}
 
 -- nothing was collected
 nothing : (a : CoreView) (sid : Option Sid) (list : List Entry) (out : List Answer) → Legal a.config a.history → first_bad a.config.limits ≡ None → out ≡ [] → AnswersSay a.config sid list out
@@ -53,3 +57,27 @@ stale_says a list list' r same h = subst (λ l. StaleSays l r) same told where
   told : StaleSays list r
   told seen found is =
       let t = (h seen found).0 is in (t.0, t.2)
+
+tick_leaves : (v : Option Rule) (next moment : ℕ) (sid : Option Sid) → session_ruled v next (Tick moment) sid ≡ sid
+tick_leaves None next moment sid = refl
+tick_leaves (Some rule) next moment sid = refl
+
+-- the receipt of a tick that was made where a call was due, after room was made in the seat
+pub ended_call : (a a' : CoreView) (seat ready seat' : SeatView) (moment session : ℕ) (r : Receipt) → ready ≡ seat → ready.sid ≡ None → seat'.sid ≡ None → Stepped a a' ready.list seat'.list (Tick moment) r → due a.config a.history moment ≡ Some session → EndedCall a.config seat seat' moment r
+ended_call a a' seat ready seat' moment session r same none none' st is =
+    subst (λ (s : SeatView). EndedCall a.config s seat' moment r) same (made, ap is_some is)
+  where
+    made : ReceiptSays a.config ready seat' (Tick moment) r
+    made =
+        record {
+          history = a.history;
+          legal = st.legal;
+          in_range = st.in_range;
+          current = st.current;
+          place = ap (λ (v : Receipt). v.place) (sym st.receipt);
+          ruled = ap (λ (v : Receipt). v.rule) (sym st.receipt);
+          op = ap (λ (v : Receipt). v.op) st.receipt;
+          by = ap (λ (v : Receipt). v.sid) st.receipt;
+          kept = st.kept;
+          session = none' ∙ sym none ∙ sym (tick_leaves (verdict a.config a.history (Tick moment)) (hellos a.history) moment ready.sid);
+        }

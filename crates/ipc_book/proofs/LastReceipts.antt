@@ -51,12 +51,18 @@ stale_across a list r r' fault is is' h seen found =
 pub stale_moved : {A : Type 0} → (a a' : CoreView) (list list' : List Entry) (r : Result A StepFault) → a ≡ a' → list ≡ list' → StaleExactly a list r → StaleExactly a' list' r
 stale_moved a a' list list' r p q h = subst (λ v. StaleExactly v list' r) p (subst (λ l. StaleExactly a l r) q h)
 
--- what a stale seat is told of the same fault, after room was made in it
-pub stale_told : {A : Type 0} → (a : CoreView) (list list' : List Entry) (r : Result A StepFault) (r' : Result Receipt StepFault) (fault : StepFault) → r ≡ Err fault → r' ≡ Err fault → list ≡ list' → StaleExactly a list r → StaleSays list' r'
-stale_told a list list' r r' fault is is' same h = subst (λ l. StaleSays l r') same there where
+stale_is : {A : Type 0} → (a : CoreView) (list : List Entry) (r : Result A StepFault) → StaleExactly a list r → StaleSays list r
+stale_is a list r h seen found e =
+    let t = (h seen found).0 e in (t.0, t.2)
+
+-- what a stale seat is told, in another type of results, after room was made in it
+pub says_across : {A : Type 0} → {B : Type 0} → (list list' : List Entry) (r : Result A StepFault) (r' : Result B StepFault) (fault : StepFault) → r ≡ Err fault → r' ≡ Err fault → list ≡ list' → StaleSays list r → StaleSays list' r'
+says_across list list' r r' fault is is' same h = subst (λ l. StaleSays l r') same there where
   there : StaleSays list r'
-  there seen found e =
-      let t = (h seen found).0 (is ∙ ap Err (same_fault fault (Stale seen found) (sym is' ∙ e))) in (t.0, t.2)
+  there seen found e = h seen found (is ∙ ap Err (same_fault fault (Stale seen found) (sym is' ∙ e)))
+
+pub stale_told : {A : Type 0} → {B : Type 0} → (a : CoreView) (list list' : List Entry) (r : Result A StepFault) (r' : Result B StepFault) (fault : StepFault) → r ≡ Err fault → r' ≡ Err fault → list ≡ list' → StaleExactly a list r → StaleSays list' r'
+stale_told a list list' r r' fault is is' same h = says_across list list' r r' fault is is' same (stale_is a list r h)
 
 -- a seat that is not full has room
 under : {A : Type 0} → {B : Type 0} → (most n : ℕ) (r : Result A (OfferFault × B)) (fault : StepFault) (back : B) → r ≡ Err (Fault fault, back) → FullExactly most n r → n < most

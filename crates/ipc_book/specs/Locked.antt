@@ -1,5 +1,5 @@
 -- What is learned of a book, and what through a lock, which hides the book.
-use Rattle.std.specs.Prelude.{ℕ, ◌≡◌, ◌≢◌, ◌⊎◌, Option, None, Some, List, [], ◌∷◌, ◌++◌, length, Result, Err}
+use Rattle.std.specs.Prelude.{ℕ, ◌≡◌, ◌≢◌, ◌⊎◌, Option, None, Some, List, [], ◌∷◌, ◌++◌, length, Result, Err, IsSome}
 use Rattle.std.specs.Option.{option_map}
 use Rattle.ipc_terms.specs.Lists.{changed}
 use Rattle.ipc_terms.specs.Lines.{event_op, rule_number}
@@ -7,6 +7,7 @@ use Rattle.ipc_terms.specs.Events.{caller}
 use Rattle.ipc_terms.specs.declared.ids.Sid.{Sid}
 use Rattle.ipc_terms.specs.declared.call.Answer.{Answer}
 use Rattle.ipc_terms.specs.declared.record.Event.{Event}
+use Rattle.ipc_terms.specs.declared.record.Event.TheVariants.{Tick}
 use Rattle.ipc_trail.specs.declared.audit.Receipt.{Receipt}
 use Rattle.ipc_policy.specs.declared.config.Config.{Config}
 use Rattle.ipc_policy.specs.History.{History}
@@ -37,6 +38,11 @@ pub record ReceiptSays (c : Config) (seat seat' : SeatView) (e : Event) (r : Rec
   pub kept : seat'.list ≡ seat.list ++ record { receipt = r; event = e } ∷ []
   pub session : seat'.sid ≡ session_ruled (verdict c history e) (hellos history) e seat.sid
 
+-- what the receipt of a tick that ended a call says, of this configuration: in the history before it, some session's call was due at
+-- this moment
+abbrev pub EndedCall : Config → SeatView → SeatView → ℕ → Receipt → Type 0
+EndedCall c seat seat' moment r = (says : ReceiptSays c seat seat' (Tick moment) r) × IsSome (due c says.history moment)
+
 -- which session's call is due, of this configuration: there is a history, legal under it, after which a tick of this moment ends that
 -- session's call, and none where there is no session
 pub record DueSays (c : Config) (moment : ℕ) (found : Option Sid) : Type 0 where
@@ -46,7 +52,7 @@ pub record DueSays (c : Config) (moment : ℕ) (found : Option Sid) : Type 0 whe
   pub due : option_map (λ s. s.0) found ≡ due c history moment
 
 -- a stale seat is told its last receipt, and what else stood at its place
-abbrev pub StaleSays : List Entry → Result Receipt StepFault → Type 0
+abbrev pub StaleSays : {A : Type 0} → List Entry → Result A StepFault → Type 0
 StaleSays list result = (seen : Receipt) (found : Option Receipt) → result ≡ Err (Stale seen found) → (last_receipt list ≡ Some seen) × (found ≢ Some seen)
 
 -- what a seat collects: what its session has not taken yet, and this alone is emptied; nothing, where it has no session or is stale

@@ -1,14 +1,16 @@
 //! The book: what is shared behind the lock.
 
-ghost use Rattle.std.specs.Prelude.{◌≡◌, ◌<◌, ◌≤◌, ◌+◌, ◌^◌, ◌≢◌, [], ◌∷◌, ◌++◌, None, Some, length, map, OnOk, OnErr, IfOk, IfErr, IfSome, MatchOption};
+ghost use Rattle.std.specs.Prelude.{◌≡◌, ◌<◌, ◌≤◌, ◌+◌, ◌^◌, ◌≢◌, [], ◌∷◌, ◌++◌, None, Some, Ok, length, map, OnOk, OnErr, IfOk, IfErr, IfSome, MatchOption};
+ghost use Rattle.std.specs.Option.{option_map};
 ghost use Rattle.ipc_terms.specs.declared.record.Event.TheVariants.{Hello, Do, Hangup, Tick};
 ghost use Rattle.ipc_terms.specs.Ops.{tick_number};
+ghost use Rattle.ipc_policy.specs.Bodies.{due};
 ghost use Rattle.ipc_policy.specs.Verdict.{Legal, verdict, answers};
 ghost use Rattle.ipc_access.specs.Users.{user_of_key};
 ghost use Rattle.ipc_state.specs.Ranges.{first_bad};
 ghost use Rattle.ipc_core.specs.Outboxes.{BoxesAgree, session_at};
 ghost use Rattle.ipc_book.specs.Seats.{Stepped, StaleExactly, FullExactly, without_event, without_full, other_answered, untaken_of, session_of, session_after};
-ghost use Rattle.ipc_book.specs.Locked.{Collects};
+ghost use Rattle.ipc_book.specs.Locked.{Collects, StaleSays};
 ghost use Rattle.ipc_book.specs.Closing.{AreTheTrail, CloseFaultSays};
 
 use crate::close::{audit, gather};
@@ -182,6 +184,30 @@ impl<L: Ledger> Book<L> {
     {
         let (receipt, _posted) = self.step_with_copy(alloc, seat, Event::Tick { moment }, None)?;
         Ok(receipt)
+    }
+
+    /// Makes a tick, by a seat that has no session, if it ends a call, and says whose. Where no call is due, and
+    /// where there is an `Err`, nothing changes; the seat's room may differ.
+    pub(crate) fn tick_if_due(
+        &mut self,
+        alloc: Global,
+        seat: &mut Seat<L>,
+        moment: u64,
+    ) -> Result<Option<(Receipt, Sid)>, StepFault>
+        requires { seat.old.sid ≡ None }
+        ensures due { IfOk result (λ made. option_map (λ p. p.1.0) made ≡ due self.old.core.config self.old.core.history moment) }
+        ensures made { IfOk result (λ made. IfSome made (λ p. Stepped self.old.core self.new.core seat.old.list seat.new.list (Tick moment) p.0)) }
+        ensures not_made { result ≡ Ok None → (self.new ≡ self.old) × (seat.new ≡ seat.old) }
+        ensures session { seat.new.sid ≡ None }
+        ensures stale { StaleSays seat.old.list result }
+        ensures err { OnErr result ((self.new ≡ self.old) × (seat.new ≡ seat.old)) }
+        ensures seats { self.new.seats ≡ self.old.seats }
+    {
+        let Some(session) = self.core.due(moment) else {
+            return Ok(None);
+        };
+        let receipt = self.tick_for(alloc, seat, moment)?;
+        Ok(Some((receipt, session)))
     }
 
     /// Steps a call of the seat's session, or of nobody where the seat has none, if the session has fewer

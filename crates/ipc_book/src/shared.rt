@@ -1,13 +1,13 @@
 //! The book behind its lock.
 
-ghost use Rattle.std.specs.Prelude.{◌≡◌, ◌≤◌, None, [], length, IfOk, IfErr, OnErr};
+ghost use Rattle.std.specs.Prelude.{◌≡◌, ◌≤◌, None, Ok, [], length, IfOk, IfErr, IfSome, OnErr};
 ghost use Rattle.ipc_terms.specs.declared.record.Event.TheVariants.{Hello, Do, Hangup, Tick};
 ghost use Rattle.ipc_access.specs.Users.{user_of_key};
 ghost use Rattle.ipc_policy.specs.declared.config.Config.{Config};
 ghost use Rattle.ipc_policy.specs.Verdict.{Legal};
 ghost use Rattle.ipc_state.specs.Ranges.{first_bad};
 ghost use Rattle.ipc_book.specs.Seats.{BookView, session_of, without_full};
-ghost use Rattle.ipc_book.specs.Locked.{ReceiptSays, DueSays, AnswersSay, StaleSays};
+ghost use Rattle.ipc_book.specs.Locked.{ReceiptSays, EndedCall, DueSays, AnswersSay, StaleSays};
 ghost use Rattle.ipc_book.specs.Closing.{AreTheTrail, CloseFaultSays, FaultSaysOf};
 
 use crate::bell::{AWAKE_TURNS, Bell, Bells};
@@ -185,6 +185,32 @@ impl<L: Ledger> Shared<L> {
         let (receipt, posted) = self.hold(rt).step_with_copy(alloc, seat, event, None)?;
         self.ring(rt, posted.caller);
         Ok(receipt)
+    }
+
+    /// Makes a tick, by a seat that has no session, if it ends a call: both in one hold. Rings the bell of that
+    /// call's session. Where no call is due there is no receipt, and the seat is as it was. An `Err` leaves the seat
+    /// as it was, and the trail.
+    pub fn tick_if_due<R: Wait>(
+        &self,
+        rt: &R,
+        alloc: Global,
+        seat: &mut Seat<L>,
+        moment: u64,
+    ) -> Result<Option<Receipt>, StepFault>
+        requires { seat.old.sid ≡ None }
+        ensures made { IfOk result (λ made. IfSome made (λ r. (c : Config) × EndedCall c seat.old seat.new moment r)) }
+        ensures not_made { result ≡ Ok None → seat.new ≡ seat.old }
+        ensures session { seat.new.sid ≡ None }
+        ensures stale { StaleSays seat.old.list result }
+        ensures err { OnErr result (seat.new ≡ seat.old) }
+    {
+        seat.make_room();
+        let made = self.hold(rt).tick_if_due(alloc, seat, moment)?;
+        let Some((receipt, session)) = made else {
+            return Ok(None);
+        };
+        self.ring(rt, Some(session));
+        Ok(Some(receipt))
     }
 
     /// The session whose call a tick of this moment would end, if there is one. By the time that it is known, it

@@ -70,7 +70,11 @@ fn show_books<R: Print + AllocGlobal + Wait>(rt: &R) -> io::Result<()> {
     show(rt, "Book", books::go_anew(alloc, Case::Calls))?;
     show(rt, "Book::tick_for", books::go_anew(alloc, Case::Ticks))?;
     show(rt, "Shared", shares::go_anew(rt, alloc, Case::Calls))?;
-    show(rt, "Shared::tick", shares::go_anew(rt, alloc, Case::Ticks))
+    show(
+        rt,
+        "Shared::tick, Shared::tick_if_due",
+        shares::go_anew(rt, alloc, Case::Ticks),
+    )
 }
 
 fn main(rt: HostRuntime) -> io::Result<()> {

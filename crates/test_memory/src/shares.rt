@@ -54,9 +54,13 @@ impl<L: Ledger, R: Wait> Serves for Hall<'_, L, R> {
         Ok(self.book.hang_up(self.rt, alloc, seat)?)
     }
 
+    /// Where no call is due, a tick is made all the same.
     fn tick(&mut self, alloc: Global, seat: &mut Seat<L>, moment: u64) -> Result<Receipt, Fault> {
         if seat.sid().is_some() {
             return Err(Fault::Otherwise);
+        }
+        if let Some(receipt) = self.book.tick_if_due(self.rt, alloc, seat, moment)? {
+            return Ok(receipt);
         }
         Ok(self.book.tick(self.rt, alloc, seat, moment)?)
     }

@@ -73,7 +73,7 @@ fn meet<L: Ledger + Send + Sync, R: Threads + Wait + Clock + Abort + Sync>(
     }
 }
 
-/// With one seat the book doesn't close, with both it does.
+/// With no seat and with one the book doesn't close, and says how many are out; with both it does.
 fn close_both<L: Ledger, R: Abort>(
     rt: &R,
     alloc: Global,
@@ -81,7 +81,9 @@ fn close_both<L: Ledger, R: Abort>(
     one: Seat<L>,
     two: Seat<L>,
 ) -> Result<Closed, Fail> {
-    let mut seats = Vec::new(alloc);
+    let none = book.close(alloc, Vec::new(alloc));
+    let (fault, book, mut seats) = none.err().ok_or("both seats are out")?;
+    assert!(rt; fault == CloseFault::SeatOut(2));
     seats.push(one)?;
     let (fault, book, mut seats) = book.close(alloc, seats).err().ok_or("one seat is out")?;
     assert!(rt; fault == CloseFault::SeatOut(1));
