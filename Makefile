@@ -9,12 +9,11 @@ ADDRESS = 127.0.0.1:7000
 # How many crates `make build` proves at a time. A proof takes up to 3 GB of memory.
 JOBS = 4
 
-# A server on loopback and two clients: under a second over proved programs. Where none stand, `rt try` first builds unproved
-# ones, which takes some minutes and is done once.
+# A server on loopback and two clients, over the proved programs: under a second.
 demo:
 	@demo/run.py
 
-# A server of one's own, over the same programs: make run USERS=FILE ADDRESS=HOST:PORT. Ctrl-C ends it.
+# A server of one's own: make run USERS=FILE ADDRESS=HOST:PORT. Ctrl-C ends it.
 run:
 	@tools/programs.py serve $(USERS) $(ADDRESS)
 

@@ -1,15 +1,15 @@
 #!/usr/bin/env python3
-"""Starts a server on loopback and two clients, and prints what each client wrote and got. Ends by itself.
-
-Where no proved programs stand, it builds unproved ones first."""
+"""Starts a server on loopback and two clients, and prints what each client wrote and got. Ends by itself. It takes the proved
+programs."""
 
 import pathlib
+import socket
 import subprocess
 import sys
 
 ROOT = pathlib.Path(__file__).resolve().parent.parent
 sys.path.insert(0, str(ROOT / "tools"))
-from programs import free_port, programs
+from programs import NONE_STANDS, proved
 
 USERS = "demo/users"
 
@@ -28,6 +28,11 @@ def start(*words):
     return subprocess.Popen(words, cwd=ROOT, stdin=subprocess.PIPE, stdout=subprocess.PIPE, text=True, bufsize=1)
 
 
+def free_port():
+    with socket.create_server(("127.0.0.1", 0)) as listener:
+        return listener.getsockname()[1]
+
+
 def play(clients):
     for who, line, answered in STEPS:
         print(f"{who} > {line}")
@@ -40,18 +45,18 @@ def play(clients):
 
 
 def main():
-    try:
-        found = programs()
-    except OSError as fault:
-        print(fault, file=sys.stderr)
+    programs = [proved(name) for name in ("mqserve", "mqctl")]
+    if not all(programs):
+        print(NONE_STANDS, file=sys.stderr)
         return 1
+    mqserve, mqctl = programs
     address = f"127.0.0.1:{free_port()}"
     print(f"$ mqserve serve {USERS} {address} --stop-after 2")
-    server = start(found["mqserve"], "serve", USERS, address, "--stop-after", "2")
+    server = start(mqserve, "serve", USERS, address, "--stop-after", "2")
     if not server.stdout.readline():
         return server.wait()
     print(f"$ mqctl {address} ka1        # ann\n$ mqctl {address} kb1        # bob")
-    clients = {"ann": start(found["mqctl"], address, "ka1"), "bob": start(found["mqctl"], address, "kb1")}
+    clients = {"ann": start(mqctl, address, "ka1"), "bob": start(mqctl, address, "kb1")}
     try:
         play(clients)
         for client in clients.values():

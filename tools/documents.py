@@ -115,7 +115,7 @@ def compare_files(it):
     ends = "".join(f"/{path}\n" for path in paths())
     named = set(re.findall(r"`([\w.-]+(?:/[\w.-]+)+/?|[\w.-]+\.(?:rt|antt|py))`", text("docs/WORKING.md")))
     for name in sorted(named):
-        if not re.search(r"NAME|^out/|^\.git/", name):
+        if not re.search(r"NAME|^\.git/", name):
             it.there(f"{name}, named in WORKING.md,", f"/{name}\n" in ends)
 
 

@@ -13,11 +13,9 @@ import sys
 import tempfile
 import time
 
-from programs import CRATES, NAMES, TOP, UNPROVED, below, unproved, uses
+from programs import CRATES, NAMES, TOP, below, proved, uses
 
 TESTS = ["test_library", "test_server", "test_client"]
-# How many calls the long inputs have: the unproved programs check each access, and take a millisecond a call.
-CALLS = "2000"
 # What a test may take: 60 seconds are too few for the longest ones beside other work.
 SECONDS = "600"
 # How a line of the rows ends that is as it must be.
@@ -63,13 +61,9 @@ def tests(name):
 
 
 def rows():
-    """Builds both programs, and runs them over inputs whose outcome is known, and as servers."""
-    try:
-        unproved()
-    except OSError as fault:
-        return False, "no program", str(fault)
-    over_inputs = run("rows/run.py", "--programs", UNPROVED, "--calls", CALLS, cwd=TOP)
-    as_servers = run("rows/servers.py", "--programs", UNPROVED, cwd=TOP)
+    """Runs both proved programs over inputs whose outcome is known, and as servers."""
+    over_inputs = run("rows/run.py", cwd=TOP)
+    as_servers = run("rows/servers.py", cwd=TOP)
     wrong = [line for line in (over_inputs[2] + as_servers[2]).splitlines() if not line.endswith(IS_WELL)]
     is_well = over_inputs[0] == as_servers[0] == 0
     return is_well, f"{last_line(over_inputs[1])}; {last_line(as_servers[1])}", "\n".join(wrong)
@@ -91,13 +85,17 @@ def proof(name):
     return status == 0, last_line(out), said
 
 
+def are_proved():
+    return all(proved(name) for name in NAMES)
+
+
 def parts_for(crate):
     """The name of each part, and what it calls. The longest come first."""
     lines = uses()
     stand_on_it = lambda *names: not crate or any(crate in below(name, lines) for name in names)
     if crate:
         yield f"proof of {crate}", lambda: proof(crate)
-    if stand_on_it(*NAMES):
+    if stand_on_it(*NAMES) and are_proved():
         yield "rows", rows
     for name in filter(stand_on_it, TESTS):
         yield name, lambda name=name: tests(name)
@@ -133,7 +131,8 @@ def main():
             passed += done.result()[0]
             failed += not done.result()[0]
     proofs = f"proofs but that of {asked.crate}" if asked.crate else "all proofs"
-    print(f"Left out: {proofs}, wrong bodies, test_memory, workloads, and the programs as proved. `make test` has them.")
+    rest = "" if are_proved() else ", rows (no proved programs stand: `make build`)"
+    print(f"Left out: {proofs}, wrong bodies, test_memory, workloads{rest}. `make test` has them.")
     print(f"{passed} passed, {failed} failed")
     return 1 if failed else 0
 
