@@ -2,9 +2,10 @@
 
 PREFIX = /usr/local
 
-# Whom `make run` serves, and where.
+# Whom `make run` serves, where, and how: words of `mqserve serve`, as OPTIONS="--socket-mode 0660". Paths in them are absolute.
 USERS = demo/users
 ADDRESS = 127.0.0.1:7000
+OPTIONS =
 
 # How many crates `make build` proves at a time. A proof takes up to 3 GB of memory.
 JOBS = 4
@@ -13,9 +14,10 @@ JOBS = 4
 demo:
 	@demo/run.py
 
-# A server of one's own: make run USERS=FILE ADDRESS=HOST:PORT. Ctrl-C ends it.
+# A server of one's own, on one thread: make run USERS=FILE ADDRESS=HOST:PORT. Ctrl-C ends it. Where none is proved, it is one
+# `rt try`.
 run:
-	@tools/programs.py serve $(USERS) $(ADDRESS)
+	@tools/programs.py $(USERS) $(ADDRESS) $(OPTIONS)
 
 # Tells in minutes whether a change is good, without proof. With CRATE=NAME it proves that crate too, and runs only the tests
 # that stand on it.

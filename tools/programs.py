@@ -1,16 +1,27 @@
 #!/usr/bin/env python3
-"""The programs mqserve and mqctl, which `make build` and the gate leave in crates/NAME/out, and what a crate stands on.
+"""The programs mqserve and mqctl, and what a crate stands on. Proved ones stand in crates/NAME/out, where `make build` and the
+gate leave them. Where there is no proved server, `rt try` builds one with checks and runs it; what that writes comes once it has ended.
 
-`tools/programs.py WORDS` runs mqserve with these words."""
+`tools/programs.py USERS ADDRESS [OPTIONS]` runs a server on one thread, or by workers if OPTIONS have --workers."""
 
 import os
 import pathlib
+import shlex
+import shutil
 import sys
 
 TOP = pathlib.Path(__file__).resolve().parent.parent
 CRATES = TOP / "crates"
 NAMES = ["mqserve", "mqctl"]
-NONE_STANDS = "No proved program stands in crates/mqserve/out: `make build` proves it."
+
+# How long `make build` takes on four idle cores, as it was measured.
+BUILD_TAKES = "not measured yet"
+NOT_PROVED = (
+    "Not proved: `rt try` builds this server with checks, and it serves in a minute or two. "
+    f"`make build` proves it (four idle cores: {BUILD_TAKES})."
+)
+# The longest that such a server runs: a day.
+TRIED_SECONDS = "86400"
 
 
 def uses():
@@ -38,13 +49,32 @@ def proved(name):
     return file if file.is_file() else None
 
 
+def server(users, address, options):
+    """The command of a server, and the folder to start it in. `rt try` runs it in a folder of its own, so paths are absolute."""
+    how = [*([] if "--workers" in options else ["--one-thread"]), *options]
+    file = proved("mqserve")
+    if file:
+        return [str(file), "serve", users, address, *how], TOP
+    trying = ["rt", "try", "--seconds", TRIED_SECONDS, "--data", f"users={users}"]
+    return [*trying, "--", "serve", "users", address, *how], CRATES / "mqserve"
+
+
 def main(words):
-    server = proved("mqserve")
-    if not server:
-        print(NONE_STANDS, file=sys.stderr)
+    if len(words) < 2:
+        print("programs.py USERS ADDRESS [OPTIONS]", file=sys.stderr)
+        return 2
+    users, address, *options = words
+    if address.startswith("unix:"):
+        address = "unix:" + os.path.abspath(address[len("unix:") :])
+    command, folder = server(os.path.abspath(users), address, options)
+    if not proved("mqserve"):
+        print(NOT_PROVED)
+    if not shutil.which(command[0]):
+        print(f"there is no {command[0]}, the command of Rattle's kit, on the PATH", file=sys.stderr)
         return 1
-    print(f"$ {os.path.relpath(server)} {' '.join(words)}", flush=True)
-    os.execv(server, [server, *words])
+    print(f"$ {shlex.join(command)}", flush=True)
+    os.chdir(folder)
+    os.execvp(command[0], command)
 
 
 if __name__ == "__main__":
