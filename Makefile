@@ -10,7 +10,8 @@ OPTIONS =
 # How many crates `make build` proves at a time. A proof takes up to 3 GB of memory.
 JOBS = 4
 
-# A server on loopback and two clients, over the proved programs: under a second.
+# A server on loopback and two clients in Python, and what mqctl shows: seconds over proved programs. Where no server is proved it
+# is one rt try, which takes a minute or two.
 demo:
 	@demo/run.py
 
