@@ -2,8 +2,7 @@
 """Runs the built programs over inputs whose outcome is known, and compares standard output, standard error and exit
 status with it. Prints a line for each case and a last line with the counts; the status is 1 where one differs.
 
-The programs are looked for in crates/NAME/out; `--programs FOLDER` gives another folder. `--calls N` makes the long inputs
-shorter, for programs that are built with checks.
+The programs are looked for in crates/NAME/out; `--programs FOLDER` gives another folder.
 
 A case is NAME.in in one of the folders of FOLDERS, beside NAME.args (one argument a line), NAME.out, NAME.err and
 NAME.status; what is missing is empty, and the status 0. It is run in that folder. Other cases are made below, where a
@@ -27,6 +26,8 @@ FOLDERS = {
     "rows/mqctl": "mqctl",
 }
 SECONDS = 60
+# How many calls the long inputs have.
+CALLS = 100_000
 
 USERS = b"ann:ka1:1000:1000::\n.\na hello ka1\n"
 STARTED = b"a started 0\n"
@@ -260,11 +261,10 @@ def judged(case):
 def main():
     parser = argparse.ArgumentParser(description="Runs the programs over inputs whose outcome is known.")
     parser.add_argument("--programs", type=pathlib.Path, metavar="FOLDER", help="where the programs are")
-    parser.add_argument("--calls", type=int, default=100_000, metavar="N", help="how many calls the long inputs have")
     asked = parser.parse_args()
     programs = asked.programs and asked.programs.resolve()
     cases = [case for folder, program in FOLDERS.items() for case in cases_of(folder, program)]
-    cases += [readme_case(), *made_cases(asked.calls)]
+    cases += [readme_case(), *made_cases(CALLS)]
     failed = 0
     for case in cases:
         difference = judged(dataclasses.replace(case, programs=programs))

@@ -1,6 +1,6 @@
 #!/usr/bin/env python3
-"""The programs mqserve and mqctl, and what a crate stands on. Proved ones stand in crates/NAME/out, where `make build` and the
-gate leave them. Where there is no proved server, `rt try` builds one with checks and runs it; what that writes comes once it has ended.
+"""The programs mqserve and mqctl, and what a crate stands on. Proved ones stand in crates/NAME/out, where `make build` and `make
+test` leave them. Where there is no proved server, `rt try` builds one with checks and runs it; what that writes comes once it has ended.
 
 `tools/programs.py USERS ADDRESS [OPTIONS]` runs a server on one thread, or by workers if OPTIONS have --workers."""
 
@@ -47,6 +47,13 @@ def proved(name):
     """The file of the proved program, or None where none was built."""
     file = CRATES / name / "out" / name
     return file if file.is_file() else None
+
+
+def is_current(name):
+    """Whether the proved program stands, and is newer than all sources that it is built of."""
+    file = proved(name)
+    sources = (source for crate in below(name, uses()) for source in (CRATES / crate / "src").rglob("*.rt"))
+    return file is not None and all(source.stat().st_mtime < file.stat().st_mtime for source in sources)
 
 
 def server(users, address, options):

@@ -1,7 +1,9 @@
 #!/usr/bin/env python3
 """Tells quickly whether a change is good, without proof: the layout of the files, the documents, the tests, and the programs
-over inputs whose outcome is known. With the name of a crate it proves that crate too, and runs only what stands on it.
-Prints a line for each part; the last line is 'N passed, M failed'."""
+over inputs whose outcome is known. With the name of a crate it proves that crate too, and runs only what stands on it. Where
+proved programs stand it also runs what only these can show.
+
+Prints a line for each part. One that failed is told with the command that runs it alone. The last line is 'N passed, M failed'."""
 
 import argparse
 import concurrent.futures
@@ -13,15 +15,30 @@ import sys
 import tempfile
 import time
 
-from programs import CRATES, NAMES, TOP, below, proved, uses
+from programs import CRATES, NAMES, TOP, below, is_current, uses
 
 TESTS = ["test_library", "test_server", "test_client"]
 # What a test may take: 60 seconds are too few for the longest ones beside other work.
 SECONDS = "600"
-# How a line of the rows ends that is as it must be.
-IS_WELL = (": as written", ": as it must be")
+# What a failed part is told of at most.
+LINES = 60
 # How a line of `rt fmt` begins that tells of a wrong layout, or of an edit that doesn't fit its file any more.
 WRONG_LAYOUT = ("rt: formatted ", "rt: note: must-fail/")
+# What only proved programs show, and the command of each.
+BY_PROVED = {
+    "rows of proved programs": "rows/run.py",
+    "servers": "rows/servers.py",
+    "random scripts two ways": "rows/two_ways.py",
+    "demo": "demo/run.py",
+    "clients": "make -ks --no-print-directory clients-test",
+}
+
+
+class Part:
+    """A part of the whole: its name, what a person types to run it alone, and what runs it here."""
+
+    def __init__(self, name, alone, run):
+        self.name, self.alone, self.run = name, alone, run
 
 
 def run(*words, **how):
@@ -47,8 +64,9 @@ def layout(names):
     return not wrong, f"{len(names)} crates as `rt fmt` leaves them", "\n".join(wrong)
 
 
-def documents():
-    status, out, said = run("tools/documents.py", cwd=TOP)
+def command(words):
+    """Runs a script of the repository, whose last line has its counts."""
+    status, out, said = run(*words.split(), cwd=TOP)
     return status == 0, last_line(out), said
 
 
@@ -60,15 +78,6 @@ def tests(name):
     return status == 0, counted[0] if counted else "no test ran", "\n".join(wrong)
 
 
-def rows():
-    """Runs both proved programs over inputs whose outcome is known, and as servers."""
-    over_inputs = run("rows/run.py", cwd=TOP)
-    as_servers = run("rows/servers.py", cwd=TOP)
-    wrong = [line for line in (over_inputs[2] + as_servers[2]).splitlines() if not line.endswith(IS_WELL)]
-    is_well = over_inputs[0] == as_servers[0] == 0
-    return is_well, f"{last_line(over_inputs[1])}; {last_line(as_servers[1])}", "\n".join(wrong)
-
-
 def streams():
     """Runs the program that feeds streams to a hub, over its data. The scripts that it runs too are rows of mqserve."""
     folder = CRATES / "test_rows"
@@ -78,62 +87,96 @@ def streams():
     return status == 0 and out and wanted.endswith(out), f"{len(out.splitlines())} streams", said
 
 
-def proof(name):
+def proof(name, words):
     """Proves the crate, after the libraries below it that have changed."""
-    has_tests = any("#[test]" in file.read_text(encoding="utf-8") for file in (CRATES / name / "src").rglob("*.rt"))
-    status, out, said = run("rt", "check", *["--test"] * has_tests, cwd=CRATES / name)
+    status, out, said = run(*words, cwd=CRATES / name)
     return status == 0, last_line(out), said
 
 
-def are_proved():
-    return all(proved(name) for name in NAMES)
+def proof_of(crate):
+    has_tests = any("#[test]" in file.read_text(encoding="utf-8") for file in (CRATES / crate / "src").rglob("*.rt"))
+    words = ["rt", "check", *["--test"] * has_tests]
+    return Part(f"proof of {crate}", f"cd crates/{crate} && {' '.join(words)}", lambda: proof(crate, words))
+
+
+def by_command(name, words):
+    return Part(name, words, lambda: command(words))
+
+
+def tests_of(crate):
+    return Part(crate, f"cd crates/{crate} && rt try --test --seconds {SECONDS}", lambda: tests(crate))
 
 
 def parts_for(crate):
-    """The name of each part, and what it calls. The longest come first."""
+    """The parts without proof that stand on the crate, or all. The longest come first."""
     lines = uses()
     stand_on_it = lambda *names: not crate or any(crate in below(name, lines) for name in names)
     if crate:
-        yield f"proof of {crate}", lambda: proof(crate)
-    if stand_on_it(*NAMES) and are_proved():
-        yield "rows", rows
+        yield proof_of(crate)
+    for name in filter(stand_on_it, NAMES):
+        yield by_command(f"rows of {name}", f"rows/tried.py {name}")
     for name in filter(stand_on_it, TESTS):
-        yield name, lambda name=name: tests(name)
+        yield tests_of(name)
     if stand_on_it("test_rows"):
-        yield "streams", streams
-    yield "layout", lambda: layout([crate] if crate else lines)
-    yield "documents", documents
+        yield Part("streams", "tools/quick.py --part streams", streams)
+    yield Part("layout", "tools/quick.py --part layout", lambda: layout([crate] if crate else lines))
+    yield by_command("documents", "tools/documents.py")
+    if are_current():
+        for name, words in BY_PROVED.items():
+            yield by_command(name, words)
+
+
+def are_current():
+    """Whether proved programs stand that are newer than what they are built of."""
+    return all(is_current(name) for name in NAMES)
 
 
 def timed(part):
     start = time.monotonic()
-    return (*part(), time.monotonic() - start)
+    return (*part.run(), time.monotonic() - start)
 
 
-def report(name, is_well, what, said, seconds):
-    print(f"{'passed' if is_well else 'FAILED'}  {name}: {what} ({seconds:.0f} s)", flush=True)
+def report(part, is_well, what, said, seconds):
+    print(f"{'passed' if is_well else 'FAILED'}  {part.name}: {what} ({seconds:.0f} s)", flush=True)
     if not is_well:
-        print("\n".join(f"    {line}" for line in said.splitlines()[-60:]), flush=True)
+        print("\n".join(f"    {line}" for line in said.splitlines()[-LINES:]), flush=True)
+
+
+def run_all(parts, at_once):
+    """Runs the parts side by side; which failed, and how many passed."""
+    failed = []
+    with concurrent.futures.ThreadPoolExecutor(at_once) as pool:
+        runs = {pool.submit(timed, part): part for part in parts}
+        for done in concurrent.futures.as_completed(runs):
+            report(runs[done], *done.result())
+            failed += [] if done.result()[0] else [runs[done]]
+    return failed, len(parts) - len(failed)
+
+
+def say_left_out(crate):
+    print(f"Left out: {f'proofs but that of {crate}' if crate else 'all proofs'}, wrong bodies, test_memory, workloads.")
+    if not are_current():
+        print(f"Left out, since no proved programs stand that are newer than their sources: {', '.join(BY_PROVED)}.")
+    print("`.ci/run` has all of these.")
 
 
 def main():
     parser = argparse.ArgumentParser(description="Tells quickly whether a change is good, without the whole proof.")
     parser.add_argument("crate", nargs="?", help="a crate to prove, with only the tests that stand on it")
     parser.add_argument("--jobs", type=int, default=os.cpu_count(), help="how many parts at a time")
+    parser.add_argument("--part", help="only the part of this name")
     asked = parser.parse_args()
     if asked.crate and asked.crate not in uses():
         parser.error(f"crates.txt has no crate {asked.crate}")
-    passed = failed = 0
-    with concurrent.futures.ThreadPoolExecutor(asked.jobs) as pool:
-        runs = {pool.submit(timed, part): name for name, part in parts_for(asked.crate)}
-        for done in concurrent.futures.as_completed(runs):
-            report(runs[done], *done.result())
-            passed += done.result()[0]
-            failed += not done.result()[0]
-    proofs = f"proofs but that of {asked.crate}" if asked.crate else "all proofs"
-    rest = "" if are_proved() else ", rows (no proved programs stand: `make build`)"
-    print(f"Left out: {proofs}, wrong bodies, test_memory, workloads{rest}. `make test` has them.")
-    print(f"{passed} passed, {failed} failed")
+    parts = [part for part in parts_for(asked.crate) if asked.part in (None, part.name)]
+    if not parts:
+        parser.error(f"there is no part {asked.part} here")
+    failed, passed = run_all(parts, asked.jobs)
+    if not asked.part:
+        say_left_out(asked.crate)
+    for part in failed:
+        print(f"failed: {part.name}; alone: {part.alone}")
+    print(f"{passed} passed, {len(failed)} failed")
     return 1 if failed else 0
 
 
