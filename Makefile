@@ -20,8 +20,8 @@ demo:
 run:
 	@tools/programs.py $(USERS) $(ADDRESS) $(OPTIONS)
 
-# Tells in minutes whether a change is good, without proof. With CRATE=NAME it proves that crate too, and runs only the tests
-# that stand on it.
+# Tells in minutes whether a change is good, without proof, and by proved programs where they stand. With CRATE=NAME it proves that
+# crate too, and runs only what stands on it.
 quick:
 	@tools/quick.py $(CRATE)
 
@@ -59,12 +59,12 @@ clients-test:
 conformance:
 	$(MAKE) -C clients conformance
 
-# The whole gate, from nothing. Its last line is 'N passed, M failed'. Each proof gets one job: a second one costs more
-# processor time than it saves while other proofs wait.
+# Every proof, wrong body, test and program's first run, from nothing: the greatest part of the gate, .ci/run. The last line is
+# 'N passed, M failed'. Each proof gets one job: a second one costs more processor time than it saves while other proofs wait.
 test:
 	@RT_JOBS=$${RT_JOBS:-$$(nproc)} rt ci
 
-# Runs the programs that the gate or a build left, over inputs whose outcome is known: both streams, and statuses.
+# Runs the programs that make test or make build left, over inputs whose outcome is known: both streams, and statuses.
 rows:
 	@rows/run.py
 	@rows/servers.py
@@ -78,7 +78,7 @@ ways:
 docs:
 	@tools/documents.py
 
-# Refuses each growth in turn, and disturbs each read and write in turn, in the programs that the gate left. The last line
+# Refuses each growth in turn, and disturbs each read and write in turn, in the programs that make test left. The last line
 # counts the allocations refused and the runs that failed.
 faults:
 	@faults/run.py

@@ -16,6 +16,7 @@ import struct
 import subprocess
 import sys
 import tempfile
+import textwrap
 import time
 
 TOP = pathlib.Path(__file__).resolve().parent.parent
@@ -241,6 +242,26 @@ def log(programs, address, *words):
     is_same("the log", re.sub(r"127\.0\.0\.1:\d+", "127.0.0.1:PORT", lines), wanted)
 
 
+def readme_workers(programs, address, *words):
+    """README.md's program in Python: each letter goes to one of three workers."""
+    blocks = re.findall(r"(?m)(?:^(?:    .*)?\n)+", (TOP / "README.md").read_text())
+    [program] = [textwrap.dedent(block) for block in blocks if "import mqserve" in block]
+    env = {**os.environ, "MQSERVE": address, "MQSERVE_KEY": "ka1", "PYTHONPATH": str(TOP / "clients" / "python")}
+    env.pop("PYTHONUNBUFFERED", None)  # it would part lines
+    command, letters = [sys.executable, "-B", "-c", program], [f"letter-{number}" for number in range(30)]
+    reading, writing = os.pipe()
+    with serving(programs, address, *words), open(reading) as told:
+        workers = [subprocess.Popen(command, env=env, stdout=writing) for _ in range(3)]
+        os.close(writing)
+        try:
+            subprocess.run([*command, *letters], env=env, check=True, timeout=SECONDS)
+            is_same("letters posted", sorted(told.readline() for _ in letters), sorted(f"posted {letter}\n" for letter in letters))
+        finally:
+            for worker in workers:
+                worker.kill()
+                worker.wait()
+
+
 def mode_of(path):
     return stat.S_IMODE(os.stat(path).st_mode)
 
@@ -292,6 +313,7 @@ ANYWHERE = {
     "a client that leaves at once": (leaves, ONE_AT_A_TIME),
     "a receive until a moment": (timed, KINDS),
     "a log at the end of a file": (log, KINDS),
+    "README.md's workers": (readme_workers, {"one thread": ONE_THREAD}),
 }
 AT_A_FILE = {
     "the file's mode and its end": (mode_and_end, KINDS),

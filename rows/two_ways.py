@@ -9,7 +9,7 @@ by ticks, gets a tick behind a call whose deadline comes. Pages of the audit mus
 its own ticks and the looks of the session that watches it, which don't count.
 
 `two_ways.py [COUNT] [SEED]` plays so many scripts, 50 where nothing is given; the last line counts the scripts and the answers
-that were compared. The programs are those that the gate or a build left.
+that were compared. The programs are those that `make test` or `make build` left.
 """
 
 import argparse

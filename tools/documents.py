@@ -8,6 +8,7 @@
   behind each
 - the rules and opcodes that the clients in C and Python have
 - the version, in the program, its row and CHANGELOG.md
+- the speeds in README.md, with those of bench/README.md
 
 Prints what differs, and how many things were compared. That README.md names another kit than `rt version` is said, and is no
 fault."""
@@ -36,6 +37,8 @@ STATED = [
     r"any of the ([\w-]+)(), by all",
 ]
 LEAST_STATED = 15
+# Whose speeds README.md has, as bench/README.md calls them.
+SPEEDS = ["mqserve --one-thread", "Redis", "beanstalkd", "kernel's queues, no server"]
 
 
 class Comparison:
@@ -240,6 +243,24 @@ def compare_versions(it):
     it.same("newest version in CHANGELOG.md", re.findall(r"(?m)^## ([\d.]+)", text("CHANGELOG.md"))[:1], [program])
 
 
+def measured_speeds():
+    """Messages a second of bench/README.md: of each job, by who did it."""
+    figures = text("bench/README.md").split("## Figures", 1)[1].split("\n![", 1)[0]
+    jobs = re.split(r"(?m)^\| \*\*(.*?)\*\* \|.*\n", figures)[1:]
+    return [dict(re.findall(r"(?m)^\| ([^|]+?) \| ([\d,]+) \|", rows)) for rows in jobs[1::2]]
+
+
+def compare_speeds(it):
+    readme, jobs = text("README.md"), measured_speeds()
+    [row] = re.findall(r"(?m)^\| messages a second, one by one; by 8 \| (.*) \|$", readme)
+    wanted = [f"{jobs[0].get(who)}; {jobs[1].get(who)}" for who in SPEEDS]
+    it.same("speeds in README.md", row.split(" | "), wanted)
+    number = lambda job, who: int(job[who].replace(",", ""))
+    ratios = [number(job, SPEEDS[-1]) / number(job, SPEEDS[0]) for job in jobs]
+    times = [(f"{min(ratios):.0f}", f"{max(ratios):.0f}")]
+    it.same("how fast the kernel's queues are, in README.md", re.findall(r"(\d+) to (\d+) times as fast", readme), times)
+
+
 def say_kit():
     """Says where README.md names another kit than the one that is here."""
     named = re.findall(r"`(rattle-kit-[^`]+)`", text("README.md"))
@@ -254,8 +275,13 @@ def main():
     edits = {path.stem for path in CRATES.glob("*/must-fail/*.edit")}
     compare_rules(it, edits)
     compare_wrong_bodies(it, edits)
-    for compare in (compare_files, compare_counts, compare_frames, compare_clients, compare_commands, compare_versions):
-        compare(it)
+    compare_files(it)
+    compare_counts(it)
+    compare_frames(it)
+    compare_clients(it)
+    compare_commands(it)
+    compare_versions(it)
+    compare_speeds(it)
     say_kit()
     for line in it.wrong:
         print(line)
