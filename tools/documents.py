@@ -9,6 +9,7 @@
 - the rules and opcodes that the clients in C and Python have
 - the version, in the program, its row and CHANGELOG.md
 - the speeds in README.md, with those of bench/README.md
+- the unit's command line and limits, with those that service/README.md gives by hand
 
 Prints what differs, and how many things were compared. That README.md names another kit than `rt version` is said, and is no
 fault."""
@@ -261,6 +262,17 @@ def compare_speeds(it):
     it.same("how fast the kernel's queues are, in README.md", re.findall(r"(\d+) to (\d+) times as fast", readme), times)
 
 
+def compare_service(it):
+    unit, page = dict(re.findall(r"(?m)^(\w+)=(.*)$", text("service/mqserve.service"))), text("service/README.md")
+    [options] = re.findall(r'^"OPTIONS=(.*)"$', unit["Environment"])
+    size = int(unit["LimitAS"].replace("G", "")) * 2**30
+    limits = f"prlimit --nofile={unit['LimitNOFILE']} --as={size} --core={unit['LimitCORE']}"
+    user = f"setpriv --reuid {unit['User']} --regid {unit['Group']}"
+    folder = f"install -d -o {unit['User']} -g {unit['Group']} -m {unit['RuntimeDirectoryMode'][1:]} /run/{unit['RuntimeDirectory']}"
+    for words in (unit["ExecStart"].replace("$OPTIONS", options), limits, user, folder, f"umask {unit['UMask'][1:]}"):
+        it.there(f"{words}, of the unit, in service/README.md,", words in page)
+
+
 def say_kit():
     """Says where README.md names another kit than the one that is here."""
     named = re.findall(r"`(rattle-kit-[^`]+)`", text("README.md"))
@@ -282,6 +294,7 @@ def main():
     compare_commands(it)
     compare_versions(it)
     compare_speeds(it)
+    compare_service(it)
     say_kit()
     for line in it.wrong:
         print(line)
