@@ -163,7 +163,7 @@ def say_left_out(crate):
 def main():
     parser = argparse.ArgumentParser(description="Tells quickly whether a change is good, without the whole proof.")
     parser.add_argument("crate", nargs="?", help="a crate to prove, with only the tests that stand on it")
-    parser.add_argument("--jobs", type=int, default=os.cpu_count(), help="how many parts at a time")
+    parser.add_argument("--jobs", type=int, default=len(os.sched_getaffinity(0)), help="how many parts at a time")
     parser.add_argument("--part", help="only the part of this name")
     asked = parser.parse_args()
     if asked.crate and asked.crate not in uses():
