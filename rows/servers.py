@@ -10,6 +10,7 @@ import os
 import pathlib
 import re
 import shlex
+import signal
 import socket
 import stat
 import struct
@@ -22,6 +23,7 @@ import time
 TOP = pathlib.Path(__file__).resolve().parent.parent
 USERS = TOP / "rows" / "mqserve" / "two.users"
 SECONDS = 60
+SECONDS_OF_AN_ANSWER = 4
 MANY = 200
 
 HELLO, UMASK, SEM_OPEN, STARTED, MASK = 1, 2, 11, 65, 68
@@ -227,6 +229,39 @@ def timed(programs, address, *words):
         ends(server, 2)
 
 
+def in_two_parts(programs, address, *words):
+    """All that came is read, though a read ends where a file was sent along, or before urgent bytes: a hello's first bytes
+    came so, and its last bytes with a whole request behind them."""
+    hello = frame(HELLO, b"\0\3ka1")
+    with serving(programs, address, "--stop-after", "2", *words) as server, contextlib.ExitStack() as stack:
+        with connect(address) as first:
+            # So that the server knows of both parts of the second at once, it is stopped while these are sent.
+            first.sendall(hello)
+            is_answer(first, STARTED)
+            server.send_signal(signal.SIGSTOP)
+            stream = stack.enter_context(connect(address))
+            send_apart(stream, hello[:3])
+            stream.sendall(hello[3:] + frame(UMASK, b"\0\0"))
+            server.send_signal(signal.SIGCONT)
+            stream.settimeout(SECONDS_OF_AN_ANSWER)
+            is_answer(stream, STARTED)
+            is_answer(stream, MASK)
+        stack.close()
+        ends(server, 2)
+
+
+def send_apart(stream, data):
+    """Sends bytes so that a read ends behind them: with a file sent along, or with an urgent byte, which isn't read, behind
+    them."""
+    if stream.family == socket.AF_UNIX:
+        with open(os.devnull, "rb") as file:
+            rights = (socket.SOL_SOCKET, socket.SCM_RIGHTS, struct.pack("i", file.fileno()))
+            stream.sendmsg([data], [rights])
+    else:
+        stream.sendall(data)
+        stream.send(b"!", socket.MSG_OOB)
+
+
 def log(programs, address, *words):
     """What is told of a connection stands at the end of the log."""
     with tempfile.TemporaryDirectory() as room:
@@ -312,6 +347,7 @@ ANYWHERE = {
     "a third client waits": (third_waits, {"workers": ["--workers", "2"], "one thread": [*ONE_THREAD, "--connections", "2"]}),
     "a client that leaves at once": (leaves, ONE_AT_A_TIME),
     "a receive until a moment": (timed, KINDS),
+    "a stream in two parts": (in_two_parts, {"workers": ["--workers", "2"], "one thread": ONE_THREAD}),
     "a log at the end of a file": (log, KINDS),
     "README.md's workers": (readme_workers, {"one thread": ONE_THREAD}),
 }

@@ -1,6 +1,7 @@
 -- What serving brings, one piece after another.
 use Rattle.std.proofs.Common.{◌≡◌, ℕ, zero, suc, ◌<◌, ◌≤◌, length, arith, Bool, true, false, ◌||◌, eqb, cond, List, [], ◌∷◌, ◌++◌, take, Option, Some, None, refl, sym, ap, subst, ◌∙◌}
 use Rattle.std.specs.Prelude.{is_none, is_some, Result, Ok, Err, IfOk, OnOk, OnErr}
+use Rattle.std.proofs.lemmas.List.{append-nil, length_push}
 use Rattle.ipc_hub.specs.Hub.{Hub, with_connection, Feeds, HangsUp, Takes, Names, Ticks}
 use Rattle.ipc_hub.specs.Laws.{Call, Opened, TookPiece, HungUp, Gave, Named, Ticked, Makes, MakesAll, stream_of, output_of}
 use Rattle.ipc_loop.specs.declared.ending.Ending.{Ending}
@@ -212,10 +213,16 @@ pub stays_serve : (k : ℕ) (h : Hub) (m m' : Moves) (p p' : Port) → GoOn m m'
 stays_serve k h m m' p p' went left ending = rests_serve k h m m' p p' (adds_nothing m m' k went) left (same_unfed p p' ending)
 
 -- the link gave a piece, which was fed
-pub piece_serve : (k : ℕ) (h h' : Hub) (m m' : Moves) (p q p' : Port) (piece : List ℕ) → GoOn m m' (LinkGave k piece ∷ []) → is_end piece ≡ false → p.ending ≡ None → q.left ≡ p.left → q.ending ≡ p.ending → FeedsPort k h q piece h' p' → ServesPort k h m p h' m' p'
-piece_serve k h h' m m' p q p' piece went more on left ending fed =
-    port_both k h h h' m m m' p q p' (stays_serve k h m m p q (go_nowhere m) left ending)
-    (feeds_serve k h h' m m' q p' piece (ending ∙ on) (subst (λ (b : Bool). Adds m m' k piece [] b) more (adds_read m m' k piece went)) fed)
+pub piece_serve : (k : ℕ) (h h' : Hub) (m m' : Moves) (p p' : Port) (piece : List ℕ) → GoOn m m' (LinkGave k piece ∷ []) → is_end piece ≡ false → p.ending ≡ None → FeedsPort k h p piece h' p' → ServesPort k h m p h' m' p'
+piece_serve k h h' m m' p p' piece went more on fed = feeds_serve k h h' m m' p p' piece on (subst (λ (b : Bool). Adds m m' k piece [] b) more (adds_read m m' k piece went)) fed
+
+-- a read that would wait gave nothing
+pub waits_gave_none : (k : ℕ) (m m' : Moves) → GoOn m m' [] → (before : List Moved) (byte : ℕ) (bytes : List ℕ) → m ≡ Some before → m' ≡ Some (before ++ LinkGave k (byte ∷ bytes) ∷ []) → ⊥
+waits_gave_none k m m' went before byte bytes was now =
+    let none : before ++ LinkGave k (byte ∷ bytes) ∷ [] ≡ before ++ [] = subst (λ (x : Moves). GoOn (Some before) x []) now (subst (λ (x : Moves). GoOn x m' []) was went) in
+    longer before (none ∙ append-nil before) where
+      longer : (xs : List Moved) → xs ++ LinkGave k (byte ∷ bytes) ∷ [] ≡ xs → ⊥
+      longer xs e = let one : length (xs ++ LinkGave k (byte ∷ bytes) ∷ []) ≡ length xs = ap (λ (ys : List Moved). length ys) e in omega (arith, length_push xs (LinkGave k (byte ∷ bytes)))
 
 pub marks_refed : (k : ℕ) (h h' : Hub) (p q p' : Port) → q.left ≡ p.left → KeepsPortMarks k h q h' p' → KeepsPortMarks k h p h' p'
 marks_refed k h h' p q p' left keeps others i owed = keeps others i (same_keep k h p q left others i owed)

@@ -4,19 +4,17 @@ use Rattle.ipc_loop.specs.declared.ending.Ending.{Ending}
 
 -- left: what was taken from the hub for the link and is not written yet; none once the link takes nothing any more.
 -- ending: why the link isn't read any more. is_over: whether the hub knows. may_read, may_write: what the link was last
--- known to do. has_ended: whether its peer sends nothing more. is_full: whether the hub keeps requests that can be stepped
--- once answers are taken
+-- known to do. is_full: whether the hub keeps requests that can be stepped once answers are taken
 pub record Port : Type 0 where
   pub left : Option (List ℕ)
   pub ending : Option Ending
   pub is_over : Bool
   pub may_read : Bool
   pub may_write : Bool
-  pub has_ended : Bool
   pub is_full : Bool
 
 abbrev pub new_port : Port
-new_port = record { left = Some []; ending = None; is_over = false; may_read = false; may_write = true; has_ended = false; is_full = false }
+new_port = record { left = Some []; ending = None; is_over = false; may_read = false; may_write = true; is_full = false }
 
 -- the port of link i, if it is open
 abbrev pub open_at : List (Option Port) → ℕ → Option Port

@@ -4,7 +4,7 @@ use Rattle.ipc_hub.specs.Hub.{Hub, is_marked, untaken_at}
 use Rattle.ipc_hub.specs.Laws.{Call, TookPiece, MakesAll, stream_of, output_of}
 use Rattle.ipc_hub.specs.declared.fed.Fed.{Fed}
 use Rattle.ipc_hub.specs.declared.fed.Fed.TheVariants.{Over}
-use Rattle.ipc_loop.specs.Moves.{Moved, GoOn, Adds, read_of, written_of, comes_to_its_end, opened_in}
+use Rattle.ipc_loop.specs.Moves.{Moved, LinkGave, GoOn, Adds, read_of, written_of, comes_to_its_end, opened_in}
 use Rattle.ipc_loop.specs.Ports.{Port, port_at, with_port, left_of, unfed_of}
 
 -- what comes passes on in order, behind what was left before, and the rest is left. None is left once no more passes: then
@@ -87,6 +87,10 @@ pub record FeedsPort (k : ℕ) (hub : Hub) (port : Port) (piece : List ℕ) (hub
   pub ends : (i : ℕ) → ends_at_a_feed i calls ≡ (if k == i then over else false)
   pub stops : over ≡ true → unfed_of (Some port') ≡ None
   pub left : port'.left ≡ port.left
+
+-- where link k gave something, more may be there
+abbrev pub StaysReadable : ℕ → Option (List Moved) → Option (List Moved) → Port → Port → Type 0
+StaysReadable k moves moves' port port' = (before : List Moved) (byte : ℕ) (bytes : List ℕ) → moves ≡ Some before → moves' ≡ Some (before ++ LinkGave k (byte ∷ bytes) ∷ []) → port'.may_read ≡ port.may_read
 
 abbrev pub KeepsPortMarks : ℕ → Hub → Port → Hub → Port → Type 0
 KeepsPortMarks k hub port hub' port' = (others : ℕ → Option Port) → KeepsMarks hub (with_port others k (Some port)) hub' (with_port others k (Some port'))

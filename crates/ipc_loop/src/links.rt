@@ -8,8 +8,8 @@ use crate::ending::Ending;
 use std::io;
 use std::time::Duration;
 
-/// What became ready. It is told once, and of a link again only after a read or a write met `WouldBlock` or moved
-/// less than was asked for.
+/// What became ready. It is told once, and of a link again only after a read or a write met `WouldBlock`. A read that
+/// gives less than was asked for doesn't say that nothing more is there.
 #[derive(Clone, Copy)]
 pub enum Ready {
     /// Somebody connects.

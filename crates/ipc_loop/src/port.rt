@@ -18,7 +18,6 @@ pub struct Port {
     pub is_over: bool,
     pub may_read: bool,
     pub may_write: bool,
-    pub has_ended: bool,
     pub is_full: bool,
     /// How often its requests were tried in vain for want of memory.
     pub tries: u32,
@@ -30,7 +29,7 @@ impl Model for Port {
 
     ghost Value = { Port };
 
-    ghost view = { λ p. record { left = if p.is_cut then None else Some p.unsent; ending = p.ending; is_over = p.is_over; may_read = p.may_read; may_write = p.may_write; has_ended = p.has_ended; is_full = p.is_full } };
+    ghost view = { λ p. record { left = if p.is_cut then None else Some p.unsent; ending = p.ending; is_over = p.is_over; may_read = p.may_read; may_write = p.may_write; is_full = p.is_full } };
 }
 
 impl Port {
@@ -45,7 +44,6 @@ impl Port {
             is_over: false,
             may_read: false,
             may_write: true,
-            has_ended: false,
             is_full: false,
             tries: 0,
         }
@@ -69,12 +67,12 @@ impl Port {
         self.may_read || self.is_full || self.ending.is_some()
     }
 
-    /// What became ready.
+    /// What became ready. The end of a stream can be read too.
     pub fn note(&mut self, is_readable: bool, is_writable: bool, has_ended: bool)
-        ensures { self.new ≡ record self.old { may_read = self.old.may_read || is_readable; may_write = self.old.may_write || is_writable; has_ended = self.old.has_ended || has_ended } }
+        ensures { self.new ≡ record self.old { may_read = self.old.may_read || is_readable || has_ended; may_write = self.old.may_write || is_writable } }
     {
         self.may_read |= is_readable;
+        self.may_read |= has_ended;
         self.may_write |= is_writable;
-        self.has_ended |= has_ended;
     }
 }

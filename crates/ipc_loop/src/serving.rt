@@ -4,7 +4,7 @@ ghost use Rattle.std.specs.Prelude.{◌≡◌, ◌≤◌, ◌||◌, [], List, Op
 ghost use Rattle.ipc_hub.specs.Hub.{Hub, Feeds};
 ghost use Rattle.ipc_loop.specs.Moves.{Moved, Adds};
 ghost use Rattle.ipc_loop.specs.Ports.{is_all};
-ghost use Rattle.ipc_loop.specs.Serving.{ServesPort, KeepsPortMarks, Writes, FeedsPort, Answers, ends_connection};
+ghost use Rattle.ipc_loop.specs.Serving.{ServesPort, KeepsPortMarks, Writes, FeedsPort, StaysReadable, Answers, ends_connection};
 
 use crate::ending::Ending;
 use crate::links::Host;
@@ -97,6 +97,7 @@ impl Port {
     /// The link isn't read any more; the first reason is kept.
     fn end(&mut self, ending: Ending)
         ensures left { self.new.left ≡ self.old.left }
+        ensures may_read { self.new.may_read ≡ self.old.may_read }
         ensures ended { is_some self.new.ending ≡ true }
     {
         if self.ending.is_none() {
@@ -178,6 +179,7 @@ impl Port {
     /// What became of a piece.
     fn note_fed(&mut self, fed: Result<Fed, HubFault>)
         ensures left { self.new.left ≡ self.old.left }
+        ensures may_read { self.new.may_read ≡ self.old.may_read }
         ensures err { OnErr fed (is_some self.new.ending ≡ true) }
         ensures over { IfOk fed (λ fed. ends_connection fed ≡ true → is_some self.new.ending ≡ true) }
     {
@@ -209,19 +211,14 @@ impl Port {
         requires { self.old.ending ≡ None }
         ensures fed { FeedsPort number hub.old self.old piece.now hub.new self.new }
         ensures marks { KeepsPortMarks number hub.old self.old hub.new self.new }
+        ensures may_read { self.new.may_read ≡ self.old.may_read }
     {
         let fed = feed_piece(hub, alloc, Conn(number), piece);
         self.note_fed(fed);
     }
 
-    /// A piece was read, which filled the buffer or not. What fills less was all that there was.
-    fn note_read(&mut self, is_whole: bool)
-        ensures { self.new ≡ record self.old { may_read = is_whole || self.old.has_ended } }
-    {
-        self.may_read = is_whole || self.has_ended;
-    }
-
-    /// Reads a piece of the stream, and steps it.
+    /// Reads a piece of the stream, and steps it. More may be there until a read would wait, also behind a piece that is
+    /// shorter than the buffer: at a Unix socket a read ends where a file was sent along, and over TCP before urgent bytes.
     fn read<H: Host>(
         &mut self,
         hub: &mut Hub,
@@ -233,13 +230,13 @@ impl Port {
         requires { self.old.ending ≡ None }
         ensures serves { ServesPort number hub.old (H.moves host.old) self.old hub.new (H.moves host.new) self.new }
         ensures marks { KeepsPortMarks number hub.old self.old hub.new self.new }
+        ensures more { StaysReadable number (H.moves host.old) (H.moves host.new) self.old self.new }
     {
         match host.read(number, buffer) {
             Ok(count) => {
                 if count == 0 {
                     self.end(Ending::Closed);
                 } else {
-                    self.note_read(count == buffer.len());
                     self.feed(hub, alloc, number, &buffer[..count]);
                 }
             }

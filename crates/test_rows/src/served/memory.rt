@@ -35,7 +35,7 @@ pub struct Link {
     ending: Option<Ending>,
     reads: u64,
     writes: u64,
-    /// A read or a write met `WouldBlock` or moved less than was asked for, so it is to be told of again.
+    /// A read or a write met `WouldBlock`, so it is to be told of again.
     is_due: bool,
 }
 
@@ -162,13 +162,13 @@ impl Host for Memory {
         let Some(link) = self.links.get_mut(number as usize) else {
             return Err(io::Error::from(ErrorKind::NotFound));
         };
-        link.is_due = true;
         link.reads = link.reads.saturating_add(1);
         let rest = link.stream.get(link.given..).unwrap_or(&[]);
         if rest.is_empty() && have_ended {
             return Ok(0);
         }
         if rest.is_empty() || manner.waits && link.reads % 2 == 1 {
+            link.is_due = true;
             return Err(io::Error::from(ErrorKind::WouldBlock));
         }
         let count = manner.most.min(rest.len()).min(buffer.len());
@@ -185,9 +185,9 @@ impl Host for Memory {
         let Some(link) = self.links.get_mut(number as usize) else {
             return Err(io::Error::from(ErrorKind::NotFound));
         };
-        link.is_due = true;
         link.writes = link.writes.saturating_add(1);
         if manner.waits && link.writes % 2 == 1 {
+            link.is_due = true;
             return Err(io::Error::from(ErrorKind::WouldBlock));
         }
         let count = manner.most.min(bytes.len());

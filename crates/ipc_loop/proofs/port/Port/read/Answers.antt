@@ -1,7 +1,7 @@
 use Rattle.std.proofs.Common.{ℕ, ◌<◌, ◌∷◌, [], take, arith, refl, ap, subst}
 use Rattle.ipc_loop.specs.Moves.{GoOn, LinkGave}
 use Rattle.ipc_loop.specs.Ports.{Port}
-use Rattle.ipc_loop.proofs.ServingLemmas.{ends_serve, stays_serve, fails_serve, piece_serve, marks_refed, not_end}
+use Rattle.ipc_loop.proofs.ServingLemmas.{ends_serve, stays_serve, fails_serve, piece_serve, not_end, waits_gave_none}
 use Rattle.ipc_loop.proofs.port.Port.read.Goals as goal
 
 pub returns-then-count-eq0-clause-serves : goal.returns-then-count-eq0-clause-serves
@@ -11,10 +11,10 @@ returns-then-count-eq0-clause-serves g c =
 pub returns-else-count-eq0-clause-serves : goal.returns-else-count-eq0-clause-serves
 returns-else-count-eq0-clause-serves g c =
     let some : 0 < c.in-Ok.count = omega arith in
-    piece_serve _ _ _ _ _ c.args.self.now c.note_read.new.self c.feed.new.self _ c.in-Ok.ensures.moved (not_end c.in-Ok.count c.read.new.buffer some c.in-Ok.ensures.bound.0) c.requires (ap (λ (p : Port). p.left) c.note_read.ensures) (ap (λ (p : Port). p.ending) c.note_read.ensures) c.feed.ensures.fed
+    piece_serve _ _ _ _ _ c.args.self.now c.feed.new.self _ c.in-Ok.ensures.moved (not_end c.in-Ok.count c.read.new.buffer some c.in-Ok.ensures.bound.0) c.requires c.feed.ensures.fed
 
-pub returns-else-count-eq0-clause-marks : goal.returns-else-count-eq0-clause-marks
-returns-else-count-eq0-clause-marks g c = marks_refed c.args.number c.args.hub.now c.feed.new.hub c.args.self.now c.note_read.new.self c.feed.new.self (ap (λ (p : Port). p.left) c.note_read.ensures) c.feed.ensures.marks
+pub returns-in-WouldBlock-clause-more : goal.returns-in-WouldBlock-clause-more
+returns-in-WouldBlock-clause-more g c = λ before byte bytes was now. absurd (waits_gave_none c.args.number _ _ c.in-Err.ensures.moved before byte bytes was now)
 
 pub returns-in-WouldBlock-clause-serves : goal.returns-in-WouldBlock-clause-serves
 returns-in-WouldBlock-clause-serves g c = stays_serve _ _ _ _ _ _ c.in-Err.ensures.moved (ap (λ (p : Port). p.left) c.self.view_is) (ap (λ (p : Port). p.ending) c.self.view_is)
