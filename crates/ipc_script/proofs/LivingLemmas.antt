@@ -1,5 +1,5 @@
 -- Whom an accepted event answers is live after it.
-use Rattle.std.proofs.Common.{◌≡◌, ◌∙◌, ℕ, Bool, true, false, not, ◌&&◌, ◌||◌, eqb, List, [], ◌∷◌, ◌++◌, cond, Option, Some, None, inl, inr, ◌⊎◌, refl, sym, ap, subst}
+use Rattle.std.proofs.Common.{◌≡◌, ◌∙◌, ℕ, Bool, true, false, ◌&&◌, ◌||◌, eqb, List, [], ◌∷◌, cond, Option, Some, None, inl, inr, ◌⊎◌, refl, sym, ap, subst}
 use Rattle.std.specs.Option.{option_or, option_map}
 use Rattle.std.proofs.lemmas.Bool.{eq-eqb}
 use Rattle.ipc_terms.specs.Lists.{Each, first}
@@ -19,13 +19,13 @@ use Rattle.ipc_policy.specs.declared.config.Registration.{Registration}
 use Rattle.ipc_policy.specs.History.{History, unless}
 use Rattle.ipc_policy.specs.Sessions.{hellos, live}
 use Rattle.ipc_policy.specs.Names.{Opening, queue_opening, semaphore_opening, bound, creations}
-use Rattle.ipc_policy.specs.Descriptions.{ends_held, hands_over, held, held_as, holds, opened_by, opens}
+use Rattle.ipc_policy.specs.Descriptions.{ends_held, hands_over, held, held_as, holds, opens}
 use Rattle.ipc_policy.specs.Queues.{Send, Waiter, attributes, next}
 use Rattle.ipc_policy.specs.Bodies.{contents, due, is_full, is_zero, queue, receivers, senders, waiters}
 use Rattle.ipc_policy.specs.Registrations.{is_idle, registered}
 use Rattle.ipc_policy.specs.Parking.{ParkedKind, Parked, parked}
 use Rattle.ipc_policy.specs.Grow.{held_after, live_after}
-use Rattle.ipc_policy.specs.Verdict.{Legal, verdict, answers, answers_at, accepted_answers, after_event, answers_of, attributes_told, facts_meant, noticed, post_answers, receive_answers, received, receiver_answers, send_answers, sender_answers, stat_answers, tick_answers, value_told, wait_answers, waiter_answers}
+use Rattle.ipc_policy.specs.Verdict.{Legal, verdict, answers, answers_at, accepted_answers, after_event, answers_of, attributes_told, facts_meant, noticed, receive_answers, received, receiver_answers, send_answers, sender_answers, stat_answers, tick_answers, wait_answers, waiter_answers}
 use Rattle.ipc_policy.proofs.Blocked.CallsListed.{calls_listed}
 use Rattle.ipc_policy.proofs.Blocked.Earliest.{due_live}
 use Rattle.ipc_policy.proofs.Blocked.ParkedSessions.{is_parked}

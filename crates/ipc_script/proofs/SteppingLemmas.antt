@@ -2,7 +2,7 @@
 use Rattle.std.proofs.Common.{◌≡◌, ◌∙◌, ℕ, Bool, true, false, eqb, List, [], ◌∷◌, ◌++◌, cond, Option, Some, None, refl, sym, ap, subst}
 use Rattle.std.specs.Prelude.{map, unwrap_or}
 use Rattle.std.specs.Option.{option_to_list}
-use Rattle.std.proofs.lemmas.Bool.{eqb-true, eqb-false, eq-eqb}
+use Rattle.std.proofs.lemmas.Bool.{eqb-true, eqb-false}
 use Rattle.ipc_terms.specs.Lists.{changed}
 use Rattle.ipc_terms.specs.declared.rule.Rule.{Rule}
 use Rattle.ipc_terms.specs.declared.ids.Sid.{Sid}
@@ -12,7 +12,7 @@ use Rattle.ipc_terms.specs.declared.record.Event.{Event}
 use Rattle.ipc_policy.specs.declared.config.Config.{Config}
 use Rattle.ipc_policy.specs.History.{History}
 use Rattle.ipc_policy.specs.Sessions.{live}
-use Rattle.ipc_policy.specs.Verdict.{Legal, verdict, answers, answers_at, after_event, caller, for_session}
+use Rattle.ipc_policy.specs.Verdict.{Legal, verdict, answers, after_event, caller, for_session}
 use Rattle.ipc_core.specs.Boxes.{box_at, taken}
 use Rattle.ipc_core.specs.CoreView.{CoreView}
 use Rattle.ipc_core.specs.Outboxes.{BoxesAgree, added, after_step, session_at, untaken_after}
