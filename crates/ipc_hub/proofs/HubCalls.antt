@@ -1,6 +1,6 @@
 -- What each call of a hub comes to, where the hub is seen as its parts.
 use Rattle.std.proofs.Common.{◌≡◌, ℕ, true, false, List, [], ◌++◌, length, set, slice_get, Option, Some, None, refl, sym, ap, subst, ◌∙◌}
-use Rattle.std.specs.Prelude.{is_none}
+use Rattle.std.specs.Prelude.{IsSome, is_none}
 use Rattle.ipc_core.specs.Outboxes.{after_steps}
 use Rattle.ipc_wire.specs.Streams.{Cut, cut}
 use Rattle.ipc_fields.specs.Field.{◌⊕◌}
@@ -40,12 +40,19 @@ fed_is old a b xs i n x y piece fed most is at w there open' h e = subst (λ (k 
 pub hung_up_is : (old : Hub) (a b : MarkedView) (xs : List Connection) (i n : ℕ) (x y : Connection) → hub_view a xs ≡ old → i ≡ n → Stands a xs → slice_get xs i ≡ Some x → x.is_over ≡ false → b.core ≡ after_steps (hang_up_of x.session) a.core → Follows a b → y ≡ record x { kept = []; is_over = true } → HangsUp old n (hub_view b (set xs i y))
 hung_up_is old a b xs i n x y is at w there open' now f e = subst (λ (k : ℕ). HangsUp old k (hub_view b (set xs i y))) at (subst (λ (o : Hub). HangsUp o i (hub_view b (set xs i y))) is (record { before = x; changes = record { was = there; others = ap (set xs i) e }; open_before = open'; core = now; marks = changed_marks a b xs i x y w there f (hung_up_silent a b xs i x y w there f e) }))
 
+-- what was untaken is taken
+takes_of : (old : Hub) (a b : MarkedView) (xs : List Connection) (i n : ℕ) (x y : Connection) (bytes : List ℕ) → hub_view a xs ≡ old → i ≡ n → slice_get xs i ≡ Some x → b ≡ record a { core = core_after_take a.core x.session } → y ≡ record x { has_refusal = false } → spell_answers (untaken a.core x) ≡ Some bytes → Takes old n bytes (hub_view b (set xs i y))
+takes_of old a b xs i n x y bytes is at there after e given = subst (λ (k : ℕ). Takes old k bytes (hub_view b (set xs i y))) at (subst (λ (o : Hub). Takes o i bytes (hub_view b (set xs i y))) is (record { before = x; changes = record { was = there; others = ap (set xs i) e }; given = given; core = ap (λ (z : MarkedView). z.core) after; marked = ap (λ (z : MarkedView). z.marked) after }))
+
+pub discarded_is : (old : Hub) (a b : MarkedView) (xs : List Connection) (i n : ℕ) (x y : Connection) → hub_view a xs ≡ old → i ≡ n → slice_get xs i ≡ Some x → b ≡ record a { core = core_after_take a.core x.session } → y ≡ record x { has_refusal = false } → IsSome (spell_answers (untaken a.core x)) → (bytes : List ℕ) × Takes old n bytes (hub_view b (set xs i y))
+discarded_is old a b xs i n x y is at there after e some = found (spell_answers (untaken a.core x)) refl some where
+  found : (text : Option (List ℕ)) → spell_answers (untaken a.core x) ≡ text → IsSome text → (bytes : List ℕ) × Takes old n bytes (hub_view b (set xs i y))
+  found None given k = (let wrong : false ≡ true = k in absurd cc)
+  found (Some bytes) given k = (bytes, takes_of old a b xs i n x y bytes is at there after e given)
+
 -- the spellings of what was untaken stand behind the old bytes
 pub taken_is : (old : Hub) (a b : MarkedView) (xs : List Connection) (i n : ℕ) (x y : Connection) (out now : List ℕ) → hub_view a xs ≡ old → i ≡ n → slice_get xs i ≡ Some x → b ≡ record a { core = core_after_take a.core x.session } → y ≡ record x { has_refusal = false } → (Some out ⊕ spell_answers (untaken a.core x)) ≡ Some now → (bytes : List ℕ) × (now ≡ out ++ bytes) × Takes old n bytes (hub_view b (set xs i y))
 taken_is old a b xs i n x y out now is at there after e put = found (spell_answers (untaken a.core x)) refl put where
-  takes : (bytes : List ℕ) → spell_answers (untaken a.core x) ≡ Some bytes → Takes old n bytes (hub_view b (set xs i y))
-  takes bytes given = subst (λ (k : ℕ). Takes old k bytes (hub_view b (set xs i y))) at (subst (λ (o : Hub). Takes o i bytes (hub_view b (set xs i y))) is (record { before = x; changes = record { was = there; others = ap (set xs i) e }; given = given; core = ap (λ (z : MarkedView). z.core) after; marked = ap (λ (z : MarkedView). z.marked) after }))
-
   some_list : (v w : List ℕ) → Some v ≡ Some w → v ≡ w
   some_list v w k = cc
 
@@ -53,4 +60,4 @@ taken_is old a b xs i n x y out now is at there after e put = found (spell_answe
   found None given k = absurd (none_is k) where
     none_is : None ≡ Some now → ⊥
     none_is q = absurd cc
-  found (Some bytes) given k = (bytes, sym (some_list (out ++ bytes) now k), takes bytes given)
+  found (Some bytes) given k = (bytes, sym (some_list (out ++ bytes) now k), takes_of old a b xs i n x y bytes is at there after e given)

@@ -12,4 +12,5 @@ pub mod FrameLists
 pub mod CallLists
 pub mod LawLemmas
 pub mod RunLemmas
+pub mod GoneLemmas
 pub mod StreamLemmas

@@ -1,6 +1,6 @@
 -- A hub: many connections over one core. What is seen of it, and what each of its calls makes of it, in the words of
 -- frames (`cut`, `spell_answer`) and of the core (`after_steps`).
-use Rattle.std.specs.Prelude.{◌≡◌, Bool, true, false, ℕ, List, [], ◌∷◌, ◌++◌, map, take, slice_get, slice_set, Option, Some, None, is_none, is_some, unwrap_or, if◌then◌else◌, MatchOption}
+use Rattle.std.specs.Prelude.{◌≡◌, ◌<◌, Bool, true, false, ℕ, List, [], ◌∷◌, ◌++◌, map, take, slice_get, slice_set, Option, Some, None, is_none, is_some, unwrap_or, if◌then◌else◌, MatchOption}
 use Rattle.std.specs.Option.{option_map}
 use Rattle.ipc_terms.specs.Lists.{changed}
 use Rattle.ipc_terms.specs.declared.ids.Sid.{Sid}
@@ -11,7 +11,7 @@ use Rattle.ipc_terms.specs.declared.record.Event.TheVariants as event
 use Rattle.ipc_terms.specs.declared.rule.Rule.TheVariants as rule
 use Rattle.ipc_access.specs.Users.{user_of_key}
 use Rattle.ipc_policy.specs.declared.config.Config.{Config}
-use Rattle.ipc_policy.specs.Sessions.{hellos}
+use Rattle.ipc_policy.specs.Sessions.{hellos, live}
 use Rattle.ipc_policy.specs.Bodies.{due}
 use Rattle.ipc_policy.specs.Verdict.{verdict, for_session, tick_answers}
 use Rattle.ipc_core.specs.Boxes.{box_at, taken}
@@ -72,6 +72,25 @@ untaken a x = if x.has_refusal then Refused rule.BadKey ∷ [] else untaken_of a
 -- what connection i was answered and has not taken; nothing, where there is none
 abbrev pub untaken_at : Hub → ℕ → List Answer
 untaken_at hub i = unwrap_or (option_map (untaken hub.core) (slice_get hub.connections i)) []
+
+-- ---- who is gone
+
+-- whether connection i is over; no, where there is none
+abbrev pub is_over_at : Hub → ℕ → Bool
+is_over_at hub i = unwrap_or (option_map (λ (x : Connection). x.is_over) (slice_get hub.connections i)) false
+
+-- the session was started, and is live no more
+pub record HasEnded (a : CoreView) (sid : Sid) : Type 0 where
+  pub started : sid.0 < hellos a.history
+  pub ended : live a.history sid.0 ≡ false
+
+-- connection i is over, nothing of it is left to be taken, and its session has ended, if there was one
+pub record IsGone (hub : Hub) (i : ℕ) : Type 0 where
+  pub connection : Connection
+  pub there : slice_get hub.connections i ≡ Some connection
+  pub over : connection.is_over ≡ true
+  pub nothing : untaken hub.core connection ≡ []
+  pub session : (sid : Sid) → connection.session ≡ Some sid → HasEnded hub.core sid
 
 -- ---- who was answered
 

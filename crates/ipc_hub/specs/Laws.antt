@@ -12,7 +12,7 @@ use Rattle.ipc_wire.specs.declared.request.Request.{Request}
 use Rattle.ipc_wire.specs.declared.request.Request.TheVariants as request
 use Rattle.ipc_wire.specs.Streams.{Cut, cut, after, still_first}
 use Rattle.ipc_hub.specs.declared.fed.Fed.{Fed}
-use Rattle.ipc_hub.specs.Hub.{Connection, Hub, new_hub, with_connection, untaken, spell_answers, Feeds, HangsUp, Takes, Names, Ticks}
+use Rattle.ipc_hub.specs.Hub.{Connection, Hub, new_hub, with_connection, untaken, spell_answers, IsGone, Feeds, HangsUp, Takes, Names, Ticks}
 
 -- where these requests of a stream were stepped and these bytes of it are kept, the stream goes on as if it had come in
 -- one piece
@@ -44,6 +44,10 @@ Makes (Ticked moment) old new = Ticks old moment new
 abbrev pub MakesAll : List Call → Hub → Hub → Type 0
 MakesAll [] old new = new ≡ old
 MakesAll (call ∷ calls) old new = (middle : Hub) × (Makes call old middle × MakesAll calls middle new)
+
+-- who is gone stays gone: a session that has ended is answered nothing more
+abbrev pub WhoIsGoneStaysGone : Type 0
+WhoIsGoneStaysGone = (calls : List Call) (old new : Hub) (i : ℕ) → MakesAll calls old new → IsGone old i → IsGone new i
 
 -- all that came of connection i's stream
 abbrev pub stream_of : ℕ → List Call → List ℕ

@@ -124,6 +124,15 @@ fn stage_after(end: End, session: Option<Sid>) -> Stage
     }
 }
 
+/// Leaves no untaken answers of the session, if there is one. Takes no memory.
+fn clear(core: &mut MarkedCore, session: Option<Sid>)
+    ensures { core.new ≡ record core.old { core = core_after_take core.old.core session } }
+{
+    if let Some(sid) = session {
+        core.clear(sid);
+    }
+}
+
 /// Puts the spellings of the session's untaken answers at the end of a buffer, and leaves none. An `Err` changes nothing,
 /// and leaves what stood in the buffer.
 fn take_answers(
@@ -142,7 +151,7 @@ fn take_answers(
         return Ok(());
     };
     put_answers(out, core.core().answers(sid))?;
-    core.clear(sid);
+    clear(core, session);
     Ok(())
 }
 
@@ -258,6 +267,19 @@ impl Connection {
                 Ok(())
             }
             Stage::Closed => take_answers(core, None, out),
+        }
+    }
+
+    /// Leaves nothing of what the connection was answered and has not taken. Takes no memory.
+    pub fn discard(&mut self, core: &mut MarkedCore)
+        ensures ok { self.new ≡ record self.old { has_refusal = false } }
+        ensures core { core.new ≡ record core.old { core = core_after_take core.old.core self.old.session } }
+    {
+        match &self.stage {
+            Stage::Open(stream) => clear(core, stream.session),
+            Stage::Ended(sid) => clear(core, Some(*sid)),
+            Stage::Refused => self.stage = Stage::Closed,
+            Stage::Closed => {}
         }
     }
 }

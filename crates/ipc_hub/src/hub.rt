@@ -5,7 +5,7 @@ ghost use Rattle.ipc_state.specs.Ranges.{first_bad};
 ghost use Rattle.ipc_policy.specs.Bodies.{due};
 ghost use Rattle.ipc_policy.specs.Verdict.{Legal};
 ghost use Rattle.ipc_core.specs.Outboxes.{BoxesAgree};
-ghost use Rattle.ipc_hub.specs.Hub.{new_hub, with_connection, untaken_at, is_marked, fault_of_change, fault_of_take, IsFaultOr, Feeds, HangsUp, Takes, Names, Ticks};
+ghost use Rattle.ipc_hub.specs.Hub.{new_hub, with_connection, untaken_at, is_over_at, is_marked, IsGone, fault_of_change, fault_of_take, IsFaultOr, Feeds, HangsUp, Takes, Names, Ticks};
 ghost use Rattle.ipc_hub.specs.Sessions.{EachHasItsOwn};
 ghost use Rattle.ipc_hub.specs.Stepping.{is_full, IsWithin};
 ghost use Rattle.ipc_hub.specs.declared.fed.Fed.TheVariants.{Full};
@@ -205,6 +205,22 @@ impl Hub {
         let mut bytes = Vec::new(alloc);
         self.take_into(conn, &mut bytes)?;
         Ok(bytes)
+    }
+
+    /// Drops all that the connection was answered and has not taken, as a take does whose bytes go nowhere; also of a
+    /// connection that is over, of which nothing is left then. Takes no memory. An `Err` changes nothing.
+    pub fn discard(&mut self, conn: Conn) -> Result<(), HubFault>
+        ensures ok { OnOk result ((bytes : List ℕ) × Takes self.old conn.0 bytes self.new) }
+        ensures gone { OnOk result (is_over_at self.old conn.0 ≡ true → IsGone self.new conn.0) }
+        ensures err { OnErr result (self.new ≡ self.old) }
+        ensures fault { IfErr result (λ fault. fault_of_take (slice_get self.old.connections conn.0) ≡ Some fault) }
+    {
+        let i = self.place_of(conn)?;
+        self.core.core().is_legal();
+        self.core.core().keeps_the_last();
+        let connection = &mut self.connections[i];
+        connection.discard(&mut self.core);
+        Ok(())
     }
 
     /// Whether the connection is over.

@@ -7,7 +7,7 @@ use Rattle.ipc_terms.proofs.Lists.{eqb_suc, slice_get_push, slice_past}
 use Rattle.ipc_hub.specs.Marking.{is_set}
 use Rattle.ipc_hub.specs.Hub.{Connection, new_connection, with_connection, Hub, Marks, Takes, Names, is_marked, untaken_at, untaken}
 use Rattle.ipc_loop.specs.Ports.{Port, new_port, open_at, with_port}
-use Rattle.ipc_loop.specs.Serving.{IsAnswered, IsOwedByMark, KeepsMarks, KeepsPortMarks, Answers}
+use Rattle.ipc_loop.specs.Serving.{IsAnswered, IsOwedByMark, KeepsMarks, KeepsPortMarks, Answers, LetsGo}
 
 abbrev pub Ports : Type 0
 Ports = ℕ → Option Port
@@ -52,11 +52,11 @@ pub keeps_so : (h h' : Hub) (p q p' q' : Ports) → ((i : ℕ) → q i ≡ p i) 
 keeps_so h h' p q p' q' before later a i owed now port e = a i (λ u r f. owed u r (before i ∙ f)) now port (sym (later i) ∙ e)
 
 -- a link that is closed is owed nothing
-pub closed_keeps : (k : ℕ) (h : Hub) (o : Ports) (p : Port) → KeepsMarks h (with_port o k (Some p)) h (with_port o k None)
-closed_keeps k h o p i before now port e = at (eqb k i) (o i) (before now) e where
-  at : (here : Bool) (x : Option Port) → ((q : Port) → cond here (Some p) x ≡ Some q → (untaken_at h i ≡ []) ⊎ (q.left ≢ Some [])) → cond here None x ≡ Some port → (untaken_at h i ≡ []) ⊎ (port.left ≢ Some [])
-  at true x f g = absurd cc
-  at false x f g = f port g
+pub closed_keeps : (k : ℕ) (h h' : Hub) (o : Ports) (p : Port) → LetsGo h k p h' → KeepsMarks h (with_port o k (Some p)) h' (with_port o k None)
+closed_keeps k h h' o p lets i before now port e = at (eqb k i) refl (o i) (before (ap (λ (flags : List Bool). is_set flags i) (sym lets.dropped.marked) ∙ now)) e where
+  at : (here : Bool) → eqb k i ≡ here → (x : Option Port) → ((q : Port) → cond here (Some p) x ≡ Some q → (untaken_at h i ≡ []) ⊎ (q.left ≢ Some [])) → cond here None x ≡ Some port → (untaken_at h' i ≡ []) ⊎ (port.left ≢ Some [])
+  at true is x f g = absurd cc
+  at false is x f g = still _ _ port.left port.left (lets.others i is) refl (f port g)
 
 pub both_keep : (h₀ h₁ h₂ : Hub) (p₀ p₁ p₂ : Ports) → KeepsMarks h₀ p₀ h₁ p₁ → KeepsMarks h₁ p₁ h₂ p₂ → KeepsMarks h₀ p₀ h₂ p₂
 both_keep h₀ h₁ h₂ p₀ p₁ p₂ a b i owed = b i (a i owed)

@@ -11,6 +11,11 @@ pub passes_end : (x : Option (List ℕ)) → PassesOn x [] [] None
 passes_end None = (refl, refl)
 passes_end (Some left) = (left, append-nil left)
 
+-- nothing passes any more
+pub passes_away : (x : Option (List ℕ)) (bytes : List ℕ) → PassesOn x bytes [] None
+passes_away None bytes = (refl, refl)
+passes_away (Some left) bytes = (left ++ bytes, refl)
+
 -- what was left is written as far as the link takes it
 pub passes_part : (left : List ℕ) (n : ℕ) → PassesOn (Some left) [] (take n left) (Some (drop n left))
 passes_part left n = append-nil left ∙ sym (take-append-drop n left)

@@ -2,7 +2,9 @@
 use Rattle.std.proofs.Common.{◌≡◌, ℕ, zero, suc, ◌<◌, ◌≤◌, length, arith, Bool, true, false, ◌||◌, eqb, cond, List, [], ◌∷◌, ◌++◌, take, Option, Some, None, refl, sym, ap, subst, ◌∙◌}
 use Rattle.std.specs.Prelude.{is_none, is_some, Result, Ok, Err, IfOk, OnOk, OnErr}
 use Rattle.std.proofs.lemmas.List.{append-nil, length_push}
-use Rattle.ipc_hub.specs.Hub.{Hub, with_connection, Feeds, HangsUp, Takes, Names, Ticks}
+use Rattle.ipc_hub.specs.Hub.{Hub, with_connection, IsGone, Feeds, HangsUp, Takes, Names, Ticks}
+use Rattle.ipc_hub.proofs.GoneLemmas.{stays_gone}
+use Rattle.std.proofs.lemmas.Bool.{eqb-true}
 use Rattle.ipc_hub.specs.Laws.{Call, Opened, TookPiece, HungUp, Gave, Named, Ticked, Makes, MakesAll, stream_of, output_of}
 use Rattle.ipc_loop.specs.declared.ending.Ending.{Ending}
 use Rattle.ipc_hub.specs.declared.fed.Fed.{Fed}
@@ -10,10 +12,10 @@ use Rattle.ipc_hub.specs.declared.fed.Fed.TheVariants.{Done, Short, Full, Over}
 use Rattle.ipc_hub.specs.declared.fed.HubFault.{HubFault}
 use Rattle.ipc_loop.specs.Moves.{Moved, LinkOpened, LinkGave, GoOn, Adds, read_of, written_of, comes_to_its_end, opened_in}
 use Rattle.ipc_loop.specs.Ports.{Port, port_at, with_port, left_of, unfed_of}
-use Rattle.ipc_loop.specs.Serving.{PassesOn, ServesOpening, Serves, ServesPort, Writes, FeedsPort, KeepsPortMarks, ends_at_a_feed, ends_connection}
+use Rattle.ipc_loop.specs.Serving.{PassesOn, ServesOpening, Serves, ServesPort, Writes, FeedsPort, KeepsPortMarks, LetsGo, ends_at_a_feed, ends_connection}
 use Rattle.ipc_loop.proofs.MoveLemmas.{stream_both, output_both, read_both, written_both, end_both, over_both, opened_both, go_both, go_nowhere, makes_both, adds_nothing, adds_read, is_end, same_here, bytes_here}
 use Rattle.ipc_loop.proofs.OwingLemmas.{marks_keep, same_keep}
-use Rattle.ipc_loop.proofs.PassingLemmas.{passes_nothing, passes_end, passes_whole, passes_dropped, passes_both, passes_stop}
+use Rattle.ipc_loop.proofs.PassingLemmas.{passes_nothing, passes_end, passes_away, passes_whole, passes_dropped, passes_both, passes_stop}
 
 abbrev pub Ports : Type 0
 Ports = ℕ → Option Port
@@ -39,6 +41,7 @@ opening_both n₀ n₁ h₀ h₁ h₂ m₀ m₁ m₂ p₀ p₁ p₂ a b = record
   unread = λ i e. read_both i a.moved b.moved ∙ ap (λ (t : List ℕ). t ++ read_of i b.moved) (a.unread i e) ∙ b.unread i (passes_stop (unfed_of (p₀ i)) (unfed_of (p₁ i)) _ _ (a.read i) e);
   ended = λ i e. either i (comes_to_its_end i a.moved) refl (sym (end_both i a.moved b.moved) ∙ e);
   over = λ i e. fault i (ends_at_a_feed i a.calls) refl (sym (over_both i a.calls b.calls) ∙ e);
+  closed = λ i left. b.closed i (a.closed i left);
 } where
   either : (i : ℕ) (x : Bool) → comes_to_its_end i a.moved ≡ x → (x || comes_to_its_end i b.moved) ≡ true → unfed_of (p₂ i) ≡ None
   either i true f e = passes_stop (unfed_of (p₁ i)) (unfed_of (p₂ i)) _ _ (b.read i) (a.ended i f)
@@ -64,6 +67,7 @@ opening_so n h h' m m' p q p' q' before later a = record {
   unread = λ i e. a.unread i (ap unfed_of (sym (before i)) ∙ e);
   ended = λ i e. ap unfed_of (later i) ∙ a.ended i e;
   over = λ i e. ap unfed_of (later i) ∙ a.over i e;
+  closed = λ i left none. a.closed i (λ e. left (before i ∙ e)) (sym (later i) ∙ none);
 }
 
 pub serves_so : (h h' : Hub) (m m' : Moves) (p q p' q' : Ports) → ((i : ℕ) → q i ≡ p i) → ((i : ℕ) → q' i ≡ p' i) → Serves h m p h' m' p' → Serves h m q h' m' q'
@@ -95,7 +99,12 @@ serve_port k h h' m m' p p' calls gave fed out took ended over made adds stream 
   unread = λ i e. adds.read i ∙ unread_at (eqb k i) (others i) e;
   ended = λ i e. ended_at (eqb k i) (others i) (sym (adds.end i) ∙ e);
   over = λ i e. over_at (eqb k i) (others i) (sym (ends i) ∙ e);
+  closed = λ i left. closed_at i (eqb k i) (others i) left;
 } where
+  closed_at : (i : ℕ) (here : Bool) (o : Option Port) → (cond here (Some p) o ≡ None → IsGone h i) → cond here (Some p') o ≡ None → IsGone h' i
+  closed_at i true o left none = absurd cc
+  closed_at i false o left none = stays_gone calls h h' i made (left none)
+
   read_at : (here : Bool) (o : Option Port) (x s : List ℕ) → x ≡ cond here gave [] → s ≡ cond here fed [] → PassesOn (unfed_of (cond here (Some p) o)) x s (unfed_of (cond here (Some p') o))
   read_at true o x s e f = subst (λ (t : List ℕ). PassesOn (unfed_of (Some p)) t s (unfed_of (Some p'))) (sym e) (subst (λ (t : List ℕ). PassesOn (unfed_of (Some p)) gave t (unfed_of (Some p'))) (sym f) passes)
   read_at false o x s e f = subst (λ (t : List ℕ). PassesOn (unfed_of o) t s (unfed_of o)) (sym e) (subst (λ (t : List ℕ). PassesOn (unfed_of o) [] t (unfed_of o)) (sym f) (passes_nothing (unfed_of o)))
@@ -250,6 +259,7 @@ call_serves call h h' m p made stream output goes_on = record {
   unread = λ i e. refl;
   ended = λ i e. absurd cc;
   over = λ i e. let wrong : false ≡ true = sym (goes_on i) ∙ e in absurd cc;
+  closed = λ i left none. stays_gone (call ∷ []) h h' i (h', (made, refl)) (left none);
 }
 
 -- nothing was done, and links did nothing
@@ -265,6 +275,7 @@ went_nowhere h m m' p went = record {
   unread = λ i e. refl;
   ended = λ i e. absurd cc;
   over = λ i e. absurd cc;
+  closed = λ i left. left;
 }
 
 pub served_nothing : (h : Hub) (m : Moves) (p : Ports) → Serves h m p h m p
@@ -292,14 +303,15 @@ link_opened k h m m' p went = record {
   unread = λ i e. refl;
   ended = λ i e. absurd cc;
   over = λ i e. absurd cc;
+  closed = λ i left. left;
 }
 
--- link k is closed
-pub closed_serves : (k : ℕ) (h : Hub) (m : Moves) (o : Ports) (p : Port) → Serves h m (with_port o k (Some p)) h m (with_port o k None)
-closed_serves k h m o p = record {
-  calls = [];
+-- link k is closed, and what its connection gave is dropped
+pub closed_serves : (k : ℕ) (h h' : Hub) (m : Moves) (o : Ports) (p : Port) → LetsGo h k p h' → Serves h m (with_port o k (Some p)) h' m (with_port o k None)
+closed_serves k h h' m o p lets = record {
+  calls = Gave k lets.bytes ∷ [];
   moved = [];
-  made = refl;
+  made = (h', (lets.dropped, refl));
   went = go_nowhere m;
   opens = refl;
   read = λ i. read_at (eqb k i) (o i);
@@ -307,14 +319,19 @@ closed_serves k h m o p = record {
   unread = λ i e. refl;
   ended = λ i e. absurd cc;
   over = λ i e. absurd cc;
+  closed = λ i left. closed_at i (eqb k i) refl (o i) left;
 } where
   read_at : (here : Bool) (x : Option Port) → PassesOn (unfed_of (cond here (Some p) x)) [] [] (unfed_of (cond here None x))
   read_at true x = passes_end (unfed_of (Some p))
   read_at false x = passes_nothing (unfed_of x)
 
-  written_at : (here : Bool) (x : Option Port) → PassesOn (left_of (cond here (Some p) x)) [] [] (left_of (cond here None x))
-  written_at true x = passes_end p.left
+  written_at : (here : Bool) (x : Option Port) → PassesOn (left_of (cond here (Some p) x)) (cond here (lets.bytes ++ []) []) [] (left_of (cond here None x))
+  written_at true x = passes_away p.left (lets.bytes ++ [])
   written_at false x = passes_nothing (left_of x)
+
+  closed_at : (i : ℕ) (here : Bool) → eqb k i ≡ here → (x : Option Port) → (cond here (Some p) x ≡ None → IsGone h i) → cond here None x ≡ None → IsGone h' i
+  closed_at i true is x left none = subst (λ (j : ℕ). IsGone h' j) (eqb-true k i is) lets.gone
+  closed_at i false is x left none = stays_gone (Gave k lets.bytes ∷ []) h h' i (h', (lets.dropped, refl)) (left none)
 
 -- the same moves, told in another way
 pub moved_so : (h h' : Hub) (m m' n n' : Moves) (p p' : Ports) → m ≡ n → n' ≡ m' → Serves h m p h' m' p' → Serves h n p h' n' p'

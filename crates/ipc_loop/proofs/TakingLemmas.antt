@@ -1,21 +1,18 @@
 -- What taking a connection's answers leaves of the others'.
-use Rattle.std.proofs.Common.{◌≡◌, ◌⊎◌, inl, ℕ, Bool, true, false, eqb, cond, List, [], set, slice_get, Option, Some, None, refl, sym, ap, subst, ◌∙◌}
+use Rattle.std.proofs.Common.{◌≡◌, ◌⊎◌, inl, ℕ, Bool, true, false, ◌&&◌, eqb, cond, List, [], set, slice_get, Option, Some, None, refl, sym, ap, subst, ◌∙◌}
 use Rattle.std.specs.Prelude.{unwrap_or}
 use Rattle.std.specs.Option.{option_map}
 use Rattle.std.proofs.lemmas.Bool.{eqb-true, eq-eqb}
 use Rattle.ipc_terms.specs.declared.ids.Sid.{Sid}
 use Rattle.ipc_terms.specs.declared.call.Answer.{Answer}
 use Rattle.ipc_core.specs.CoreView.{CoreView}
-use Rattle.ipc_core.proofs.BoxSteps.{taken_here, taken_elsewhere}
-use Rattle.ipc_hub.specs.Hub.{Connection, Hub, Takes, core_after_take, untaken_of, untaken, untaken_at}
+use Rattle.ipc_core.proofs.BoxSteps.{taken_elsewhere}
+use Rattle.ipc_hub.specs.Hub.{Connection, Hub, IsGone, Takes, core_after_take, untaken_of, untaken, untaken_at, is_over_at}
 use Rattle.ipc_hub.specs.Sessions.{EachHasItsOwn}
+use Rattle.ipc_hub.proofs.GoneLemmas.{none_left}
 use Rattle.ipc_loop.specs.Ports.{Port}
-use Rattle.ipc_loop.specs.Serving.{Answers}
+use Rattle.ipc_loop.specs.Serving.{Answers, LetsGo, is_done}
 use Rattle.ipc_loop.proofs.PortLemmas.{get_set}
-
-none_left : (a : CoreView) (s : Option Sid) → untaken_of (core_after_take a s) s ≡ []
-none_left a None = refl
-none_left a (Some sid) = taken_here a.untaken sid.0
 
 -- what another session was answered stays
 left_elsewhere : (a : CoreView) (s t : Option Sid) → ((sid : Sid) → s ≡ Some sid → t ≡ Some sid → ⊥) → untaken_of (core_after_take a s) t ≡ untaken_of a t
@@ -50,3 +47,13 @@ takes_answers h h' k bytes port sound takes = record { answered = inl own; other
     at : (s : Option Connection) → slice_get h.connections i ≡ s → unwrap_or (option_map (untaken h'.core) s) [] ≡ unwrap_or (option_map (untaken h.core) s) []
     at None e = refl
     at (Some z) e = stays i other z e _ z.has_refusal
+
+-- a link that is done is let go
+in_front : (a b : Bool) → (a && b) ≡ true → a ≡ true
+in_front true b e = refl
+in_front false b e = absurd cc
+
+pub lets_go : (h h' : Hub) (k : ℕ) (p q : Port) → true ≡ is_done h k q → q ≡ p → EachHasItsOwn h.core h.connections → (bytes : List ℕ) × Takes h k bytes h' → (is_over_at h k ≡ true → IsGone h' k) → LetsGo h k p h'
+lets_go h h' k p q done is sound takes gone =
+    let now : is_done h k p ≡ true = subst (λ (x : Port). is_done h k x ≡ true) is (sym done) in
+    record { done = now; bytes = takes.0; dropped = takes.1; gone = gone (in_front (is_over_at h k) _ now); others = (takes_answers h h' k takes.0 p sound takes.1).others }

@@ -1,7 +1,7 @@
 -- What is seen of a server: its hub, the ports of all links that it accepted by their numbers, none where a link is closed, who
 -- gets a turn in the next round, and how many links it opens.
-use Rattle.std.specs.Prelude.{Bool, ◌&&◌, ◌==◌, ℕ, List, length, Option}
-use Rattle.ipc_hub.specs.Hub.{Hub}
+use Rattle.std.specs.Prelude.{◌≡◌, Bool, ◌&&◌, ◌==◌, ℕ, List, length, slice_get, Option, Some, None}
+use Rattle.ipc_hub.specs.Hub.{Hub, IsGone}
 use Rattle.ipc_loop.specs.Ports.{Port, how_many_open}
 use Rattle.ipc_loop.specs.Bounds.{are_all}
 use Rattle.ipc_loop.specs.declared.accepting.Bounds.{Bounds}
@@ -15,3 +15,7 @@ pub record Server : Type 0 where
 -- whether as many links were accepted as are to be, and none is open
 abbrev pub is_over : Server → Bool
 is_over server = are_all server.bounds.stop_after (length server.ports) && (how_many_open server.ports == 0)
+
+-- each link that is closed left nothing
+abbrev pub EachClosedIsGone : Hub → List (Option Port) → Type 0
+EachClosedIsGone hub ports = (i : ℕ) → slice_get ports i ≡ Some None → IsGone hub i

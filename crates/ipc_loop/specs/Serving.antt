@@ -1,6 +1,7 @@
 -- What serving makes of a hub, of links and of their ports.
-use Rattle.std.specs.Prelude.{◌≡◌, ◌≢◌, ◌⊎◌, ◌==◌, ◌+◌, ◌-◌, length, if◌then◌else◌, Bool, true, false, ℕ, zero, suc, List, [], ◌∷◌, ◌++◌, Option, Some, None}
-use Rattle.ipc_hub.specs.Hub.{Hub, is_marked, untaken_at}
+use Rattle.std.specs.Prelude.{◌≡◌, ◌≢◌, ◌⊎◌, ◌==◌, ◌&&◌, ◌+◌, ◌-◌, length, if◌then◌else◌, Bool, true, false, ℕ, zero, suc, List, [], ◌∷◌, ◌++◌, Option, Some, None}
+use Rattle.ipc_terms.specs.declared.call.Answer.{Answer}
+use Rattle.ipc_hub.specs.Hub.{Hub, Takes, IsGone, is_marked, is_over_at, untaken_at}
 use Rattle.ipc_hub.specs.Laws.{Call, TookPiece, MakesAll, stream_of, output_of}
 use Rattle.ipc_hub.specs.declared.fed.Fed.{Fed}
 use Rattle.ipc_hub.specs.declared.fed.Fed.TheVariants.{Over}
@@ -20,9 +21,13 @@ ends_at_a_feed i [] = false
 ends_at_a_feed i (TookPiece j piece (Over end) ∷ calls) = if j == i then true else ends_at_a_feed i calls
 ends_at_a_feed i (call ∷ calls) = ends_at_a_feed i calls
 
+-- link i, if it is closed, left nothing: its connection is over, nothing of it is untaken, and its session has ended
+abbrev pub LeavesNothing : Hub → (ℕ → Option Port) → ℕ → Type 0
+LeavesNothing hub ports i = ports i ≡ None → IsGone hub i
+
 -- from one moment to another: these links were opened, what each gave passed on to the hub, and what the hub gave passed on
 -- to the link. Nothing else happened to the hub or to links. A link that is not read any more gave nothing, and one whose stream ended,
--- is at fault or began with a hello that was refused is not read any more
+-- is at fault or began with a hello that was refused is not read any more. A link that is closed leaves nothing
 pub record ServesOpening (opened : List ℕ) (hub : Hub) (moves : Option (List Moved)) (ports : ℕ → Option Port) (hub' : Hub) (moves' : Option (List Moved)) (ports' : ℕ → Option Port) : Type 0 where
   pub calls : List Call
   pub moved : List Moved
@@ -34,6 +39,7 @@ pub record ServesOpening (opened : List ℕ) (hub : Hub) (moves : Option (List M
   pub unread : (i : ℕ) → unfed_of (ports i) ≡ None → read_of i moved ≡ []
   pub ended : (i : ℕ) → comes_to_its_end i moved ≡ true → unfed_of (ports' i) ≡ None
   pub over : (i : ℕ) → ends_at_a_feed i calls ≡ true → unfed_of (ports' i) ≡ None
+  pub closed : (i : ℕ) → LeavesNothing hub ports i → LeavesNothing hub' ports' i
 
 -- the same, where no link is opened
 abbrev pub Serves : Hub → Option (List Moved) → (ℕ → Option Port) → Hub → Option (List Moved) → (ℕ → Option Port) → Type 0
@@ -100,6 +106,25 @@ pub record Answers (k : ℕ) (hub : Hub) (hub' : Hub) (port' : Port) : Type 0 wh
   pub answered : (untaken_at hub' k ≡ []) ⊎ (port'.left ≢ Some [])
   pub others : (i : ℕ) → (k == i) ≡ false → untaken_at hub' i ≡ untaken_at hub i
   pub marks : hub'.marked ≡ hub.marked
+
+-- whether nothing of a connection is still to be written: it was answered no more, and all before is written, or its link takes
+-- nothing any more
+abbrev pub has_no_more : List Answer → Option (List ℕ) → Bool
+has_no_more untaken None = true
+has_no_more untaken (Some []) = length untaken == 0
+has_no_more untaken (Some (byte ∷ bytes)) = false
+
+-- whether nothing is left to do for link i but to close it: its connection is over, and nothing is still to be written
+abbrev pub is_done : Hub → ℕ → Port → Bool
+is_done hub i port = is_over_at hub i && has_no_more (untaken_at hub i) port.left
+
+-- link k is done, and what its connection still had is dropped: it is gone, and all others are as they were
+pub record LetsGo (hub : Hub) (k : ℕ) (port : Port) (hub' : Hub) : Type 0 where
+  pub done : is_done hub k port ≡ true
+  pub bytes : List ℕ
+  pub dropped : Takes hub k bytes hub'
+  pub gone : IsGone hub' k
+  pub others : (i : ℕ) → (k == i) ≡ false → untaken_at hub' i ≡ untaken_at hub i
 
 -- whether the connection is over where a piece is fed so
 abbrev pub ends_connection : Fed → Bool

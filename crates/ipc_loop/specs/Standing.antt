@@ -1,16 +1,17 @@
 -- The ports of a loop, and who gets a turn.
-use Rattle.std.specs.Prelude.{◌≡◌, ◌==◌, ◌⊎◌, true, false, Bool, ◌||◌, ℕ, List, [], map, slice_get, slice_set, Option, Some, None}
+use Rattle.std.specs.Prelude.{◌≡◌, ◌==◌, ◌⊎◌, ◌+◌, ◌<◌, ◌≤◌, true, false, Bool, ◌||◌, ℕ, List, [], ◌∷◌, length, map, slice_get, slice_set, Option, Some, None, if◌then◌else◌}
 use Rattle.std.specs.Global.{Box}
 use Rattle.std.specs.Option.{option_map}
 use Rattle.ipc_hub.specs.Marking.{is_set}
 use Rattle.ipc_hub.specs.Hub.{Hub}
-use Rattle.ipc_loop.specs.Ports.{Port, open_at, has_work, stands_in, how_many_open}
+use Rattle.ipc_loop.specs.Ports.{Port, open_at, port_at, has_work, stands_in, how_many_open}
 use Rattle.ipc_loop.specs.Bounds.{IsWithin}
 use Rattle.ipc_loop.specs.declared.accepting.Bounds.{Bounds}
-use Rattle.ipc_loop.specs.Serving.{IsOwedByMark}
+use Rattle.ipc_loop.specs.Serving.{IsOwedByMark, LeavesNothing, LetsGo}
 
 -- the ports by their numbers, none where a link is closed; whether each number is queued; the numbers that get a turn in
--- this round and in the next; and for how many more ports and flags there is room
+-- this round and in the next; for how many more ports and flags there is room; and for how many numbers each of
+-- the two lists has room
 pub record Ports : Type 0 where
   pub all : List (Option Port)
   pub queued : List Bool
@@ -18,6 +19,8 @@ pub record Ports : Type 0 where
   pub next : List ℕ
   pub room : ℕ
   pub room_of_flags : ℕ
+  pub most_turns : ℕ
+  pub most_next : ℕ
 
 -- the ports in their slots
 abbrev pub seen : List (Option (Box Port)) → List (Option Port)
@@ -28,25 +31,52 @@ pub record EachIsQueued (ports : List (Option Port)) (queued : List Bool) (turns
   pub working : (i : ℕ) (port : Port) → slice_get ports i ≡ Some (Some port) → has_work port ≡ true → is_set queued i ≡ true
   pub listed : (i : ℕ) → is_set queued i ≡ true → (stands_in i turns || stands_in i next) ≡ true
 
--- what always holds of ports: each that has work is queued, and those in their slots are counted
-pub record AreKept (ports : List (Option Port)) (queued : List Bool) (turns next : List ℕ) (counted : ℕ) : Type 0 where
+-- how many ports in their slots aren't queued
+abbrev pub how_many_idle : List (Option Port) → List Bool → ℕ
+how_many_idle [] queued = 0
+how_many_idle (None ∷ ports) [] = how_many_idle ports []
+how_many_idle (None ∷ ports) (flag ∷ queued) = how_many_idle ports queued
+how_many_idle (Some port ∷ ports) [] = how_many_idle ports [] + 1
+how_many_idle (Some port ∷ ports) (flag ∷ queued) = if flag then how_many_idle ports queued else how_many_idle ports queued + 1
+
+-- how many numbers may come to stand in one list: those that are listed, and those of ports that aren't queued
+abbrev pub may_be_listed : List (Option Port) → List Bool → List ℕ → List ℕ → ℕ
+may_be_listed ports queued turns next = how_many_idle ports queued + length turns + length next
+
+-- what always holds of ports: each has its flag, each that has work is queued, those in their slots are counted, and the
+-- lists have room for the numbers that may come into them
+pub record AreKept (ports : List (Option Port)) (queued : List Bool) (turns next : List ℕ) (counted most_turns most_next : ℕ) : Type 0 where
+  pub flags : length queued ≡ length ports
   pub each : EachIsQueued ports queued turns next
   pub count : counted ≡ how_many_open ports
+  pub room_of_turns : may_be_listed ports queued turns next ≤ most_turns
+  pub room_of_next : may_be_listed ports queued turns next ≤ most_next
+
+-- one more port may come
+pub record HasRoomForOne (ports : Ports) : Type 0 where
+  pub of_turns : may_be_listed ports.all ports.queued ports.turns ports.next < ports.most_turns
+  pub of_next : may_be_listed ports.all ports.queued ports.turns ports.next < ports.most_next
+
+-- the port of number k may be put back: it is queued, or there is room
+abbrev pub CanBePut : Ports → ℕ → Type 0
+CanBePut ports k = is_set ports.queued k ≡ false → HasRoomForOne ports
 
 -- the port of this number is taken out, to be put back
 pub record TakesOut (old : List (Option Port)) (number : ℕ) (port : Port) (new : List (Option Port)) : Type 0 where
   pub there : slice_get old number ≡ Some (Some port)
   pub rest : new ≡ slice_set old number None
 
--- the port that was taken out is put back; or its link is closed, and its place stays empty
-abbrev pub IsSettled : List (Option Port) → ℕ → Port → List (Option Port) → Type 0
-IsSettled old number port new = (new ≡ slice_set old number (Some port)) ⊎ (new ≡ old)
+-- the port that was taken out is put back; or its link is closed, its place stays empty, and its connection is let go
+abbrev pub IsSettled : Hub → List (Option Port) → ℕ → Port → Hub → List (Option Port) → Type 0
+IsSettled hub old number port hub' new = ((hub' ≡ hub) × (new ≡ slice_set old number (Some port))) ⊎ (LetsGo hub number port hub' × (new ≡ old))
 
--- between two rounds: nobody has a turn in this one, who is owed answers is marked, and no more links are open than may be
+-- between two rounds: nobody has a turn in this one, who is owed answers is marked, no more links are open than may be, and who
+-- is closed left nothing
 pub record IsResting (hub : Hub) (ports : Ports) (bounds : Bounds) : Type 0 where
   pub turns : ports.turns ≡ []
   pub marked : (i : ℕ) → IsOwedByMark hub (open_at ports.all) i
   pub within : IsWithin bounds ports.all
+  pub closed : (i : ℕ) → LeavesNothing hub (port_at ports.all) i
 
 -- link k's slot has no port now, and each other has what it had
 pub record IsOut (old : List (Option Port)) (k : ℕ) (new : List (Option Port)) : Type 0 where

@@ -6,6 +6,7 @@ ghost use Rattle.ipc_loop.specs.Moves.{Moved};
 ghost use Rattle.ipc_loop.specs.Ports.{Port, new_port, open_at, Continues};
 ghost use Rattle.ipc_loop.specs.Bounds.{are_all, IsWithin, HasRoom, AddsAtMostOne};
 ghost use Rattle.ipc_loop.specs.Serving.{Serves, ServesAndOpens, KeepsMarks};
+ghost use Rattle.ipc_loop.specs.Standing.{HasRoomForOne};
 
 use crate::links::Host;
 use crate::port::Port;
@@ -59,6 +60,7 @@ fn prepare(hub: &mut Hub, ports: &mut Ports, alloc: Global) -> Result<Box<Port>,
     ensures untaken { OnOk result (untaken_at hub.new (length ports.new.all) ≡ []) }
     ensures room { OnOk result (0 < ports.new.room) }
     ensures flags { OnOk result (0 < ports.new.room_of_flags) }
+    ensures lists { OnOk result (HasRoomForOne ports.new) }
     ensures serves { (moves : Option (List Moved)) (all : ℕ → Option Port) → Serves hub.old moves all hub.new moves all }
     ensures marks { (all : ℕ → Option Port) → KeepsMarks hub.old all hub.new all }
     ensures all { ports.new.all ≡ ports.old.all }

@@ -1,9 +1,9 @@
 //! The ports of all links, and who gets a turn.
 
-ghost use Rattle.std.specs.Prelude.{◌≡◌, ◌<◌, [], ◌∷◌, ◌++◌, true, false, None, Some, length, slice_get, slice_set, IfOk, IfSome, IfNone, OnOk, OnSome};
+ghost use Rattle.std.specs.Prelude.{◌≡◌, ◌<◌, [], ◌∷◌, ◌++◌, true, None, Some, length, slice_get, slice_set, IfOk, IfSome, IfNone, OnOk, OnSome};
 ghost use Rattle.ipc_hub.specs.Marking.{is_set};
 ghost use Rattle.ipc_loop.specs.Ports.{new_port, how_many_open};
-ghost use Rattle.ipc_loop.specs.Standing.{EachIsQueued, TakesOut, IsOut, IsUnset, seen};
+ghost use Rattle.ipc_loop.specs.Standing.{EachIsQueued, TakesOut, IsOut, IsUnset, CanBePut, HasRoomForOne, seen};
 
 use crate::port::Port;
 use ipc_terms::NoMemory;
@@ -29,9 +29,9 @@ impl Model for Ports {
 
     ghost Value = { Ports };
 
-    ghost view = { λ p. record { all = seen p.all.items; queued = p.queued.items; turns = p.turns.items; next = p.next.items; room = vec_capacity p.all - vec_len p.all; room_of_flags = vec_capacity p.queued - vec_len p.queued } };
+    ghost view = { λ p. record { all = seen p.all.items; queued = p.queued.items; turns = p.turns.items; next = p.next.items; room = vec_capacity p.all - vec_len p.all; room_of_flags = vec_capacity p.queued - vec_len p.queued; most_turns = vec_capacity p.turns; most_next = vec_capacity p.next } };
 
-    ghost invariant = { λ p. AreKept (seen p.all.items) p.queued.items p.turns.items p.next.items p.open };
+    ghost invariant = { λ p. AreKept (seen p.all.items) p.queued.items p.turns.items p.next.items p.open (vec_capacity p.turns) (vec_capacity p.next) };
 }
 
 /// Takes the port out of the slot of this number, and counts it.
@@ -40,6 +40,7 @@ fn take_out(all: &mut Vec<Option<Box<Port>>>, open: &mut usize, number: u64) -> 
     ensures port { IfSome result (λ port. TakesOut (seen all.old.items) number port.value (seen all.new.items)) }
     ensures none { IfNone result (seen all.new.items ≡ seen all.old.items) }
     ensures out { IsOut (seen all.old.items) number (seen all.new.items) }
+    ensures long { length (seen all.new.items) ≡ length (seen all.old.items) }
     ensures count { open.new ≡ how_many_open (seen all.new.items) }
 {
     let i = number as usize;
@@ -53,7 +54,8 @@ fn take_out(all: &mut Vec<Option<Box<Port>>>, open: &mut usize, number: u64) -> 
 
 /// Clears the flag of this number.
 fn unqueue(queued: &mut Vec<bool>, number: u64)
-    ensures { IsUnset queued.old.items number queued.new.items }
+    ensures unset { IsUnset queued.old.items number queued.new.items }
+    ensures long { length queued.new.items ≡ length queued.old.items }
 {
     let i = number as usize;
     if i < queued.len() {
@@ -106,17 +108,22 @@ impl Ports {
         self.all.len()
     }
 
-    /// A new port, and room for it. An `Err` changes no port.
+    /// A new port, and room for it, and for its number in the lists of who gets a turn. An `Err` changes no port.
     pub fn prepare(&mut self) -> Result<Box<Port>, NoMemory>
         ensures port { IfOk result (λ port. port.value ≡ new_port) }
         ensures room { OnOk result (0 < self.new.room) }
         ensures flags { OnOk result (0 < self.new.room_of_flags) }
+        ensures lists { OnOk result (HasRoomForOne self.new) }
         ensures all { self.new.all ≡ self.old.all }
         ensures turns { self.new.turns ≡ self.old.turns }
     {
         let port = Box::new(self.alloc, Port::new(self.alloc))?;
         self.all.reserve(1)?;
         self.queued.reserve(1)?;
+        // For those that are open, this one, and those that are listed already: more may not come into a list.
+        let open = self.open + 1;
+        self.turns.reserve(open + self.next.len())?;
+        self.next.reserve(open + self.turns.len())?;
         Ok(port)
     }
 
@@ -124,6 +131,7 @@ impl Ports {
     pub fn push(&mut self, port: Box<Port>)
         requires room { 0 < self.old.room }
         requires flags { 0 < self.old.room_of_flags }
+        requires lists { HasRoomForOne self.old }
         requires new { port.value ≡ new_port }
         ensures all { self.new.all ≡ self.old.all ++ Some new_port ∷ [] }
         ensures turns { self.new.turns ≡ self.old.turns }
@@ -145,6 +153,7 @@ impl Ports {
     /// Takes the port of this number out.
     pub fn take(&mut self, number: u64) -> Option<Box<Port>>
         ensures port { IfSome result (λ port. TakesOut self.old.all number port.value self.new.all) }
+        ensures back { OnSome result (CanBePut self.new number) }
         ensures none { IfNone result (self.new.all ≡ self.old.all) }
         ensures out { IsOut self.old.all number self.new.all }
         ensures turns { self.new.turns ≡ self.old.turns }
@@ -153,50 +162,40 @@ impl Ports {
         take_out(&mut self.all, &mut self.open, number)
     }
 
-    /// Puts the port back that was taken out, and queues it for the next round if it has work. `false` where there is no
-    /// memory for that: then the port is gone.
-    pub fn put(&mut self, number: u64, port: Box<Port>) -> bool
-        requires within { number < length self.old.all }
+    /// Puts the port back that was taken out, and queues it for the next round if it has work. Takes no memory.
+    pub fn put(&mut self, number: u64, port: Box<Port>)
         requires out { slice_get self.old.all number ≡ Some None }
-        ensures kept { result ≡ true → self.new.all ≡ slice_set self.old.all number (Some port.value) }
-        ensures gone { result ≡ false → self.new.all ≡ self.old.all }
+        requires back { CanBePut self.old number }
+        ensures kept { self.new.all ≡ slice_set self.old.all number (Some port.value) }
         ensures turns { self.new.turns ≡ self.old.turns }
     {
         let has_work = port.has_work();
-        if !self.queue(number, has_work) {
-            return false;
-        }
+        self.queue(number, has_work);
         self.all[number as usize] = Some(port);
         self.open += 1;
-        true
     }
 
-    /// Queues the number for the next round, if it has work and isn't queued. `false` where there is no memory for that.
-    fn queue(&mut self, number: u64, has_work: bool) -> bool
-        ensures queued { result ≡ true → has_work ≡ true → is_set self.new.queued number ≡ true }
+    /// Queues the number of a port that is taken out for the next round, if it has work and isn't queued.
+    fn queue(&mut self, number: u64, has_work: bool)
+        requires out { slice_get self.old.all number ≡ Some None }
+        requires back { CanBePut self.old number }
+        ensures queued { has_work ≡ true → is_set self.new.queued number ≡ true }
+        ensures back { CanBePut self.new number }
         ensures all { self.new.all ≡ self.old.all }
         ensures turns { self.new.turns ≡ self.old.turns }
     {
-        if !has_work {
-            return true;
-        }
         let i = number as usize;
-        if i >= self.queued.len() {
-            return false;
+        if !has_work || self.queued[i] {
+            return;
         }
-        if self.queued[i] {
-            return true;
-        }
-        let Ok(()) = self.next.push(number) else {
-            return false;
-        };
         self.queued[i] = true;
-        true
+        self.next.push_reserved(number);
     }
 
     /// Takes out the next port that gets a turn in this round: its number, and the port if the link isn't closed.
     pub fn next_turn(&mut self) -> Option<(u64, Option<Box<Port>>)>
         ensures port { IfSome result (λ turn. IfSome turn.1 (λ port. TakesOut self.old.all turn.0 port.value self.new.all)) }
+        ensures back { IfSome result (λ turn. OnSome turn.1 (CanBePut self.new turn.0)) }
         ensures closed { IfSome result (λ turn. IfNone turn.1 (self.new.all ≡ self.old.all)) }
         ensures less { OnSome result (length self.new.turns < length self.old.turns) }
         ensures none { IfNone result (self.new.all ≡ self.old.all) }

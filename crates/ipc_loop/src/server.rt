@@ -5,7 +5,7 @@ ghost use Rattle.ipc_state.specs.Ranges.{first_bad};
 ghost use Rattle.ipc_hub.specs.Hub.{new_hub};
 ghost use Rattle.ipc_loop.specs.Ports.{open_at, NobodyIsForgotten, Continues};
 ghost use Rattle.ipc_loop.specs.Bounds.{IsWithin};
-ghost use Rattle.ipc_loop.specs.Server.{is_over};
+ghost use Rattle.ipc_loop.specs.Server.{is_over, EachClosedIsGone};
 ghost use Rattle.ipc_loop.specs.Serving.{ServesAndOpens, NobodyIsOwed};
 
 use crate::accepting::{Accepting, Bounds};
@@ -105,6 +105,14 @@ impl Server {
         self.ports.are_queued();
     }
 
+    /// A link that was closed left nothing: its connection is over, nothing of it is untaken, and its session has ended. Does
+    /// nothing; a fact of every server.
+    pub fn leaves_nothing(&self)
+        ensures { EachClosedIsGone self.now.hub self.now.ports }
+    {
+        self.ports.are_queued();
+    }
+
     /// Each link for which a turn would do something gets one in the next round. Does nothing; a fact of every server.
     pub fn forgets_nobody(&self)
         ensures { NobodyIsForgotten self.now.ports self.now.turns }
@@ -125,7 +133,7 @@ impl Server {
         self.deadline = next_deadline(&self.hub, self.deadline, now);
         let pause = self.pause(now);
         host.wait(pause)?;
-        let is_told = note_all(&self.hub, host, &mut self.ports);
+        let is_told = note_all(&mut self.hub, host, &mut self.ports);
         self.accepting.may_accept |= is_told;
         self.accepting
             .accept_some(&mut self.hub, host, &mut self.ports, alloc);

@@ -1,10 +1,10 @@
 //! What a turn does for a link.
 
 ghost use Rattle.std.specs.Prelude.{◌≡◌, ◌≤◌, ◌||◌, [], List, Option, false, true, length, take, Some, None, is_some, IfOk, IfSome, IfNone, OnOk, OnErr};
-ghost use Rattle.ipc_hub.specs.Hub.{Hub, Feeds};
+ghost use Rattle.ipc_hub.specs.Hub.{Hub, Feeds, is_over_at, untaken_at};
 ghost use Rattle.ipc_loop.specs.Moves.{Moved, Adds};
 ghost use Rattle.ipc_loop.specs.Ports.{is_all};
-ghost use Rattle.ipc_loop.specs.Serving.{ServesPort, KeepsPortMarks, Writes, FeedsPort, StaysReadable, Answers, ends_connection};
+ghost use Rattle.ipc_loop.specs.Serving.{ServesPort, KeepsPortMarks, Writes, FeedsPort, StaysReadable, Answers, is_done, ends_connection};
 
 use crate::ending::Ending;
 use crate::links::Host;
@@ -32,6 +32,26 @@ pub struct Desk {
     pub answers: Vec<u8>,
     /// How many bytes of unfinished frames the hub keeps of all connections.
     pub unfinished: usize,
+}
+
+/// Whether the connection is over.
+fn is_over(hub: &Hub, number: u64) -> bool
+    ensures { result ≡ is_over_at hub.now number }
+{
+    match hub.is_over(Conn(number)) {
+        Ok(is_over) => is_over,
+        Err(_) => false,
+    }
+}
+
+/// How many answers the connection has not taken.
+fn untaken(hub: &Hub, number: u64) -> usize
+    ensures { result ≡ length (untaken_at hub.now number) }
+{
+    match hub.untaken(Conn(number)) {
+        Ok(count) => count,
+        Err(_) => 0,
+    }
 }
 
 /// How many bytes of the connection's stream the hub keeps.
@@ -297,8 +317,12 @@ impl Port {
     }
 
     /// Whether nothing is left to do for the link but to close it.
-    pub fn is_done(&self, hub: &Hub, number: u64) -> bool {
-        self.is_over
-            && (self.is_cut || self.unsent.is_empty() && hub.untaken(Conn(number)) == Ok(0))
+    pub fn is_done(&self, hub: &Hub, number: u64) -> bool
+        ensures { result ≡ is_done hub.now number self.now }
+    {
+        if !is_over(hub, number) {
+            return false;
+        }
+        self.is_cut || self.unsent.is_empty() && untaken(hub, number) == 0
     }
 }

@@ -3,7 +3,7 @@
 ghost use Rattle.std.specs.Prelude.{◌≡◌, [], ℕ, None, Some, slice_get, slice_set};
 ghost use Rattle.ipc_hub.specs.Hub.{Hub};
 ghost use Rattle.ipc_loop.specs.Ports.{port_at, open_at, with_port, OnlyCloses};
-ghost use Rattle.ipc_loop.specs.Standing.{IsSettled};
+ghost use Rattle.ipc_loop.specs.Standing.{IsSettled, CanBePut};
 ghost use Rattle.ipc_loop.specs.Serving.{Serves, IsAnswered, IsOwedByMark, KeepsMarks, NobodyIsOwed};
 
 use crate::ending::Ending;
@@ -11,24 +11,30 @@ use crate::links::{Host, Ready};
 use crate::port::Port;
 use crate::ports::Ports;
 use crate::serving::{Desk, kept};
-use ipc_hub::Hub;
+use ipc_hub::{Conn, Hub};
 
 /// How many bytes of unfinished frames the hub keeps at most.
 const MOST_UNFINISHED: usize = 67_108_864;
 
-/// Puts the port back that was taken out; or closes its link, where nothing else is left to do for it.
-fn settle<H: Host>(hub: &Hub, host: &mut H, ports: &mut Ports, number: u64, port: Box<Port>)
-    requires { slice_get ports.old.all number ≡ Some None }
+/// Puts the port back that was taken out. Or, where nothing else is left to do for it, closes its link, and drops the answers
+/// that nobody can take any more.
+fn settle<H: Host>(hub: &mut Hub, host: &mut H, ports: &mut Ports, number: u64, port: Box<Port>)
+    requires out { slice_get ports.old.all number ≡ Some None }
+    requires back { CanBePut ports.old number }
     ensures moved { H.moves host.new ≡ H.moves host.old }
-    ensures settled { IsSettled ports.old.all number port.value ports.new.all }
+    ensures settled { IsSettled hub.old ports.old.all number port.value hub.new ports.new.all }
+    ensures marked { hub.new.marked ≡ hub.old.marked }
     ensures turns { ports.new.turns ≡ ports.old.turns }
 {
-    let ending = port.why().unwrap_or(Ending::NoMemory);
-    if port.is_done(hub, number) {
-        host.close(number, ending);
-    } else if !ports.put(number, port) {
-        host.close(number, ending);
+    if !port.is_done(hub, number) {
+        ports.put(number, port);
+        return;
     }
+    hub.is_sound();
+    let Ok(()) = hub.discard(Conn(number)) else {
+        unreachable!();
+    };
+    host.close(number, port.why().unwrap_or(Ending::NoMemory));
 }
 
 /// Gives the port that was taken out a turn.
@@ -40,7 +46,8 @@ fn turn<H: Host>(
     mut port: Box<Port>,
     desk: &mut Desk,
 )
-    requires { slice_get ports.old.all number ≡ Some None }
+    requires out { slice_get ports.old.all number ≡ Some None }
+    requires back { CanBePut ports.old number }
     ensures serves { Serves hub.old (H.moves host.old) (with_port (port_at ports.old.all) number (Some port.value)) hub.new (H.moves host.new) (port_at ports.new.all) }
     ensures marks { KeepsMarks hub.old (with_port (open_at ports.old.all) number (Some port.value)) hub.new (open_at ports.new.all) }
     ensures closes { OnlyCloses (slice_set ports.old.all number (Some port.value)) ports.new.all }
@@ -127,9 +134,9 @@ pub fn answer_all<H: Host>(hub: &mut Hub, host: &mut H, ports: &mut Ports, desk:
 }
 
 /// Notes what became ready of a link.
-fn note<H: Host>(hub: &Hub, host: &mut H, ports: &mut Ports, ready: Ready)
-    ensures serves { Serves hub.now (H.moves host.old) (port_at ports.old.all) hub.now (H.moves host.new) (port_at ports.new.all) }
-    ensures marks { KeepsMarks hub.now (open_at ports.old.all) hub.now (open_at ports.new.all) }
+fn note<H: Host>(hub: &mut Hub, host: &mut H, ports: &mut Ports, ready: Ready)
+    ensures serves { Serves hub.old (H.moves host.old) (port_at ports.old.all) hub.new (H.moves host.new) (port_at ports.new.all) }
+    ensures marks { KeepsMarks hub.old (open_at ports.old.all) hub.new (open_at ports.new.all) }
     ensures closes { OnlyCloses ports.old.all ports.new.all }
     ensures turns { ports.new.turns ≡ ports.old.turns }
 {
@@ -149,9 +156,9 @@ fn note<H: Host>(hub: &Hub, host: &mut H, ports: &mut Ports, ready: Ready)
 }
 
 /// Notes all that is ready. Says whether somebody connects.
-pub fn note_all<H: Host>(hub: &Hub, host: &mut H, ports: &mut Ports) -> bool
-    ensures serves { Serves hub.now (H.moves host.old) (port_at ports.old.all) hub.now (H.moves host.new) (port_at ports.new.all) }
-    ensures marks { KeepsMarks hub.now (open_at ports.old.all) hub.now (open_at ports.new.all) }
+pub fn note_all<H: Host>(hub: &mut Hub, host: &mut H, ports: &mut Ports) -> bool
+    ensures serves { Serves hub.old (H.moves host.old) (port_at ports.old.all) hub.new (H.moves host.new) (port_at ports.new.all) }
+    ensures marks { KeepsMarks hub.old (open_at ports.old.all) hub.new (open_at ports.new.all) }
     ensures closes { OnlyCloses ports.old.all ports.new.all }
     ensures turns { ports.new.turns ≡ ports.old.turns }
 {

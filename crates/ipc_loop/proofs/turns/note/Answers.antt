@@ -11,20 +11,20 @@ use Rattle.ipc_loop.proofs.turns.note.Goals as goal
 pub returns-in_default-clause-serves : goal.returns-in_default-clause-serves
 returns-in_default-clause-serves g c = served_nothing _ _ _
 
-pub settle-requires : goal.settle-requires
-settle-requires g c = empty_slot _ _ _ _ c.in-Some.ensures.port
+pub settle-requires-clause-out : goal.settle-requires-clause-out
+settle-requires-clause-out g c = empty_slot _ _ _ _ c.in-Some.ensures.port
 
 pub returns-in-Some-clause-serves : goal.returns-in-Some-clause-serves
 returns-in-Some-clause-serves g c =
     taken_serves c.in-Link.number _ _ _ _ _ _ _ _ c.in-Some.ensures.port
-    (turned_serves c.in-Link.number c.args.hub.now c.args.hub.now (g.H.Host.moves c.args.host.now) (g.H.Host.moves c.args.host.now) _ c.in-Some.port.value c.deref_mut.result.now c.note.new.self _ _ c.deref_mut.ensures.value (empty_slot _ _ _ _ c.in-Some.ensures.port)
+    (turned_serves c.in-Link.number c.args.hub.now c.args.hub.now c.settle.new.hub (g.H.Host.moves c.args.host.now) (g.H.Host.moves c.args.host.now) _ c.in-Some.port.value c.deref_mut.result.now c.note.new.self _ _ c.deref_mut.ensures.value (empty_slot _ _ _ _ c.in-Some.ensures.port)
     (stays_serve c.in-Link.number c.args.hub.now (g.H.Host.moves c.args.host.now) (g.H.Host.moves c.args.host.now) c.deref_mut.result.now c.note.new.self (go_nowhere _) (ap (λ (p : Port). p.left) c.note.ensures) (ap (λ (p : Port). p.ending) c.note.ensures))
     c.settle.ensures.moved c.settle.ensures.settled)
 
 pub returns-in-Some-clause-marks : goal.returns-in-Some-clause-marks
 returns-in-Some-clause-marks g c =
-    taken_keeps c.in-Link.number c.args.hub.now c.args.hub.now c.in-Some.port.value c.args.ports.now.all c.take.new.self.all c.settle.new.ports.all c.in-Some.ensures.port
-    (turned_keeps c.in-Link.number c.args.hub.now c.args.hub.now c.in-Some.port.value c.deref_mut.result.now c.note.new.self c.take.new.self.all c.settle.new.ports.all c.deref_mut.ensures.value (empty_slot _ _ _ _ c.in-Some.ensures.port)
+    taken_keeps c.in-Link.number c.args.hub.now c.settle.new.hub c.in-Some.port.value c.args.ports.now.all c.take.new.self.all c.settle.new.ports.all c.in-Some.ensures.port
+    (turned_keeps c.in-Link.number c.args.hub.now c.args.hub.now c.settle.new.hub c.in-Some.port.value c.deref_mut.result.now c.note.new.self c.take.new.self.all c.settle.new.ports.all c.deref_mut.ensures.value (empty_slot _ _ _ _ c.in-Some.ensures.port)
     (same_keep c.in-Link.number c.args.hub.now c.deref_mut.result.now c.note.new.self (ap (λ (p : Port). p.left) c.note.ensures)) c.settle.ensures.settled)
 
 pub returns-in_default-take-clause-serves : goal.returns-in_default-take-clause-serves
@@ -34,7 +34,7 @@ pub returns-in_default-clause-closes : goal.returns-in_default-clause-closes
 returns-in_default-clause-closes g c = closes_same _ _ refl
 
 pub returns-in-Some-clause-closes : goal.returns-in-Some-clause-closes
-returns-in-Some-clause-closes g c = settled_closes c.in-Link.number _ _ _ _ _ c.in-Some.ensures.port c.settle.ensures.settled
+returns-in-Some-clause-closes g c = settled_closes c.in-Link.number _ _ _ _ _ _ _ c.in-Some.ensures.port c.settle.ensures.settled
 
 pub returns-in_default-take-clause-closes : goal.returns-in_default-take-clause-closes
 returns-in_default-take-clause-closes g c = closes_same _ _ c.in_default-take.ensures.none

@@ -5,8 +5,8 @@ use Rattle.ipc_loop.proofs.turns.note_all.Given as goal
 
 abbrev pub invariant-loop : goal.invariant-loop
 invariant-loop g l = record {
-  serves : Serves l.hub (g.H.Host.moves l.fn.host) (port_at l.fn.ports.all) l.hub (g.H.Host.moves l.host) (port_at l.ports.all);
-  marks : KeepsMarks l.hub (open_at l.fn.ports.all) l.hub (open_at l.ports.all);
+  serves : Serves l.fn.hub (g.H.Host.moves l.fn.host) (port_at l.fn.ports.all) l.hub (g.H.Host.moves l.host) (port_at l.ports.all);
+  marks : KeepsMarks l.fn.hub (open_at l.fn.ports.all) l.hub (open_at l.ports.all);
   turns : l.ports.turns ≡ l.fn.ports.turns;
   closes : OnlyCloses l.fn.ports.all l.ports.all;
 }

@@ -3,7 +3,7 @@ use Rattle.ipc_loop.specs.declared.accepting.Bounds.{Bounds}
 use Rattle.ipc_loop.specs.Ports.{Port, port_at, open_at, Continues}
 use Rattle.ipc_loop.specs.Bounds.{IsWithin}
 use Rattle.ipc_loop.specs.Server.{Server}
-use Rattle.ipc_loop.specs.Serving.{Serves, ServesAndOpens, IsOwedByMark}
+use Rattle.ipc_loop.specs.Serving.{Serves, ServesAndOpens, IsOwedByMark, LeavesNothing}
 use Rattle.ipc_loop.proofs.ServingLemmas.{served_nothing, serves_both, moved_so}
 use Rattle.ipc_loop.proofs.OpeningLemmas.{closes_same, closes_both, closes_goes, closes_within, goes_same, goes_both}
 use Rattle.ipc_loop.proofs.AcceptingLemmas.{opens_both, opens_none}
@@ -34,11 +34,17 @@ invariant_of-self-2 g c =
       within =
           subst (λ (b : Bounds). IsWithin b c.answer_all.new.ports.all) (sym c.accept_some.ensures.bounds)
           (closes_within _ _ _ closes (c.accept_some.ensures.within (closes_within _ _ _ c.note_all-is_told.ensures.closes c.self.invariant.within)));
+      closed = λ i.
+          let noted = c.note_all-is_told.ensures.serves.closed i (c.self.invariant.closed i) in
+          let accepted = c.accept_some.ensures.serves.closed i noted in
+          let ticked = (c.make_ticks.ensures.serves (g.H.Host.moves c.accept_some.new.host) (port_at c.accept_some.new.ports.all)).closed i accepted in
+          let started = subst (λ (zs : List (Option Port)). LeavesNothing c.make_ticks.new.hub (port_at zs) i) (sym c.start_round.ensures.all) ticked in
+          c.answer_all.ensures.serves.closed i (c.give_turns.ensures.serves.closed i started);
     }
 
 pub returns-clause-serves : goal.returns-clause-serves
 returns-clause-serves g c =
-    let noted = moved_so c.self.inside.hub c.self.inside.hub (g.H.Host.moves c.wait.new.self) (g.H.Host.moves c.note_all-is_told.new.host) (g.H.Host.moves c.args.host.now) (g.H.Host.moves c.note_all-is_told.new.host) (port_at c.self.inside.ports.all) (port_at c.note_all-is_told.new.ports.all) (c.wait.ensures.moved ∙ c.moment-now.ensures.moved) refl c.note_all-is_told.ensures.serves in
+    let noted = moved_so c.self.inside.hub c.note_all-is_told.new.hub (g.H.Host.moves c.wait.new.self) (g.H.Host.moves c.note_all-is_told.new.host) (g.H.Host.moves c.args.host.now) (g.H.Host.moves c.note_all-is_told.new.host) (port_at c.self.inside.ports.all) (port_at c.note_all-is_told.new.ports.all) (c.wait.ensures.moved ∙ c.moment-now.ensures.moved) refl c.note_all-is_told.ensures.serves in
     let begun = closes_goes _ _ c.note_all-is_told.ensures.closes in
     let accepted = opens_both _ _ _ _ _ _ _ _ _ begun c.accept_some.ensures.continues (opens_none _ _ _ _ _ _ c.note_all-is_told.ensures.closes.count noted) c.accept_some.ensures.serves in
     let ticked = c.make_ticks.ensures.serves (g.H.Host.moves c.accept_some.new.host) (port_at c.accept_some.new.ports.all) in
