@@ -9,6 +9,7 @@ import contextlib
 import os
 import pathlib
 import re
+import resource
 import shlex
 import signal
 import socket
@@ -24,6 +25,7 @@ TOP = pathlib.Path(__file__).resolve().parent.parent
 USERS = TOP / "rows" / "mqserve" / "two.users"
 SECONDS = 60
 SECONDS_OF_AN_ANSWER = 4
+LITTLE_MEMORY, FEW_CALLS = 64 << 20, 100_000
 MANY = 200
 
 HELLO, UMASK, SEM_OPEN, STARTED, MASK = 1, 2, 11, 65, 68
@@ -59,10 +61,11 @@ def is_same(what, found, wanted):
 
 
 @contextlib.contextmanager
-def serving(programs, address, *words):
-    """A server that says that it serves. It is ended if it hasn't ended by itself."""
+def serving(programs, address, *words, memory=None):
+    """A server that says that it serves, within so many bytes of memory. It is ended if it hasn't ended by itself."""
     command = programs.command("mqserve", ["serve", str(USERS), address, *words])
-    with subprocess.Popen(command, stdout=subprocess.PIPE, stderr=subprocess.PIPE) as server:
+    limit = memory and (lambda: resource.setrlimit(resource.RLIMIT_AS, (memory, memory)))
+    with subprocess.Popen(command, stdout=subprocess.PIPE, stderr=subprocess.PIPE, preexec_fn=limit) as server:
         try:
             is_same("the first line", server.stdout.readline(), f"serving {address}\n".encode())
             yield server
@@ -250,6 +253,33 @@ def in_two_parts(programs, address, *words):
         ends(server, 2)
 
 
+def without_memory(programs, address, *words):
+    """A server that finds no memory for a hang-up ends after a second, and says why; an idle client doesn't change that."""
+    with serving(programs, address, *words, memory=LITTLE_MEMORY) as server, contextlib.ExitStack() as stack:
+        idle = stack.enter_context(connect(address))
+        idle.sendall(frame(HELLO, b"\0\3ka1"))
+        is_answer(idle, STARTED)
+        calls = call_without_end(address)
+        err = server.communicate(timeout=SECONDS)[1]
+        is_same("faults and status", (err, server.returncode), (b"mqserve: memory\n", 5))
+        if calls < FEW_CALLS:
+            raise Wrong(f"{calls} calls were answered in {LITTLE_MEMORY} bytes of memory")
+
+
+def call_without_end(address):
+    """Makes calls until the server answers no more. Returns how many it answered."""
+    many, answered = 1_000, 0
+    with connect(address) as stream:
+        stream.sendall(frame(HELLO, b"\0\3ka1"))
+        is_answer(stream, STARTED)
+        with contextlib.suppress(OSError, Wrong):
+            while True:
+                stream.sendall(frame(UMASK, b"\0\0") * many)
+                exactly(stream, len(frame(MASK, b"\0\0")) * many)
+                answered += many
+    return answered
+
+
 def send_apart(stream, data):
     """Sends bytes so that a read ends behind them: with a file sent along, or with an urgent byte, which isn't read, behind
     them."""
@@ -347,6 +377,7 @@ ANYWHERE = {
     "a third client waits": (third_waits, {"workers": ["--workers", "2"], "one thread": [*ONE_THREAD, "--connections", "2"]}),
     "a client that leaves at once": (leaves, ONE_AT_A_TIME),
     "a receive until a moment": (timed, KINDS),
+    "no memory": (without_memory, {"one thread": ONE_THREAD}),
     "a stream in two parts": (in_two_parts, {"workers": ["--workers", "2"], "one thread": ONE_THREAD}),
     "a log at the end of a file": (log, KINDS),
     "README.md's workers": (readme_workers, {"one thread": ONE_THREAD}),

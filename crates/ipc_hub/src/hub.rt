@@ -223,6 +223,13 @@ impl Hub {
         Ok(())
     }
 
+    /// How many events are recorded.
+    pub fn recorded(&self) -> usize
+        ensures { result ≡ length self.now.core.history }
+    {
+        self.core.core().trail().len()
+    }
+
     /// Whether the connection is over.
     pub fn is_over(&self, conn: Conn) -> Result<bool, HubFault>
         ensures ok { IfOk result (λ b. option_map (λ x. x.is_over) (slice_get self.now.connections conn.0) ≡ Some b) }

@@ -4,10 +4,12 @@
 mod accepting;
 mod ending;
 mod links;
+mod pausing;
 mod port;
 mod ports;
 mod server;
 mod serving;
+mod shortage;
 mod ticking;
 mod turns;
 mod unsent;

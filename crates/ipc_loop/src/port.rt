@@ -1,7 +1,7 @@
 //! What the loop keeps of a link.
 
 ghost use Rattle.std.specs.Prelude.{◌≡◌, ◌||◌};
-ghost use Rattle.ipc_loop.specs.Ports.{new_port, has_work};
+ghost use Rattle.ipc_loop.specs.Ports.{new_port, is_ending, has_work};
 
 use crate::ending::Ending;
 use crate::unsent::Unsent;
@@ -54,6 +54,13 @@ impl Port {
         self.ending
     }
 
+    /// Whether its connection is to be hung up.
+    pub fn is_ending(&self) -> bool
+        ensures { result ≡ is_ending self.now }
+    {
+        self.ending.is_some() && !self.is_over
+    }
+
     /// Whether a turn would do something.
     pub fn has_work(&self) -> bool
         ensures { result ≡ has_work self.now }
@@ -62,7 +69,7 @@ impl Port {
             return true;
         }
         if !self.unsent.is_empty() {
-            return self.may_write || self.ending.is_some() && !self.is_over;
+            return self.may_write || self.is_ending();
         }
         self.may_read || self.is_full || self.ending.is_some()
     }

@@ -10,8 +10,10 @@ ghost use Rattle.ipc_loop.specs.Serving.{ServesAndOpens, NobodyIsOwed};
 
 use crate::accepting::{Accepting, Bounds};
 use crate::links::Host;
+use crate::pausing::Reasons;
 use crate::ports::Ports;
 use crate::serving::Desk;
+use crate::shortage::Shortage;
 use crate::ticking::{make_ticks, next_deadline};
 use crate::turns::{answer_all, give_turns, note_all};
 use ipc_core::{Config, CoreFault};
@@ -24,9 +26,6 @@ use std::time::Duration;
 /// How many bytes a read asks for.
 const PIECE: usize = 65_536;
 
-/// For how long nobody is accepted where accepting failed, as with too many open files, if nothing happens before.
-const PAUSE_MILLISECONDS: u64 = 100;
-
 /// Serves the connections of a host, in turns, over one hub.
 #[derive(Drop)]
 pub struct Server {
@@ -36,6 +35,7 @@ pub struct Server {
     desk: Desk,
     /// When the next parked call is due, as it was found last.
     deadline: Option<u64>,
+    shortage: Shortage,
 }
 
 impl Model for Server {
@@ -86,8 +86,13 @@ impl Server {
                 piece,
                 answers: Vec::new(alloc),
                 unfinished: 0,
+                is_waiting: false,
             },
             deadline: None,
+            shortage: Shortage {
+                since: None,
+                moment: 0,
+            },
         })
     }
 
@@ -96,6 +101,12 @@ impl Server {
         ensures { result ≡ is_over self.now }
     {
         self.accepting.has_all(&self.ports) && self.ports.open() == 0
+    }
+
+    /// Whether for a second nothing could be recorded, though something waited to be: a hang-up or a tick found no memory in any
+    /// round of that time. Rounds go on all the same, but only who ends the process helps its clients.
+    pub fn is_out_of_memory(&self) -> bool {
+        self.shortage.has_lasted()
     }
 
     /// No more links are open at once, and no more were accepted, than may be. Does nothing; a fact of every server.
@@ -133,34 +144,36 @@ impl Server {
         self.deadline = next_deadline(&self.hub, self.deadline, now);
         let pause = self.pause(now);
         host.wait(pause)?;
+        let before = self.hub.recorded();
         let is_told = note_all(&mut self.hub, host, &mut self.ports);
         self.accepting.may_accept |= is_told;
         self.accepting
             .accept_some(&mut self.hub, host, &mut self.ports, alloc);
         let later = host.moment();
         make_ticks(&mut self.hub, alloc, later);
+        self.desk.is_waiting = self.hub.due(later);
         self.ports.start_round();
         give_turns(&mut self.hub, host, &mut self.ports, &mut self.desk);
         answer_all(&mut self.hub, host, &mut self.ports, &mut self.desk);
         self.desk.trim();
+        let is_short = self.desk.is_waiting && self.hub.recorded() == before;
+        self.shortage.note(is_short, later);
         Ok(())
     }
 
     /// How long to wait at this moment.
     fn pause(&self, now: u64) -> Option<Duration> {
-        if self.ports.has_turns()
-            || !self.accepting.is_pausing && self.accepting.is_open(&self.ports)
-        {
-            return Some(Duration::ZERO);
-        }
+        let is_pausing = self.accepting.is_pausing;
         let until_due = match self.deadline {
-            Some(moment) => moment.saturating_sub(now),
-            None if self.accepting.is_pausing => PAUSE_MILLISECONDS,
-            None => return None,
+            Some(moment) => Some(moment.saturating_sub(now)),
+            None => None,
         };
-        if self.accepting.is_pausing {
-            return Some(Duration::from_millis(until_due.min(PAUSE_MILLISECONDS)));
-        }
-        Some(Duration::from_millis(until_due))
+        let reasons = Reasons {
+            is_short: self.shortage.since.is_some(),
+            is_busy: self.ports.has_turns() || !is_pausing && self.accepting.is_open(&self.ports),
+            is_pausing,
+            until_due,
+        };
+        Some(Duration::from_millis(reasons.pause()?))
     }
 }

@@ -32,6 +32,8 @@ pub struct Desk {
     pub answers: Vec<u8>,
     /// How many bytes of unfinished frames the hub keeps of all connections.
     pub unfinished: usize,
+    /// In this round a hang-up or a tick found no memory.
+    pub is_waiting: bool,
 }
 
 /// Whether the connection is over.

@@ -55,6 +55,7 @@ fn turn<H: Host>(
 {
     let before = kept(hub, number);
     port.serve(hub, host, number, desk);
+    desk.is_waiting |= port.is_ending();
     desk.weigh(before, kept(hub, number));
     settle(hub, host, ports, number, port);
     keep_bound(hub, host, ports, desk);

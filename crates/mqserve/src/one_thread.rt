@@ -46,6 +46,9 @@ fn work<R: Print + Eprint + Wait + Clock>(
         if server.is_over() {
             return Ok(());
         }
+        if server.is_out_of_memory() {
+            return Err(ScriptFault::Memory.into());
+        }
         if server.round(sockets).is_err() {
             return Err(ProgramFault::Net);
         }
