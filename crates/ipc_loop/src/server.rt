@@ -1,6 +1,6 @@
 //! The loop.
 
-ghost use Rattle.std.specs.Prelude.{◌≡◌, [], None, OnOk, IfOk, IfErr, MatchOption};
+ghost use Rattle.std.specs.Prelude.{◌≡◌, [], None, OnOk, OnErr, IfOk, IfErr, MatchOption};
 ghost use Rattle.ipc_state.specs.Ranges.{first_bad};
 ghost use Rattle.ipc_hub.specs.Hub.{new_hub};
 ghost use Rattle.ipc_loop.specs.Ports.{open_at, NobodyIsForgotten, Continues};
@@ -136,6 +136,8 @@ impl Server {
     pub fn round<H: Host>(&mut self, host: &mut H) -> io::Result<()>
         ensures serves { ServesAndOpens self.old.hub (H.moves host.old) self.old.ports self.new.hub (H.moves host.new) self.new.ports }
         ensures rests { OnOk result (NobodyIsOwed self.new.hub (open_at self.new.ports)) }
+        ensures nothing { OnErr result (self.new ≡ self.old) }
+        ensures nobody { OnErr result (H.moves host.new ≡ H.moves host.old) }
         ensures continues { Continues self.old.ports self.new.ports }
         ensures bounds { self.new.bounds ≡ self.old.bounds }
     {
