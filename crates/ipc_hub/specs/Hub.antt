@@ -224,6 +224,10 @@ pub record Names (old : Hub) (i : ℕ) (new : Hub) : Type 0 where
   pub was : is_marked old i ≡ true
   pub now : new ≡ record old { marked = slice_set old.marked i false }
 
+-- whether a tick of this moment would end a call
+abbrev pub would_end : Hub → ℕ → Bool
+would_end hub moment = is_some (due hub.core.config hub.core.history moment)
+
 -- what a tick of this moment answers session s: that its deadline is past, if its call is the one that is due
 abbrev pub ticked : CoreView → ℕ → ℕ → List Answer
 ticked a moment s = for_session s (tick_answers (due a.config a.history moment))

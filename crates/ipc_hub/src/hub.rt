@@ -2,6 +2,7 @@
 
 ghost use Rattle.std.specs.Prelude.{◌≡◌, ◌<◌, ◌≤◌, ◌+◌, ◌++◌, ℕ, List, false, true, is_some, slice_get, None, Some, length, max, option_map, IfOk, IfErr, IfSome, IfNone, OnOk, OnErr, MatchOption};
 ghost use Rattle.ipc_state.specs.Ranges.{first_bad};
+ghost use Rattle.ipc_state.specs.NextDeadline.{IsNextDeadline, EndsOncePast};
 ghost use Rattle.ipc_policy.specs.Bodies.{due};
 ghost use Rattle.ipc_policy.specs.Verdict.{Legal};
 ghost use Rattle.ipc_core.specs.Outboxes.{BoxesAgree};
@@ -263,6 +264,15 @@ impl Hub {
         ensures { result ≡ is_some (due self.now.core.config self.now.core.history moment) }
     {
         self.core.core().due(moment).is_some()
+    }
+
+    /// The least deadline of the calls that are parked, if one of them has one. A tick ends a call exactly where it is past.
+    /// Takes no memory.
+    pub fn least_deadline(&self) -> Option<u64>
+        ensures least { IsNextDeadline self.now.core.config self.now.core.history result }
+        ensures due { EndsOncePast self.now.core.config self.now.core.history result }
+    {
+        self.core.core().least_deadline()
     }
 
     /// Makes a tick of this moment, which ends the earliest parked timed call whose deadline is past, if there is

@@ -22,6 +22,13 @@ fn next_line(alloc: Global, hub: &mut Hub) -> Result<String, AllocError> {
     }
 }
 
+fn least_line(alloc: Global, hub: &Hub) -> Result<String, AllocError> {
+    match hub.least_deadline() {
+        Some(deadline) => format!(in alloc; "least {deadline}\n"),
+        None => String::from_str(alloc, "least none\n"),
+    }
+}
+
 /// The frames that are taken behind two bytes, which stay where there is no such connection.
 fn taken_behind(alloc: Global, hub: &mut Hub, conn: Conn) -> Result<String> {
     let mut bytes = Vec::from_slice(alloc, b"\xab\xcd")?;
@@ -37,12 +44,13 @@ fn fed_some(alloc: Global, hub: &mut Hub, conn: Conn, words: &str) -> Result<Str
     Ok(line_of(alloc, hub, conn, call)?)
 }
 
-/// The answer to a line: `open`, `next`, or a call and what it is made with.
+/// The answer to a line: `open`, `next`, `least`, or a call and what it is made with.
 fn answer_to(alloc: Global, hub: &mut Hub, line: &str) -> Result<String> {
     let (call, rest) = line.split_once(' ').unwrap_or((line, ""));
     match call {
         "open" => Ok(open_line(alloc, hub)?),
         "next" => Ok(next_line(alloc, hub)?),
+        "least" => Ok(least_line(alloc, hub)?),
         _ => answer_with(alloc, hub, call, rest),
     }
 }
