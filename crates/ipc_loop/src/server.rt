@@ -143,7 +143,7 @@ impl Server {
     {
         let alloc = self.desk.alloc;
         let now = host.moment();
-        self.deadline = next_deadline(&self.hub, self.deadline, now);
+        self.deadline = next_deadline(&self.hub, now);
         let pause = self.pause(now);
         host.wait(pause)?;
         let before = self.hub.recorded();
