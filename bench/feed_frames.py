@@ -1,7 +1,10 @@
 #!/usr/bin/env python3
-"""Times the reading of frames: sends of 64-byte messages in one piece, in pieces of 64 KiB and byte by byte.
+"""Times the reading of frames: how many sends of 64-byte messages are read in a second, and what a byte of a frame costs, by
+the frame's length and by the pieces in which it comes.
 
-Proves and builds the crate bench_calls, and prints the median frames a second of each kind of piece. A run that gives another number of requests ends it, with status 1 and without a figure.
+Proves and builds the crate bench_calls, or takes the program that is named, and prints medians of five runs. A run whose outcome
+is wrong ends it, with status 1 and without a figure. It ends with status 1 too where a byte of a long frame costs over twice what
+a byte of a shorter one does in the same pieces.
 """
 
 import argparse
@@ -16,27 +19,86 @@ RUNS = 5
 
 PIECES = [("in one piece", 0), ("in pieces of 64 KiB", 65_536), ("byte by byte", 1)]
 
+# What a frame of a send has beside its message.
+HEAD = 17
 
-def rate(program, piece, count):
-    """The frames a second of one run."""
-    words = [program, "frames", str(piece), str(count)]
+# Frames by their lengths, and the pieces in which each length is fed.
+LENGTHS = [("81 bytes", 81), ("64 KiB", 65_536), ("1 MiB", 1_048_576), ("16 MiB", 16_777_216)]
+
+PIECES_OF_LONG = [1, 1_460, 65_536]
+
+# A longer frame in single bytes takes long.
+MOST_BY_BYTE = 65_536
+
+# A byte of a longer frame may cost so many times that of a shorter one.
+MOST_TIMES = 2
+
+# What comes of a stream of so many sends: requests, or the answer to the hello and refusals.
+READERS = [("Frames", "frames", lambda count: count + 1), ("a hub", "stream", lambda count: 13 + 7 * count)]
+
+
+def seconds(program, word, wanted, message, piece, count):
+    """The seconds of one run."""
+    words = [program, word, str(message), str(piece), str(count)]
     output = subprocess.run(words, check=True, capture_output=True, text=True).stdout
-    requests, microseconds = map(int, output.split())
-    # The hello is one more.
-    if requests != count + 1:
-        sys.exit(f"{requests} requests came in place of {count + 1}")
-    return count * 1_000_000 / microseconds
+    came, microseconds = map(int, output.split())
+    if came != wanted(count):
+        sys.exit(f"{came} came of {' '.join(words[1:])} in place of {wanted(count)}")
+    return microseconds / 1_000_000
+
+
+def show_rates(program, count):
+    """The frames of 64-byte messages that are read in a second."""
+    _, word, wanted = READERS[0]
+    for kind, piece in PIECES:
+        rates = [count / seconds(program, word, wanted, 64, piece, count) for _ in range(RUNS)]
+        shown = ", ".join(f"{it:.0f}" for it in rates)
+        print(f"{kind}: {statistics.median(rates):.0f} frames a second, the median of {shown}")
+
+
+def costs_of(program, word, wanted, piece, total):
+    """The nanoseconds of a byte by the length of its frame, where that is fed in such pieces."""
+    costs = {}
+    for name, length in LENGTHS:
+        if piece == 1 and length > MOST_BY_BYTE:
+            continue
+        count = max(total // length, 1)
+        runs = [seconds(program, word, wanted, length - HEAD, piece, count) for _ in range(RUNS)]
+        costs[name] = statistics.median(runs) * 1e9 / (count * length)
+    return costs
+
+
+def growth(costs):
+    """How many times a byte of a longer frame costs what a byte of a shorter one does, at most."""
+    found = list(costs.values())
+    return max(later / earlier for i, earlier in enumerate(found) for later in found[i:])
+
+
+def show_costs(program, total):
+    """A table of what a byte costs. Gives how much a byte costs more in a longer frame, at most."""
+    print("\n| | Pieces of | " + " | ".join(name for name, _ in LENGTHS) + " |")
+    print("|---|--:|" + "--:|" * len(LENGTHS))
+    most = 0
+    for reader, word, wanted in READERS:
+        for piece in PIECES_OF_LONG:
+            costs = costs_of(program, word, wanted, piece, total)
+            shown = " | ".join(f"{costs[name]:.2f}" if name in costs else "" for name, _ in LENGTHS)
+            print(f"| {reader} | {piece:,} | {shown} |")
+            most = max(most, growth(costs))
+    return most
 
 
 def main():
     parser = argparse.ArgumentParser(description=__doc__)
     parser.add_argument("frames", nargs="?", type=int, default=1_000_000, help="1,000,000 where none are given")
-    count = parser.parse_args().frames
-    program = bench_calls()
-    for kind, piece in PIECES:
-        rates = [rate(program, piece, count) for _ in range(RUNS)]
-        shown = ", ".join(f"{it:.0f}" for it in rates)
-        print(f"{kind}: {statistics.median(rates):.0f} frames a second, the median of {shown}")
+    parser.add_argument("--bytes", type=int, default=16_777_216, help="how many bytes of long frames a run feeds, 16 MiB at least")
+    parser.add_argument("--program", help="a program that was built before")
+    words = parser.parse_args()
+    program = words.program or bench_calls()
+    show_rates(program, words.frames)
+    most = show_costs(program, words.bytes)
+    if most > MOST_TIMES:
+        sys.exit(f"a byte costs up to {most:.1f} times as much in a longer frame")
 
 
 if __name__ == "__main__":

@@ -243,11 +243,16 @@ fn timed(rt: &HostRuntime, hub: &mut Hub, job: Job) -> Result<(usize, u128)> {
     Ok((bytes, start.elapsed(rt)?.as_micros()))
 }
 
+/// A hub of one user.
+pub fn new_hub(alloc: Global) -> Result<Hub> {
+    let users = Users::read(alloc, USERS)?;
+    let limits = Limits::STANDARD;
+    Ok(Hub::new(alloc, Config { users, limits })?)
+}
+
 /// Does a job by a hub of its own. Gives how many bytes came out, and the microseconds of its rounds.
 pub fn run(rt: &HostRuntime, job: Job) -> Result<(usize, u128)> {
-    let users = Users::read(rt.alloc(), USERS)?;
-    let limits = Limits::STANDARD;
-    let mut hub = Hub::new(rt.alloc(), Config { users, limits })?;
+    let mut hub = new_hub(rt.alloc())?;
     let done = timed(rt, &mut hub, job);
     // An explicit drop has one exit.
     drop(hub);
