@@ -1,7 +1,7 @@
 //! The ticker: ends parked calls whose deadline is past.
 
 ghost use Rattle.std.specs.Prelude.{◌≡◌, None};
-ghost use Rattle.ipc_server.specs.Begun.{BeginsWith};
+ghost use Rattle.ipc_server.specs.Begun.{GoesOnByTicks};
 
 use ipc_book::{Seat, Shared, StepFault};
 use std::alloc::Global;
@@ -10,8 +10,14 @@ use std::sync::ledger::Ledger;
 
 /// What a ticker goes by.
 pub trait Clock {
+    ghost use Rattle.std.specs.Prelude.{ℕ, ⊤};
+
+    // Which moments it may show, where that is known.
+    ghost may_show: { Self → ℕ → Type 0 } = { λ _ _. ⊤ };
+
     /// The moment that it is, in milliseconds.
-    fn moment(&self) -> u64;
+    fn moment(&self) -> u64
+        ensures { may_show self.now result };
 
     /// Lets some time pass. False where the ticker is to end.
     fn pause(&self) -> bool;
@@ -19,7 +25,7 @@ pub trait Clock {
 
 /// Makes ticks through a seat that has no session: at each turn one, if it ends a call, else a pause. A tick that wants
 /// memory is followed by a pause too. Ends where a pause says so, or the seat is stale. The seat comes back without a
-/// session, and its receipts go on from those that it came with.
+/// session. Its receipts go on from those that it came with, by ticks of moments that the clock showed.
 pub fn run_ticker<L: Ledger, R: Wait, C: Clock>(
     rt: &R,
     alloc: Global,
@@ -29,13 +35,13 @@ pub fn run_ticker<L: Ledger, R: Wait, C: Clock>(
 ) -> Seat<L>
     requires { seat.sid ≡ None }
     ensures none { result.sid ≡ None }
-    ensures kept { BeginsWith seat.list result.list }
+    ensures ticks { GoesOnByTicks (C.may_show clock.now) seat.list result.list }
 {
     let mut seat = seat;
     for _ in rt.forever() {
-        let goes_on = match tick_if_due(rt, alloc, shared, &mut seat, clock.moment()) {
-            Ok(true) => true,
-            Ok(false) | Err(StepFault::NoMemory) => clock.pause(),
+        let goes_on = match shared.tick_if_due(rt, alloc, &mut seat, clock.moment()) {
+            Ok(Some(_)) => true,
+            Ok(None) | Err(StepFault::NoMemory) => clock.pause(),
             Err(StepFault::Stale { .. }) => false,
         };
         if !goes_on {
@@ -43,23 +49,4 @@ pub fn run_ticker<L: Ledger, R: Wait, C: Clock>(
         }
     }
     unreachable!()
-}
-
-/// Makes a tick, if it ends a call. Says whether one was made.
-fn tick_if_due<L: Ledger, R: Wait>(
-    rt: &R,
-    alloc: Global,
-    shared: &Shared<L>,
-    seat: &mut Seat<L>,
-    moment: u64,
-) -> Result<bool, StepFault>
-    requires { seat.old.sid ≡ None }
-    ensures none { seat.new.sid ≡ None }
-    ensures kept { BeginsWith seat.old.list seat.new.list }
-{
-    if shared.due(rt, moment).is_none() {
-        return Ok(false);
-    }
-    shared.tick(rt, alloc, seat, moment)?;
-    Ok(true)
 }

@@ -24,13 +24,13 @@ const DEADLINE: u64 = 5;
 
 #[test]
 fn a_ticker_ends_a_wait(rt: HostRuntime) -> Result<(), Fail> {
-    assert!(rt; closed_by(&rt, rt.alloc(), Pair::Ticker)?.records == 6);
+    assert!(rt; closed_by(&rt, rt.alloc(), Pair::Ticker)?.records == 7);
     Ok(())
 }
 
 #[test]
 fn a_wait_of_a_connection_ends(rt: HostRuntime) -> Result<(), Fail> {
-    assert!(rt; closed_by(&rt, rt.alloc(), Pair::TimedConnection)?.records == 5);
+    assert!(rt; closed_by(&rt, rt.alloc(), Pair::TimedConnection)?.records == 6);
     Ok(())
 }
 
@@ -57,6 +57,8 @@ struct Stopped {
 }
 
 impl Clock for Stopped {
+    ghost may_show = { λ clock moment. moment ≡ clock.moment };
+
     fn moment(&self) -> u64 {
         self.moment
     }
@@ -108,14 +110,14 @@ fn tick_twice<L: Ledger, R: Wait + Abort>(
 }
 
 /// Session 1 waits until the deadline, and a ticker ends that: the session is told, and its bell is rung, and not that of the
-/// session before it.
+/// session before it. A second wait, until a moment later, is not over.
 pub(crate) fn tick_beside<L: Ledger, R: Wait + Abort>(
     rt: &R,
     alloc: Global,
     book: &Shared<L>,
 ) -> Result<(Seat<L>, Seat<L>), Fail> {
     let seat = left_seat(rt, alloc, book).ok_or("a seat that was left")?;
-    let waiter = act(rt, alloc, book, b"kb1", calls_of_waiter(alloc)?).ok_or("a waiter")?;
+    let mut waiter = act(rt, alloc, book, b"kb1", calls_of_waiter(alloc)?).ok_or("a waiter")?;
     let older = Arc::new(alloc, Bell::new())?;
     let bell = Arc::new(alloc, Bell::new())?;
     book.add_bell(rt, Sid(0), &older)?;
@@ -123,7 +125,27 @@ pub(crate) fn tick_beside<L: Ledger, R: Wait + Abort>(
     let ticker = tick_twice(rt, alloc, book, seat)?;
     assert!(rt; older.rings() == 0 && bell.rings() == 1);
     assert!(rt; is_timed_out(book.collect(rt, &waiter).as_slice()));
+    wait_again(rt, alloc, book, &mut waiter)?;
     Ok((waiter, ticker))
+}
+
+/// The session waits until a moment after the deadline: it is told nothing, and due then.
+fn wait_again<L: Ledger, R: Wait + Abort>(
+    rt: &R,
+    alloc: Global,
+    book: &Shared<L>,
+    waiter: &mut Seat<L>,
+) -> Result<(), Fail> {
+    let call = Call::SemTimedWait {
+        desc: Desc(0),
+        deadline: DEADLINE + 1,
+    };
+    book.call(rt, alloc, waiter, call)
+        .ok()
+        .ok_or("a second wait")?;
+    assert!(rt; book.collect(rt, waiter).len() == 0 && book.due(rt, DEADLINE).is_none());
+    assert!(rt; book.due(rt, DEADLINE + 1) == Some(Sid(1)));
+    Ok(())
 }
 
 fn is_timed_out(answers: &[Answer]) -> bool {
@@ -141,20 +163,33 @@ fn is_timed_out(answers: &[Answer]) -> bool {
 const REQUESTS: &[u8] =
     b"\0\0\0\x0c\x0b\0\x02/t\x01\x01\x80\0\0\0\0\0\0\0\x11\x1c\0\0\0\0\0\0\0\0\0\0\0\0\0\0\0\x05";
 
+/// A wait until a moment after the deadline.
+const LATER: &[u8] = b"\0\0\0\x11\x1c\0\0\0\0\0\0\0\0\0\0\0\0\0\0\0\x06";
+
 /// A wait ended at its deadline.
 const TIMED_OUT: &[u8] = b"\0\0\0\x03\x4c\0\x20";
 
-/// The end of a stream that comes once the session was told that its wait has ended. It fails, where that does not come.
+/// What the session was told.
 #[derive(Drop)]
-struct EndOfWait<'a, R> {
-    clock: &'a R,
-    told: &'a Sign,
+struct Told {
+    /// Its wait has ended.
+    once: Sign,
+    /// A second one has.
+    twice: Sign,
 }
 
-impl<R: time::Clock> Read for EndOfWait<'_, R> {
-    fn read(&mut self, _buffer: &mut [u8]) -> io::Result<usize> {
-        if self.told.comes(self.clock) {
-            Ok(0)
+/// The rest of a stream, which comes once the session was told that its wait has ended. It fails, where that does not come.
+#[derive(Drop)]
+struct BehindWait<'a, R> {
+    clock: &'a R,
+    told: &'a Told,
+    rest: &'a [u8],
+}
+
+impl<R: time::Clock> Read for BehindWait<'_, R> {
+    fn read(&mut self, buffer: &mut [u8]) -> io::Result<usize> {
+        if self.told.once.comes(self.clock) {
+            self.rest.read(buffer)
         } else {
             Err(io::Error::from(ErrorKind::TimedOut))
         }
@@ -164,13 +199,16 @@ impl<R: time::Clock> Read for EndOfWait<'_, R> {
 /// Tells that a wait has ended.
 #[derive(Drop)]
 struct Teller<'a> {
-    told: &'a Sign,
+    told: &'a Told,
 }
 
 impl Write for Teller<'_> {
     fn write(&mut self, bytes: &[u8]) -> io::Result<usize> {
         if bytes.ends_with(TIMED_OUT) {
-            self.told.give();
+            if self.told.once.is_given() {
+                self.told.twice.give();
+            }
+            self.told.once.give();
         }
         Ok(bytes.len())
     }
@@ -184,10 +222,15 @@ fn serve_waiter<L: Ledger + Send + Sync, R: Threads + Wait + time::Clock + Sync>
     rt: &R,
     alloc: Global,
     book: &Shared<L>,
-    told: &Sign,
+    told: &Told,
 ) -> Option<Served<L>> {
     let seat = book.seat(rt, alloc).ok()?;
-    let reader = HELLO.chain(REQUESTS).chain(EndOfWait { clock: rt, told });
+    let behind = BehindWait {
+        clock: rt,
+        told,
+        rest: LATER,
+    };
+    let reader = HELLO.chain(REQUESTS).chain(behind);
     Some(serve_connection(rt, alloc, book, seat, 0, reader, Teller { told }, &OpenGate))
 }
 
@@ -195,7 +238,7 @@ fn serve_waiter<L: Ledger + Send + Sync, R: Threads + Wait + time::Clock + Sync>
 #[derive(Drop)]
 struct Running<'a, R> {
     clock: &'a R,
-    told: &'a Sign,
+    told: &'a Told,
     turns: AtomicU32,
 }
 
@@ -206,7 +249,7 @@ impl<R: time::Clock> Clock for Running<'_, R> {
 
     fn pause(&self) -> bool {
         wait_a_turn(self.clock);
-        !self.told.is_given() && self.turns.fetch_add(1, Ordering::SeqCst) < MOST_TURNS
+        !self.told.once.is_given() && self.turns.fetch_add(1, Ordering::SeqCst) < MOST_TURNS
     }
 }
 
@@ -214,7 +257,7 @@ fn tick_along<L: Ledger, R: Wait + time::Clock>(
     rt: &R,
     alloc: Global,
     book: &Shared<L>,
-    told: &Sign,
+    told: &Told,
 ) -> Option<Seat<L>> {
     let seat = book.seat(rt, alloc).ok()?;
     let clock = Running {
@@ -225,13 +268,17 @@ fn tick_along<L: Ledger, R: Wait + time::Clock>(
     Some(run_ticker(rt, alloc, book, seat, &clock))
 }
 
-/// A connection is served whose session waits, and its writer writes that the wait has ended once a ticker ends it.
+/// A connection is served whose session waits, and its writer writes that the wait has ended once a ticker ends it. A second
+/// wait, until a moment later, is not over when the stream ends.
 pub(crate) fn serve_beside_ticker<L: Ledger + Send + Sync, R: Threads + Wait + time::Clock + Sync>(
     rt: &R,
     alloc: Global,
     book: &Shared<L>,
 ) -> Result<(Seat<L>, Seat<L>), Fail> {
-    let made = Sign::new();
+    let made = Told {
+        once: Sign::new(),
+        twice: Sign::new(),
+    };
     let told = &made;
     let (served, ticker) = thread::join(
         rt,
@@ -241,6 +288,9 @@ pub(crate) fn serve_beside_ticker<L: Ledger + Send + Sync, R: Threads + Wait + t
     let (served, ticker) = (served.ok_or("a waiter")?, ticker.ok_or("a ticker")?);
     if served.ending != Ending::Closed || ticker.len() != 1 {
         return Err(Fail::new("the wait does not end"));
+    }
+    if told.twice.is_given() {
+        return Err(Fail::new("the second wait ends"));
     }
     Ok((served.seat, ticker))
 }

@@ -10,15 +10,15 @@ use Rattle.std.specs.contracts.alloc.Global as heap
 use Rattle.std.proofs.alloc.Global.TheSendSync as global
 use Rattle.ipc_book.specs.contracts.shared.Shared as shared
 use Rattle.ipc_book.proofs.Crossing.{shared_sync}
-use Rattle.test_server.specs.contracts.tests.signs.Sign as signs
-use Rattle.test_server.proofs.tests.signs.Sign.TheSendSync as told
+use Rattle.test_server.specs.contracts.tests.ticker_tests.Told as tellings
+use Rattle.test_server.proofs.tests.ticker_tests.Told.TheSendSync as told
 use Rattle.test_server.proofs.tests.ticker_tests.serve_beside_ticker.Goals as goal
 
 pub join-served-requires-send-F : goal.join-served-requires-send-F
 join-served-requires-send-F g c κs within =
     let R = param 1 g.row.R in
     let B = shared.the_row (param 0 g.row.L) g.L.Ledger in
-    let S = signs.the_row in
+    let S = tellings.the_row in
     let T = type_at [] (ShrRef (named 6) κs.1.1.1.1.1.1.0 R ∷ heap.the_row ∷ ShrRef (named 7) κs.1.1.1.1.1.1.1.0 B ∷ ShrRef (named 8) κs.1.1.1.1.1.1.1.1.0 S ∷ []) in
     let first = shr_send (named 6) κs.1.1.1.1.1.1.0 R c.type_bounds.sync-R in
     let third = shr_send (named 7) κs.1.1.1.1.1.1.1.0 B (shared_sync (param 0 g.row.L) g.L.Ledger) in
