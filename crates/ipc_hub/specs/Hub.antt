@@ -1,13 +1,16 @@
 -- A hub: many connections over one core. What is seen of it, and what each of its calls makes of it, in the words of
 -- frames (`cut`, `spell_answer`) and of the core (`after_steps`).
-use Rattle.std.specs.Prelude.{◌≡◌, ◌<◌, Bool, true, false, ℕ, List, [], ◌∷◌, ◌++◌, map, take, slice_get, slice_set, Option, Some, None, is_none, is_some, unwrap_or, if◌then◌else◌, MatchOption}
+use Rattle.std.specs.Prelude.{◌≡◌, ◌<◌, Bool, true, false, ℕ, List, [], ◌∷◌, ◌++◌, map, take, slice_get, slice_set, Option, Some, None, is_none, is_some, unwrap_or, if◌then◌else◌, MatchOption, option_and_then}
 use Rattle.std.specs.Option.{option_map}
 use Rattle.ipc_terms.specs.Lists.{changed}
+use Rattle.ipc_terms.specs.History.{record_at}
 use Rattle.ipc_terms.specs.declared.ids.Sid.{Sid}
+use Rattle.ipc_terms.specs.declared.ids.Uid.{Uid}
 use Rattle.ipc_terms.specs.declared.call.Answer.{Answer}
 use Rattle.ipc_terms.specs.declared.call.Answer.TheVariants.{Refused}
 use Rattle.ipc_terms.specs.declared.record.Event.{Event}
 use Rattle.ipc_terms.specs.declared.record.Event.TheVariants as event
+use Rattle.ipc_terms.specs.declared.record.Record.{Record}
 use Rattle.ipc_terms.specs.declared.rule.Rule.TheVariants as rule
 use Rattle.ipc_access.specs.Users.{user_of_key}
 use Rattle.ipc_policy.specs.declared.config.Config.{Config}
@@ -181,6 +184,21 @@ IsOutcome Short a x c b y = StepsSome a x c b y
 IsOutcome Full a x c b y = StepsSome a x c b y
 IsOutcome (Over (Wire fault)) a x c b y = EndsAtFault fault a x c b y
 IsOutcome (Over BadKey) a x c b y = EndsAtHello a x c b y
+
+-- ---- who came
+
+-- the user whose key a hello brings, if it is a hello and one was found
+abbrev pub user_of_hello : Event → Option Uid
+user_of_hello (event.Hello found) = found
+user_of_hello e = None
+
+-- the user whose session a record starts: that of an accepted hello
+abbrev pub user_started : Record → Option Uid
+user_started r = if is_none r.rule then user_of_hello r.event else None
+
+-- the user whose session the record at this place started, if it did
+abbrev pub started_at : Hub → ℕ → Option Uid
+started_at hub place = option_and_then user_started (record_at place hub.core.history)
 
 -- ---- the calls
 

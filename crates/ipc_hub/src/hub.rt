@@ -6,7 +6,7 @@ ghost use Rattle.ipc_state.specs.NextDeadline.{IsNextDeadline, EndsOncePast};
 ghost use Rattle.ipc_policy.specs.Bodies.{due};
 ghost use Rattle.ipc_policy.specs.Verdict.{Legal};
 ghost use Rattle.ipc_core.specs.Outboxes.{BoxesAgree};
-ghost use Rattle.ipc_hub.specs.Hub.{new_hub, with_connection, untaken_at, is_over_at, is_marked, IsGone, fault_of_change, fault_of_take, IsFaultOr, Feeds, HangsUp, Takes, Names, Ticks};
+ghost use Rattle.ipc_hub.specs.Hub.{new_hub, with_connection, untaken_at, is_over_at, is_marked, started_at, IsGone, fault_of_change, fault_of_take, IsFaultOr, Feeds, HangsUp, Takes, Names, Ticks};
 ghost use Rattle.ipc_hub.specs.Sessions.{EachHasItsOwn};
 ghost use Rattle.ipc_hub.specs.Stepping.{is_full, IsWithin};
 ghost use Rattle.ipc_hub.specs.declared.fed.Fed.TheVariants.{Full};
@@ -16,7 +16,7 @@ use crate::connection::Connection;
 use crate::fed::{Fed, HubFault};
 use crate::marked_core::MarkedCore;
 use ipc_core::{Config, CoreFault};
-use ipc_terms::Event;
+use ipc_terms::{Event, Record, Uid};
 use std::alloc::Global;
 use std::marker::Model;
 
@@ -229,6 +229,21 @@ impl Hub {
         ensures { result ≡ length self.now.core.history }
     {
         self.core.core().trail().len()
+    }
+
+    /// The user whose session the event at this place of the trail started; places count from 0. `None` where no accepted
+    /// hello stands there. A connection's hello is the first event of the feed that steps it, so it stands where `recorded`
+    /// was before.
+    pub fn started_at(&self, place: usize) -> Option<Uid>
+        ensures { result ≡ started_at self.now place }
+    {
+        match self.core.core().trail().get(place)? {
+            Record {
+                event: Event::Hello { found },
+                rule: None,
+            } => *found,
+            _ => None,
+        }
     }
 
     /// Whether the connection is over.

@@ -29,6 +29,13 @@ fn least_line(alloc: Global, hub: &Hub) -> Result<String, AllocError> {
     }
 }
 
+fn started_line(alloc: Global, hub: &Hub, place: u64) -> Result<String, AllocError> {
+    match hub.started_at(place as usize) {
+        Some(user) => format!(in alloc; "started {}\n", user.0),
+        None => String::from_str(alloc, "started none\n"),
+    }
+}
+
 /// The frames that are taken behind two bytes, which stay where there is no such connection.
 fn taken_behind(alloc: Global, hub: &mut Hub, conn: Conn) -> Result<String> {
     let mut bytes = Vec::from_slice(alloc, b"\xab\xcd")?;
@@ -56,7 +63,7 @@ fn answer_to(alloc: Global, hub: &mut Hub, line: &str) -> Result<String> {
 }
 
 /// The answer to `feed`, `feed_some`, `hang_up`, `take`, `take_into` or `look` with a connection's number, and the
-/// digits of what is fed, or to `tick` or `due` with a moment.
+/// digits of what is fed, to `tick` or `due` with a moment, or to `started` with a place of the trail.
 fn answer_with(alloc: Global, hub: &mut Hub, call: &str, rest: &str) -> Result<String> {
     let (number, digits) = rest.split_once(' ').unwrap_or((rest, ""));
     let number = number.parse::<u64>()?;
@@ -69,6 +76,7 @@ fn answer_with(alloc: Global, hub: &mut Hub, call: &str, rest: &str) -> Result<S
         "feed_some" => return fed_some(alloc, hub, conn, digits),
         "take_into" => return taken_behind(alloc, hub, conn),
         "look" => line_of(alloc, hub, conn, Call::Look),
+        "started" => started_line(alloc, hub, number),
         "due" => format!(in alloc; "due {}\n", hub.due(number)),
         "hang_up" => line_of(alloc, hub, conn, Call::HangUp),
         "tick" => line_of(alloc, hub, conn, Call::Tick(number)),
