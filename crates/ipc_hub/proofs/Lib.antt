@@ -12,5 +12,6 @@ pub mod FrameLists
 pub mod CallLists
 pub mod LawLemmas
 pub mod RunLemmas
+pub mod RefusalLemmas
 pub mod GoneLemmas
 pub mod StreamLemmas

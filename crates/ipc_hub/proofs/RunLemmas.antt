@@ -90,7 +90,7 @@ record ChangesOutput (a : CoreView) (x : Connection) (b : CoreView) (y : Connect
   same : (sid : Sid) (given : List ℕ) → x.session ≡ Some sid → HasGiven a sid given → HasGiven b sid (given ++ out)
   starts : (sid : Sid) → x.session ≡ None → y.session ≡ Some sid → (x.is_over ≡ false) × (out ≡ []) × HasGiven b sid []
 
-no_session : (s t : Option Sid) → ((sid : Sid) → s ≡ Some sid → t ≡ Some sid) → t ≡ None → s ≡ None
+pub no_session : (s t : Option Sid) → ((sid : Sid) → s ≡ Some sid → t ≡ Some sid) → t ≡ None → s ≡ None
 no_session None t stays none = refl
 no_session (Some sid) t stays none = absurd (let wrong : ◌≡◌ {A = Option Sid} None (Some sid) = sym none ∙ stays sid refl in cc)
 
@@ -342,11 +342,11 @@ taken_kept old new j bytes i given f k =
     }
 
 -- what one call gives, and what is given then
-abbrev given_by : ℕ → Call → List ℕ
+abbrev pub given_by : ℕ → Call → List ℕ
 given_by i (Gave j bytes) = cond (eqb j i) bytes []
 given_by i call = []
 
-output_is : (i : ℕ) (call : Call) (calls : List Call) → output_of i (call ∷ calls) ≡ given_by i call ++ output_of i calls
+pub output_is : (i : ℕ) (call : Call) (calls : List Call) → output_of i (call ∷ calls) ≡ given_by i call ++ output_of i calls
 output_is i Opened calls = refl
 output_is i (TookPiece j piece fed) calls = refl
 output_is i (HungUp j) calls = refl

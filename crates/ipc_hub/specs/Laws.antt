@@ -1,8 +1,10 @@
 -- What follows from the calls of a hub, over any number of them: from the bytes that come in to those that go out.
 use Rattle.std.specs.Prelude.{◌≡◌, ◌==◌, Bool, true, false, ℕ, List, [], ◌∷◌, ◌++◌, slice_get, Some, None, if◌then◌else◌}
 use Rattle.ipc_terms.specs.declared.ids.Sid.{Sid}
+use Rattle.ipc_terms.specs.declared.call.Answer.TheVariants.{Refused}
 use Rattle.ipc_terms.specs.declared.record.Event.{Event}
 use Rattle.ipc_terms.specs.declared.record.Event.TheVariants as event
+use Rattle.ipc_terms.specs.declared.rule.Rule.TheVariants.{BadKey}
 use Rattle.ipc_policy.specs.declared.config.Config.{Config}
 use Rattle.ipc_policy.specs.History.{History}
 use Rattle.ipc_policy.specs.Verdict.{outbox}
@@ -72,6 +74,16 @@ EachOutputIsTheOutbox =
     (c : Config) (calls : List Call) (hub : Hub) (i : ℕ) (x : Connection) (sid : Sid) → first_bad c.limits ≡ None →
     MakesAll calls (new_hub c) hub → slice_get hub.connections i ≡ Some x → x.session ≡ Some sid →
     GivesOutbox hub x sid (output_of i calls)
+
+-- a connection that has no session gave nothing, or the frame of the refusal of its hello, once
+abbrev pub GivesOneRefusal : List ℕ → Type 0
+GivesOneRefusal given = (left : List ℕ) × (spell_answers (Refused BadKey ∷ []) ≡ Some (given ++ left))
+
+abbrev pub EachStrangerIsRefused : Type 0
+EachStrangerIsRefused =
+    (c : Config) (calls : List Call) (hub : Hub) (i : ℕ) (x : Connection) → first_bad c.limits ≡ None →
+    MakesAll calls (new_hub c) hub → slice_get hub.connections i ≡ Some x → x.session ≡ None →
+    GivesOneRefusal (output_of i calls)
 
 -- the requests of a session's calls in a history, the oldest first
 abbrev pub call_in : ℕ → Event → List Request

@@ -1,6 +1,6 @@
 //! Laws of hubs. The functions do nothing when they run: what they ensure is what is proved.
 
-ghost use Rattle.ipc_hub.specs.Laws.{CutAnyWay, EachStreamIsStepped, EachOutputIsTheOutbox, WhoIsGoneStaysGone};
+ghost use Rattle.ipc_hub.specs.Laws.{CutAnyWay, EachStreamIsStepped, EachOutputIsTheOutbox, EachStrangerIsRefused, WhoIsGoneStaysGone};
 
 /// What was stepped of a stream and what is kept of it go on, whatever comes, as if the stream had come in one
 /// piece: so a connection steps the requests of its whole stream, however that was cut.
@@ -18,6 +18,11 @@ pub fn stream_is_stepped()
 /// session was answered while it was live, however its stream was cut.
 pub fn output_is_the_outbox()
     ensures { EachOutputIsTheOutbox }
+{}
+
+/// Whatever calls a hub made, a connection without a session gave nothing, or the frame of the refusal of its hello, once.
+pub fn stranger_is_refused()
+    ensures { EachStrangerIsRefused }
 {}
 
 /// Whatever calls a hub makes, a connection that is over, and has nothing that it could take, is answered nothing more.

@@ -9,3 +9,4 @@ pub mod TurnLemmas
 pub mod OpeningLemmas
 pub mod KeepingLemmas
 pub mod AcceptingLemmas
+pub mod RoundLemmas

@@ -3,6 +3,7 @@
 
 mod accepting;
 mod ending;
+pub mod laws;
 mod links;
 mod pausing;
 mod port;
