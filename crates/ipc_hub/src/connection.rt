@@ -1,6 +1,6 @@
 //! What a hub keeps of a connection.
 
-ghost use Rattle.std.specs.Prelude.{◌≡◌, ◌++◌, ◌<◌, ◌≤◌, [], false, true, drop, is_none, length, None, Some, IsSome, IfOk, OnOk, OnErr, vec_len};
+ghost use Rattle.std.specs.Prelude.{◌≡◌, ◌++◌, ◌<◌, ◌≤◌, [], false, true, drop, is_none, is_some, length, None, Some, IsSome, IfOk, OnOk, OnErr, vec_len};
 ghost use Rattle.ipc_core.specs.Outboxes.{after_steps};
 ghost use Rattle.ipc_fields.specs.Field.{◌⊕◌};
 ghost use Rattle.ipc_wire.specs.Streams.{cut};
@@ -174,6 +174,17 @@ impl Connection {
         match &self.stage {
             Stage::Open(_) => false,
             Stage::Ended(_) | Stage::Refused | Stage::Closed => true,
+        }
+    }
+
+    /// Whether its hello was accepted.
+    pub fn has_session(&self) -> bool
+        ensures { result ≡ is_some self.now.session }
+    {
+        match &self.stage {
+            Stage::Open(stream) => stream.session.is_some(),
+            Stage::Ended(_) => true,
+            Stage::Refused | Stage::Closed => false,
         }
     }
 

@@ -255,6 +255,15 @@ impl Hub {
         Ok(self.connections[i].is_over())
     }
 
+    /// Whether the connection has a session, or had one: whether its hello was accepted.
+    pub fn has_session(&self, conn: Conn) -> Result<bool, HubFault>
+        ensures ok { IfOk result (λ b. option_map (λ x. is_some x.session) (slice_get self.now.connections conn.0) ≡ Some b) }
+        ensures fault { IfErr result (λ fault. fault_of_take (slice_get self.now.connections conn.0) ≡ Some fault) }
+    {
+        let i = self.place_of(conn)?;
+        Ok(self.connections[i].has_session())
+    }
+
     /// How many answers the connection has not taken.
     pub fn untaken(&self, conn: Conn) -> Result<usize, HubFault>
         ensures ok { IfOk result (λ n. n ≡ length (untaken_at self.now conn.0)) }
