@@ -6,6 +6,7 @@ and a last line with the counts; the status is 1 where one is not as it must be.
 
 import argparse
 import contextlib
+import fcntl
 import os
 import pathlib
 import re
@@ -27,6 +28,7 @@ SECONDS = 60
 SECONDS_OF_AN_ANSWER = 4
 LITTLE_MEMORY, FEW_CALLS = 64 << 20, 100_000
 MANY = 200
+AT_ONCE, ROUNDS = 8, 5
 
 HELLO, UMASK, SEM_OPEN, STARTED, MASK = 1, 2, 11, 65, 68
 MQ_OPEN, MQ_SEND, MQ_TIMED_RECEIVE = 3, 6, 27
@@ -61,16 +63,34 @@ def is_same(what, found, wanted):
 
 
 @contextlib.contextmanager
-def serving(programs, address, *words, memory=None):
-    """A server that says that it serves, within so many bytes of memory. It is ended if it hasn't ended by itself."""
+def started(programs, address, *words, prepare=None):
+    """A server, which may serve already. `prepare` is called in its process before. It is ended if it hasn't ended by itself."""
     command = programs.command("mqserve", ["serve", str(USERS), address, *words])
-    limit = memory and (lambda: resource.setrlimit(resource.RLIMIT_AS, (memory, memory)))
-    with subprocess.Popen(command, stdout=subprocess.PIPE, stderr=subprocess.PIPE, preexec_fn=limit) as server:
+    with subprocess.Popen(command, stdout=subprocess.PIPE, stderr=subprocess.PIPE, preexec_fn=prepare) as server:
         try:
-            is_same("the first line", server.stdout.readline(), f"serving {address}\n".encode())
             yield server
         finally:
             server.kill()
+
+
+@contextlib.contextmanager
+def serving(programs, address, *words, memory=None, mask=None):
+    """A server that says that it serves, within so many bytes of memory, and with this mask for files."""
+
+    def prepare():
+        if memory:
+            resource.setrlimit(resource.RLIMIT_AS, (memory, memory))
+        if mask is not None:
+            os.umask(mask)
+
+    with started(programs, address, *words, prepare=prepare) as server:
+        says_so(server, address)
+        yield server
+
+
+def says_so(server, address):
+    """The server says that it serves."""
+    is_same("the first line", server.stdout.readline(), f"serving {address}\n".encode())
 
 
 def ends(server, served):
@@ -331,36 +351,126 @@ def mode_of(path):
     return stat.S_IMODE(os.stat(path).st_mode)
 
 
+def path_of(address):
+    return address[len("unix:") :]
+
+
+def files_beside(address):
+    """The names in the folder of the socket's file."""
+    return sorted(os.listdir(os.path.dirname(path_of(address))))
+
+
 def mode_and_end(programs, address, *words):
-    """The file's mode is 0600 or what is asked for, and the file goes with the server."""
-    path = address[len("unix:") :]
-    for options, mode in (((), 0o600), (("--socket-mode", "0666"), 0o666), (("--socket-mode", "0060"), 0o060)):
-        with serving(programs, address, "--stop-after", "1", *options, *words) as server:
-            is_same("mode", mode_of(path), mode)
-            connect(address).close()
-            ends(server, 1)
-        is_same("the file is there", os.path.lexists(path), False)
+    """The file's mode is 0600 or what is asked for, whatever the process's mask, and nothing is left once the server ended."""
+    for mask in (0o022, 0o077, 0):
+        for options, mode in (((), 0o600), (("--socket-mode", "0666"), 0o666), (("--socket-mode", "0060"), 0o060)):
+            with serving(programs, address, "--stop-after", "1", *options, *words, mask=mask) as server:
+                is_same("mode", mode_of(path_of(address)), mode)
+                is_same("mode of the lock", mode_of(path_of(address) + ".lock"), 0o600)
+                connect(address).close()
+                ends(server, 1)
+            is_same("files", files_beside(address), [])
 
 
 def left_over(programs, address, *words):
-    """A socket that nobody listens at is replaced."""
-    with socket.socket(socket.AF_UNIX) as gone:
-        gone.bind(address[len("unix:") :])
+    """A socket that nobody listens at is replaced: one of another program, and one of a server that was killed, with its lock."""
+    leave_behind(address)
     two_clients(programs, address, *words)
+    with serving(programs, address, *words):
+        pass
+    is_same("files of a server that was killed", files_beside(address), ["socket", "socket.lock"])
+    two_clients(programs, address, *words)
+    is_same("files", files_beside(address), [])
+
+
+def leave_behind(address):
+    """Leaves a socket that nobody listens at."""
+    with socket.socket(socket.AF_UNIX) as gone:
+        gone.bind(path_of(address))
 
 
 def taken(programs, address, *words):
-    """A socket that somebody listens at stays, and its server goes on; also where that accepts nobody."""
-    with serving(programs, address, "--stop-after", "3", *words) as server:
-        for others in ([], ONE_THREAD):
-            fails(programs, address, *others)
-        is_same("refused", told(programs, address, "ka1", "mq-getattr", "0"), b"refused 8 EBADF BadDescr\n")
-        ends(server, 3)
+    """A server's socket stays, whoever else is to start there, and it isn't told of them: its one connection is a client's."""
+    with tempfile.TemporaryDirectory() as room:
+        file = pathlib.Path(room, "log")
+        with serving(programs, address, "--stop-after", "1", "--log", str(file), *words) as server:
+            for others in ([], ONE_THREAD):
+                fails(programs, address, *others)
+            is_same("lines before a client", file.read_text(), "")
+            is_same("refused", told(programs, address, "ka1", "mq-getattr", "0"), b"refused 8 EBADF BadDescr\n")
+            ends(server, 1)
+
+
+def taken_by_another(programs, address, *words):
+    """A socket that another program listens at stays, also where the process that has the lock is no server."""
+    with socket.socket(socket.AF_UNIX) as other:
+        other.bind(path_of(address))
+        other.listen()
+        fails(programs, address, *words)
+        connect(address).close()
+    is_same("files", files_beside(address), ["socket"])
+
+
+def no_lock(programs, address, *words):
+    """Without its lock a server doesn't start, and waits for nothing: where somebody has it, and where it is no plain file."""
+    lock = pathlib.Path(path_of(address) + ".lock")
+    with lock.open("w") as file:
+        fcntl.flock(file, fcntl.LOCK_EX)
+        fails(programs, address, *words)
+    lock.unlink()
+    os.mkfifo(lock)
+    fails(programs, address, *words)
+    lock.unlink()
+    lock.symlink_to(USERS)
+    fails(programs, address, *words)
+    is_same("files", files_beside(address), [lock.name])
+
+
+def exchanged(programs, address, *words):
+    """A socket that was put in the place of the server's own stays when the server ends, and so does its lock."""
+    path = path_of(address)
+    with serving(programs, address, "--stop-after", "1", *words) as server, socket.socket(socket.AF_UNIX) as other:
+        with connect(address):
+            for file in (path, path + ".lock"):
+                os.unlink(file)
+            pathlib.Path(path + ".lock").touch()
+            other.bind(path)
+            other.listen()
+        ends(server, 1)
+        connect(address).close()
+    is_same("files", files_beside(address), ["socket", "socket.lock"])
+
+
+def at_once(programs, address, *words):
+    """Of servers that start at once over a socket that was left over one serves, and clients reach it."""
+    for _ in range(ROUNDS):
+        leave_behind(address)
+        with contextlib.ExitStack() as stack:
+            begin = lambda: stack.enter_context(started(programs, address, "--stop-after", "1", *words))
+            servers = [begin() for _ in range(AT_ONCE)]
+            [server] = one_left(servers)
+            says_so(server, address)
+            is_same("refused", told(programs, address, "ka1", "mq-getattr", "0"), b"refused 8 EBADF BadDescr\n")
+            ends(server, 1)
+        is_same("files", files_beside(address), [])
+
+
+def one_left(servers):
+    """The servers that haven't ended once all others have, or after a few seconds."""
+    late = time.monotonic() + SECONDS_OF_AN_ANSWER
+    while True:
+        left = [server for server in servers if server.poll() is None]
+        if len(left) == 1 or time.monotonic() > late:
+            is_same("how many serve", len(left), 1)
+            faults = {(server.stderr.read(), server.returncode) for server in servers if server not in left}
+            is_same("faults and status of the others", faults, {(b"mqserve: net\n", 4)})
+            return left
+        time.sleep(0.01)
 
 
 def no_socket(programs, address, *words):
     """A file that is no socket stays, and a link to one."""
-    path = pathlib.Path(address[len("unix:") :])
+    path = pathlib.Path(path_of(address))
     path.write_text("kept")
     fails(programs, address, *words)
     link = path.with_suffix(".link")
@@ -386,6 +496,10 @@ AT_A_FILE = {
     "the file's mode and its end": (mode_and_end, KINDS),
     "a socket that is left over": (left_over, KINDS),
     "a socket that is in use": (taken, KINDS),
+    "a socket of another program": (taken_by_another, KINDS),
+    "a lock that can't be had": (no_lock, KINDS),
+    "a socket that is exchanged": (exchanged, KINDS),
+    "servers that start at once": (at_once, KINDS),
     "a file that is no socket": (no_socket, KINDS),
 }
 

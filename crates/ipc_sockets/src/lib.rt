@@ -3,9 +3,11 @@
 
 mod clock;
 mod files;
+mod identity;
+mod locks;
 mod sockets;
 mod streams;
 
 pub use clock::moment;
-pub use files::{UNIX, listen_at_file, path_of, remove_file_of};
+pub use files::{SocketFile, UNIX, listen_at_file, path_of};
 pub use sockets::Sockets;

@@ -1,16 +1,18 @@
 //! Sockets by their numbers, and what waits for them.
 
 use crate::clock::moment;
-use crate::files::{listen_at_file, path_of};
+use crate::files::{SocketFile, listen_at_file, path_of};
 use crate::streams::{Listener, Stream};
 use ipc_loop::{Ending, Host, Ready};
 use mio::event::Event;
 use mio::net::UnixListener;
 use mio::{Events, Poll, Token};
 use std::alloc::Global;
+use std::fs::File;
 use std::io;
 use std::io::ErrorKind;
 use std::net::{Net, SocketAddr};
+use std::os::unix;
 use std::rt::Files;
 use std::time::{Clock, Duration};
 
@@ -26,6 +28,8 @@ pub struct Sockets<'a, R> {
     rt: &'a R,
     poll: Poll,
     listener: Listener,
+    /// The file that is listened at, if it is one.
+    file: Option<SocketFile>,
     /// By their numbers, of which none is used twice.
     links: Vec<Option<Stream>>,
     events: Events,
@@ -33,21 +37,22 @@ pub struct Sockets<'a, R> {
     told: usize,
 }
 
-impl<'a, R: Files + Net> Sockets<'a, R> {
+impl<'a, R: Files<File = File> + Net> Sockets<'a, R> {
     /// Listens at `HOST:PORT`, the first that can be bound, or at `unix:PATH`, a file which gets these permission bits (see
     /// `listen_at_file`). No connection can be lost for want of room in the kernel's queue before the system's own limit.
+    /// An `Err` leaves no file.
     pub fn bind(rt: &'a R, alloc: Global, address: &str, mode: u32) -> io::Result<Self> {
         let events = Events::with_capacity(alloc, MOST_EVENTS)?;
         let poll = Poll::new(rt)?;
-        let mut listener = match path_of(address) {
-            Some(path) => at_file(rt, path, mode)?,
-            None => Listener::over_tcp(rt, address)?,
+        let (listener, file) = match path_of(address) {
+            Some(path) => at_file(rt, alloc, &poll, path, mode)?,
+            None => (over_tcp(rt, &poll, address)?, None),
         };
-        listener.register(poll.registry(), LISTENER)?;
         Ok(Sockets {
             rt,
             poll,
             listener,
+            file,
             links: Vec::new(alloc),
             events,
             told: 0,
@@ -55,10 +60,46 @@ impl<'a, R: Files + Net> Sockets<'a, R> {
     }
 }
 
-fn at_file<R: Files + Net>(rt: &R, path: &str, mode: u32) -> io::Result<Listener> {
-    let listener = listen_at_file(rt, path, mode)?;
+/// A listener over TCP, of which a wait tells.
+fn over_tcp<N: Net>(net: &N, poll: &Poll, address: &str) -> io::Result<Listener> {
+    let mut listener = Listener::over_tcp(net, address)?;
+    listener.register(poll.registry(), LISTENER)?;
+    Ok(listener)
+}
+
+/// A listener at a file, of which a wait tells.
+fn at_file<R: Files<File = File> + Net>(
+    rt: &R,
+    alloc: Global,
+    poll: &Poll,
+    path: &str,
+    mode: u32,
+) -> io::Result<(Listener, Option<SocketFile>)> {
+    let (listener, file) = listen_at_file(rt, alloc, path, mode)?;
+    match prepared(listener, poll) {
+        Ok(listener) => Ok((listener, Some(file))),
+        Err(error) => {
+            file.remove(rt);
+            Err(error)
+        }
+    }
+}
+
+/// The listener, which never waits, and of which a wait tells.
+fn prepared(listener: unix::net::UnixListener, poll: &Poll) -> io::Result<Listener> {
     listener.set_nonblocking(true)?;
-    Ok(Listener::Unix(UnixListener::from_std(listener)))
+    let mut listener = Listener::Unix(UnixListener::from_std(listener));
+    listener.register(poll.registry(), LISTENER)?;
+    Ok(listener)
+}
+
+impl<R: Files> Sockets<'_, R> {
+    /// Removes the file that was listened at, if it is still the one that was made.
+    pub fn finish(&mut self) {
+        if let Some(file) = self.file.take() {
+            file.remove(self.rt);
+        }
+    }
 }
 
 impl<R> Sockets<'_, R> {

@@ -7,7 +7,7 @@ use ipc_core::Config;
 use ipc_loop::Server;
 use ipc_program::{ProgramFault, Serving};
 use ipc_script::ScriptFault;
-use ipc_sockets::{Sockets, remove_file_of};
+use ipc_sockets::Sockets;
 use std::fs::File;
 use std::net::Net;
 use std::rt::Files;
@@ -30,7 +30,7 @@ pub fn serve_on_one_thread<
     let log = open_log(rt, &serving.log, connections);
     let mut sockets = LoggedSockets { sockets, log: &log };
     let served = work(rt, address, &mut server, &mut sockets);
-    remove_file_of(rt, address);
+    sockets.sockets.finish();
     served
 }
 

@@ -13,7 +13,7 @@ use ipc_core::Config;
 use ipc_program::{ProgramFault, Serving, Threading};
 use ipc_script::ScriptFault;
 use ipc_server::{Journal, Link, Listen, OpenGate, WorkersFault, run_workers_with_journal};
-use ipc_sockets::{listen_at_file, path_of, remove_file_of};
+use ipc_sockets::{listen_at_file, path_of};
 use std::alloc::Global;
 use std::fs::File;
 use std::marker::Brand;
@@ -91,7 +91,7 @@ fn serve_by_workers<
 fn serve_book<
     L: Ledger + Send + Sync,
     R: AllocGlobal
-        + Files
+        + Files<File = File>
         + Print
         + Net<Listener = TcpListener, Stream = TcpStream>
         + Threads
@@ -124,12 +124,12 @@ fn serve_book<
         };
         return work(rt, serving, workers, &listener, journal, &shared);
     };
-    let listener = match listen_at_file(rt, path, serving.socket_mode) {
-        Ok(listener) => listener,
+    let (listener, file) = match listen_at_file(rt, rt.alloc(), path, serving.socket_mode) {
+        Ok(listening) => listening,
         Err(error) => return Err(ProgramFault::of_address(&error)),
     };
     let served = work(rt, serving, workers, &listener, journal, &shared);
-    remove_file_of(rt, serving.address.as_str());
+    file.remove(rt);
     served
 }
 
