@@ -33,8 +33,8 @@ pub struct Sockets<'a, R> {
     /// By their numbers, of which none is used twice.
     links: Vec<Option<Stream>>,
     events: Events,
-    /// How many of the events were told.
-    told: usize,
+    /// What the last wait found and isn't told yet, the last first.
+    ready: Vec<Ready>,
 }
 
 impl<'a, R: Files<File = File> + Net> Sockets<'a, R> {
@@ -43,6 +43,7 @@ impl<'a, R: Files<File = File> + Net> Sockets<'a, R> {
     /// An `Err` leaves no file.
     pub fn bind(rt: &'a R, alloc: Global, address: &str, mode: u32) -> io::Result<Self> {
         let events = Events::with_capacity(alloc, MOST_EVENTS)?;
+        let ready = Vec::with_capacity(alloc, MOST_EVENTS)?;
         let poll = Poll::new(rt)?;
         let (listener, file) = match path_of(address) {
             Some(path) => at_file(rt, alloc, &poll, path, mode)?,
@@ -55,7 +56,7 @@ impl<'a, R: Files<File = File> + Net> Sockets<'a, R> {
             file,
             links: Vec::new(alloc),
             events,
-            told: 0,
+            ready,
         })
     }
 }
@@ -153,14 +154,16 @@ impl<R: Clock> Host for Sockets<'_, R> {
     }
 
     fn wait(&mut self, pause: Option<Duration>) -> io::Result<()> {
-        self.told = 0;
-        self.poll.poll(&mut self.events, pause)
+        self.ready.clear();
+        self.poll.poll(&mut self.events, pause)?;
+        for event in self.events.iter().rev() {
+            self.ready.push(ready(event))?;
+        }
+        Ok(())
     }
 
     fn next_ready(&mut self) -> Option<Ready> {
-        let event = *self.events.iter().nth(self.told)?;
-        self.told = self.told.saturating_add(1);
-        Some(ready(&event))
+        self.ready.pop()
     }
 
     fn moment(&mut self) -> u64 {
