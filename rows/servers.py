@@ -29,11 +29,12 @@ SECONDS_OF_AN_ANSWER = 4
 LITTLE_MEMORY, FEW_CALLS = 64 << 20, 100_000
 MANY = 200
 AT_ONCE, ROUNDS = 8, 5
+MUCH = 300_000
 
 HELLO, UMASK, SEM_OPEN, STARTED, MASK = 1, 2, 11, 65, 68
 MQ_OPEN, MQ_SEND, MQ_TIMED_RECEIVE = 3, 6, 27
 OPENED, SENT, RECEIVED, REFUSED = 67, 70, 71, 76
-TIMED_OUT = 32
+BAD_KEY, TIMED_OUT = 31, 32
 ONE_THREAD = ["--one-thread"]
 
 
@@ -327,6 +328,21 @@ def log(programs, address, *words):
     is_same("the log", re.sub(r"127\.0\.0\.1:\d+", "127.0.0.1:PORT", lines), wanted)
 
 
+def much_behind(programs, address, *words):
+    """Who sends much behind a bad key reads the refusal, and then the end of the stream. Where it doesn't end its own, the
+    server does so after a second."""
+    with serving(programs, address, "--stop-after", "2", *words) as server:
+        for size in (MUCH, 0):
+            with connect(address) as stream:
+                stream.sendall(frame(HELLO, b"\0\4none") + bytes(size))
+                is_same("rule", is_answer(stream, REFUSED), struct.pack(">H", BAD_KEY))
+                is_same("the end", stream.recv(1), b"")
+                if size == 0:
+                    asked = time.monotonic()
+                    ends(server, 2)
+                    is_same("too late", time.monotonic() - asked > SECONDS_OF_AN_ANSWER, False)
+
+
 def readme_workers(programs, address, *words):
     """README.md's program in Python: each letter goes to one of three workers."""
     blocks = re.findall(r"(?m)(?:^(?:    .*)?\n)+", (TOP / "README.md").read_text())
@@ -490,6 +506,7 @@ ANYWHERE = {
     "no memory": (without_memory, {"one thread": ONE_THREAD}),
     "a stream in two parts": (in_two_parts, {"workers": ["--workers", "2"], "one thread": ONE_THREAD}),
     "a log at the end of a file": (log, KINDS),
+    "much behind a bad key": (much_behind, {"one thread": ONE_THREAD}),
     "README.md's workers": (readme_workers, {"one thread": ONE_THREAD}),
 }
 AT_A_FILE = {

@@ -4,6 +4,7 @@
 mod clock;
 mod files;
 mod identity;
+mod lingering;
 mod locks;
 mod sockets;
 mod streams;

@@ -2,6 +2,7 @@
 
 use crate::clock::moment;
 use crate::files::{SocketFile, listen_at_file, path_of};
+use crate::lingering::LingeringStreams;
 use crate::streams::{Listener, Stream};
 use ipc_loop::{Ending, Host, Ready};
 use mio::event::Event;
@@ -32,6 +33,8 @@ pub struct Sockets<'a, R> {
     file: Option<SocketFile>,
     /// By their numbers, of which none is used twice.
     links: Vec<Option<Stream>>,
+    /// Links that were closed while bytes of their peers may have been unread.
+    lingering: LingeringStreams,
     events: Events,
     /// What the last wait found and isn't told yet, the last first.
     ready: Vec<Ready>,
@@ -44,6 +47,7 @@ impl<'a, R: Files<File = File> + Net> Sockets<'a, R> {
     pub fn bind(rt: &'a R, alloc: Global, address: &str, mode: u32) -> io::Result<Self> {
         let events = Events::with_capacity(alloc, MOST_EVENTS)?;
         let ready = Vec::with_capacity(alloc, MOST_EVENTS)?;
+        let lingering = LingeringStreams::new(alloc)?;
         let poll = Poll::new(rt)?;
         let (listener, file) = match path_of(address) {
             Some(path) => at_file(rt, alloc, &poll, path, mode)?,
@@ -55,6 +59,7 @@ impl<'a, R: Files<File = File> + Net> Sockets<'a, R> {
             listener,
             file,
             links: Vec::new(alloc),
+            lingering,
             events,
             ready,
         })
@@ -94,11 +99,16 @@ fn prepared(listener: unix::net::UnixListener, poll: &Poll) -> io::Result<Listen
     Ok(listener)
 }
 
-impl<R: Files> Sockets<'_, R> {
-    /// Removes the file that was listened at, if it is still the one that was made.
+impl<R: Files + Clock> Sockets<'_, R> {
+    /// Removes the file that was listened at, if it is still there, and waits until no stream lingers: a second at most.
     pub fn finish(&mut self) {
         if let Some(file) = self.file.take() {
             file.remove(self.rt);
+        }
+        for _ in 0..u64::MAX {
+            if self.lingering.is_empty() || self.wait(None).is_err() {
+                return;
+            }
         }
     }
 }
@@ -147,18 +157,30 @@ impl<R: Clock> Host for Sockets<'_, R> {
         link.write(bytes)
     }
 
-    fn close(&mut self, number: u64, _ending: Ending) {
-        if let Some(place) = self.links.get_mut(number as usize) {
-            *place = None;
+    fn close(&mut self, number: u64, ending: Ending) {
+        let Some(place) = self.links.get_mut(number as usize) else {
+            return;
+        };
+        if let Some(link) = place.take() {
+            if may_leave_unread(ending) {
+                self.lingering.add(self.rt, number, link);
+            }
         }
     }
 
     fn wait(&mut self, pause: Option<Duration>) -> io::Result<()> {
         self.ready.clear();
+        let pause = self.lingering.shorten(self.rt, pause);
         self.poll.poll(&mut self.events, pause)?;
         for event in self.events.iter().rev() {
-            self.ready.push(ready(event))?;
+            keep(
+                ready(event),
+                &self.links,
+                &mut self.lingering,
+                &mut self.ready,
+            )?;
         }
+        self.lingering.go_on(self.rt);
         Ok(())
     }
 
@@ -168,6 +190,31 @@ impl<R: Clock> Host for Sockets<'_, R> {
 
     fn moment(&mut self) -> u64 {
         moment(self.rt)
+    }
+}
+
+/// Keeps what is to be told. A link that was closed may linger, and isn't told of.
+fn keep(
+    found: Ready,
+    links: &[Option<Stream>],
+    lingering: &mut LingeringStreams,
+    kept: &mut Vec<Ready>,
+) -> io::Result<()> {
+    if let Ready::Link { number, .. } = found {
+        if !matches!(links.get(number as usize), Some(Some(_))) {
+            lingering.note(number);
+            return Ok(());
+        }
+    }
+    kept.push(found)?;
+    Ok(())
+}
+
+/// Whether bytes of the peer may be unread where a link ends so.
+fn may_leave_unread(ending: Ending) -> bool {
+    match ending {
+        Ending::BadKey | Ending::Wire(_) | Ending::NoMemory | Ending::TooMuchUnfinished => true,
+        Ending::Closed | Ending::ReadFailed | Ending::WriteFailed => false,
     }
 }
 
