@@ -328,6 +328,28 @@ def log(programs, address, *words):
     is_same("the log", re.sub(r"127\.0\.0\.1:\d+", "127.0.0.1:PORT", lines), wanted)
 
 
+def log_in_a_fifo(programs, address, *words):
+    """A log that nobody reads yet holds the start up, and nobody can connect before."""
+    with tempfile.TemporaryDirectory() as room:
+        file = os.path.join(room, "log")
+        os.mkfifo(file)
+        with started(programs, address, "--stop-after", "1", "--log", file, *words) as server:
+            is_nobody_there(address)
+            with open(file) as lines:
+                says_so(server, address)
+                connect(address).close()
+                ends(server, 1)
+                is_same("lines", len(lines.readlines()), 2)
+
+
+def is_nobody_there(address):
+    """Nobody listens at the address, and not 300 ms later."""
+    time.sleep(0.3)
+    with contextlib.suppress(ConnectionRefusedError, FileNotFoundError):
+        connect(address).close()
+        raise Wrong("somebody listens")
+
+
 def much_behind(programs, address, *words):
     """Who sends much behind a bad key reads the refusal, and then the end of the stream. Where it doesn't end its own, the
     server does so after a second."""
@@ -506,6 +528,7 @@ ANYWHERE = {
     "no memory": (without_memory, {"one thread": ONE_THREAD}),
     "a stream in two parts": (in_two_parts, {"workers": ["--workers", "2"], "one thread": ONE_THREAD}),
     "a log at the end of a file": (log, KINDS),
+    "a log in a FIFO": (log_in_a_fifo, KINDS),
     "much behind a bad key": (much_behind, {"one thread": ONE_THREAD}),
     "README.md's workers": (readme_workers, {"one thread": ONE_THREAD}),
 }

@@ -23,11 +23,12 @@ pub fn serve_on_one_thread<
         Err(fault) => return Err(ScriptFault::from(fault).into()),
     };
     let address = serving.address.as_str();
+    // It may wait, at a FIFO, so it comes before anybody can connect.
+    let log = open_log(rt, &serving.log, connections);
     let sockets = match Sockets::bind(rt, rt.alloc(), address, serving.socket_mode) {
         Ok(sockets) => sockets,
         Err(error) => return Err(ProgramFault::of_address(&error)),
     };
-    let log = open_log(rt, &serving.log, connections);
     let mut sockets = LoggedSockets { sockets, log: &log };
     let served = work(rt, address, &mut server, &mut sockets);
     sockets.sockets.finish();
