@@ -30,6 +30,8 @@ LITTLE_MEMORY, FEW_CALLS = 64 << 20, 100_000
 MANY = 200
 AT_ONCE, ROUNDS = 8, 5
 MUCH = 300_000
+# As /proc/net/tcp has them.
+KEEPALIVE, MINUTE = 2, 6_000
 
 HELLO, UMASK, SEM_OPEN, STARTED, MASK = 1, 2, 11, 65, 68
 MQ_OPEN, MQ_SEND, MQ_TIMED_RECEIVE = 3, 6, 27
@@ -365,6 +367,25 @@ def much_behind(programs, address, *words):
                     is_same("too late", time.monotonic() - asked > SECONDS_OF_AN_ANSWER, False)
 
 
+def probed(programs, address, *words):
+    """The system probes a client that is silent for a minute."""
+    with serving(programs, address, "--stop-after", "1", *words) as server:
+        with connect(address) as stream:
+            kind, ticks = timer_of(server_end=stream.getpeername(), client_end=stream.getsockname())
+            is_same("timer", (kind, ticks <= MINUTE), (KEEPALIVE, True))
+        ends(server, 1)
+
+
+def timer_of(server_end, client_end):
+    """The kind of the timer of the server's end of a connection, and after how many hundredths of a second it goes off."""
+    for line in pathlib.Path("/proc/net/tcp").read_text().splitlines()[1:]:
+        _, local, remote, _, _, timer, *_ = line.split()
+        if [int(end.split(":")[1], 16) for end in (local, remote)] == [server_end[1], client_end[1]]:
+            kind, ticks = timer.split(":")
+            return int(kind, 16), int(ticks, 16)
+    raise Wrong("the connection has no line in /proc/net/tcp")
+
+
 def readme_workers(programs, address, *words):
     """README.md's program in Python: each letter goes to one of three workers."""
     blocks = re.findall(r"(?m)(?:^(?:    .*)?\n)+", (TOP / "README.md").read_text())
@@ -532,6 +553,9 @@ ANYWHERE = {
     "much behind a bad key": (much_behind, {"one thread": ONE_THREAD}),
     "README.md's workers": (readme_workers, {"one thread": ONE_THREAD}),
 }
+OVER_TCP = {
+    "a client that is silent": (probed, KINDS),
+}
 AT_A_FILE = {
     "the file's mode and its end": (mode_and_end, KINDS),
     "a socket that is left over": (left_over, KINDS),
@@ -550,9 +574,10 @@ def all_cases():
         for kind, words in kinds.items():
             for place in ("TCP", "a file"):
                 yield f"{what}, {kind}, over {place}", case, place, words
-    for what, (case, kinds) in AT_A_FILE.items():
-        for kind, words in kinds.items():
-            yield f"{what}, {kind}", case, "a file", words
+    for place, cases in (("TCP", OVER_TCP), ("a file", AT_A_FILE)):
+        for what, (case, kinds) in cases.items():
+            for kind, words in kinds.items():
+                yield f"{what}, {kind}", case, place, words
 
 
 def judged(programs, case, place, words):

@@ -1,5 +1,6 @@
 //! Unix sockets, which are files.
 
+use crate::calls::done;
 use crate::identity::Identity;
 use crate::locks::Lock;
 use mio::net::UnixStream;
@@ -115,14 +116,6 @@ fn open_up<R: Files>(
         fs::set_permissions(rt, path, Permissions::from_mode(mode))?;
     }
     done(libc::net::listen(socket.as_raw_fd(), MOST_WAITING))
-}
-
-/// What a call of the system says by 0 or -1.
-fn done(status: i32) -> io::Result<()> {
-    if status < 0 {
-        return Err(io::Error::other("a call on a socket failed"));
-    }
-    Ok(())
 }
 
 /// Removes a socket at which nobody listens.

@@ -2,6 +2,7 @@
 
 ghost use Rattle.std.specs.Io.{ReadsAtMost, WritesAtMost};
 
+use crate::keepalive::probe_silent_peers;
 use mio::net::{TcpListener, TcpStream, UnixListener, UnixStream};
 use mio::{Interest, Registry, Token};
 use std::io;
@@ -23,16 +24,11 @@ pub enum Stream {
 }
 
 impl Listener {
-    /// Binds the first of the address's that can be bound.
+    /// Binds the first of the address's that can be bound. Peers that are silent are probed.
     pub fn over_tcp<N: Net>(net: &N, address: &str) -> io::Result<Listener> {
-        let mut last = io::Error::from(ErrorKind::InvalidInput);
-        for address in address.to_socket_addrs(net)? {
-            match TcpListener::bind(net, address) {
-                Ok(listener) => return Ok(Listener::Tcp(listener)),
-                Err(error) => last = error,
-            }
-        }
-        Err(last)
+        let listener = bind_first(net, address)?;
+        probe_silent_peers(&listener)?;
+        Ok(Listener::Tcp(listener))
     }
 
     /// The next connection, or `WouldBlock` where none waits. An answer goes out at once, and not with the next one
@@ -59,6 +55,17 @@ impl Listener {
             Listener::Unix(listener) => registry.register(listener, token, Interest::READABLE),
         }
     }
+}
+
+fn bind_first<N: Net>(net: &N, address: &str) -> io::Result<TcpListener> {
+    let mut last = io::Error::from(ErrorKind::InvalidInput);
+    for address in address.to_socket_addrs(net)? {
+        match TcpListener::bind(net, address) {
+            Ok(listener) => return Ok(listener),
+            Err(error) => last = error,
+        }
+    }
+    Err(last)
 }
 
 impl Stream {

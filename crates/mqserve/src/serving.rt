@@ -13,7 +13,7 @@ use ipc_core::Config;
 use ipc_program::{ProgramFault, Serving, Threading};
 use ipc_script::ScriptFault;
 use ipc_server::{Journal, Link, Listen, OpenGate, WorkersFault, run_workers_with_journal};
-use ipc_sockets::{listen_at_file, path_of};
+use ipc_sockets::{listen_at_file, path_of, probe_silent_peers};
 use std::alloc::Global;
 use std::fs::File;
 use std::marker::Brand;
@@ -23,7 +23,7 @@ use std::sync::Wait;
 use std::sync::ledger::{Blank, Ledger};
 use std::thread::Threads;
 use std::time::Clock;
-use std::{fs, thread};
+use std::{fs, io, thread};
 
 /// Serves as many connections as are asked for, or until none can be accepted any more, and says how many were served.
 pub fn serve<
@@ -118,7 +118,7 @@ fn serve_book<
     };
     let shared = Shared::new(book);
     let Some(path) = path_of(serving.address.as_str()) else {
-        let listener = match TcpListener::bind(rt, serving.address.as_str()) {
+        let listener = match bind(rt, serving.address.as_str()) {
             Ok(listener) => listener,
             Err(error) => return Err(ProgramFault::of_address(&error)),
         };
@@ -131,6 +131,16 @@ fn serve_book<
     let served = work(rt, serving, workers, &listener, journal, &shared);
     file.remove(rt);
     served
+}
+
+/// Listens over TCP. Peers that are silent are probed.
+fn bind<R: Net<Listener = TcpListener, Stream = TcpStream>>(
+    rt: &R,
+    address: &str,
+) -> io::Result<TcpListener> {
+    let listener = TcpListener::bind(rt, address)?;
+    probe_silent_peers(&listener)?;
+    Ok(listener)
 }
 
 /// The users of a file.
