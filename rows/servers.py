@@ -29,7 +29,7 @@ SECONDS_OF_AN_ANSWER = 4
 LITTLE_MEMORY, FEW_CALLS = 64 << 20, 100_000
 MANY = 200
 AT_ONCE, ROUNDS = 8, 5
-MUCH = 300_000
+MUCH, MANY_REFUSED = 300_000, 40
 # As /proc/net/tcp has them.
 KEEPALIVE, MINUTE = 2, 6_000
 
@@ -345,11 +345,13 @@ def log_in_a_fifo(programs, address, *words):
 
 
 def is_nobody_there(address):
-    """Nobody listens at the address, and not 300 ms later."""
-    time.sleep(0.3)
-    with contextlib.suppress(ConnectionRefusedError, FileNotFoundError):
-        connect(address).close()
-        raise Wrong("somebody listens")
+    """Nobody listens at the address for a second."""
+    late = time.monotonic() + 1
+    while time.monotonic() < late:
+        with contextlib.suppress(ConnectionRefusedError, FileNotFoundError):
+            connect(address).close()
+            raise Wrong("somebody listens")
+        time.sleep(0.05)
 
 
 def much_behind(programs, address, *words):
@@ -365,6 +367,19 @@ def much_behind(programs, address, *words):
                     asked = time.monotonic()
                     ends(server, 2)
                     is_same("too late", time.monotonic() - asked > SECONDS_OF_AN_ANSWER, False)
+
+
+def refused_who_stay(programs, address, *words):
+    """Many who are refused and stay read the refusal and the end of the stream at once, and others are served."""
+    with serving(programs, address, "--stop-after", str(MANY_REFUSED + 1), *words) as server, contextlib.ExitStack() as stack:
+        streams = [stack.enter_context(connect(address)) for _ in range(MANY_REFUSED)]
+        for stream in streams:
+            stream.sendall(frame(HELLO, b"\0\4none"))
+        for stream in streams:
+            is_same("rule", is_answer(stream, REFUSED), struct.pack(">H", BAD_KEY))
+            is_same("the end", stream.recv(1), b"")
+        is_same("refused", told(programs, address, "ka1", "mq-getattr", "0"), b"refused 8 EBADF BadDescr\n")
+        ends(server, MANY_REFUSED + 1)
 
 
 def probed(programs, address, *words):
@@ -507,7 +522,7 @@ def at_once(programs, address, *words):
         with contextlib.ExitStack() as stack:
             begin = lambda: stack.enter_context(started(programs, address, "--stop-after", "1", *words))
             servers = [begin() for _ in range(AT_ONCE)]
-            [server] = one_left(servers)
+            server = one_left(servers)
             says_so(server, address)
             is_same("refused", told(programs, address, "ka1", "mq-getattr", "0"), b"refused 8 EBADF BadDescr\n")
             ends(server, 1)
@@ -515,15 +530,15 @@ def at_once(programs, address, *words):
 
 
 def one_left(servers):
-    """The servers that haven't ended once all others have, or after a few seconds."""
-    late = time.monotonic() + SECONDS_OF_AN_ANSWER
+    """The one that hasn't ended once all others have."""
+    late = time.monotonic() + SECONDS
     while True:
         left = [server for server in servers if server.poll() is None]
         if len(left) == 1 or time.monotonic() > late:
             is_same("how many serve", len(left), 1)
             faults = {(server.stderr.read(), server.returncode) for server in servers if server not in left}
             is_same("faults and status of the others", faults, {(b"mqserve: net\n", 4)})
-            return left
+            return left[0]
         time.sleep(0.01)
 
 
@@ -551,6 +566,7 @@ ANYWHERE = {
     "a log at the end of a file": (log, KINDS),
     "a log in a FIFO": (log_in_a_fifo, KINDS),
     "much behind a bad key": (much_behind, {"one thread": ONE_THREAD}),
+    "refused clients that stay": (refused_who_stay, {"one thread": ONE_THREAD}),
     "README.md's workers": (readme_workers, {"one thread": ONE_THREAD}),
 }
 OVER_TCP = {
