@@ -3,9 +3,19 @@
 import dataclasses
 import signal
 import subprocess
+from typing import List, NamedTuple
 
 # A run that takes longer has failed.
 SECONDS = 60
+
+
+class Fault(NamedTuple):
+    """What a program may say and how it may end where a call fails."""
+
+    words: List[str]
+    status: int
+    # All calls from there on fail, and not one alone.
+    lasts: bool = False
 
 
 @dataclasses.dataclass
@@ -15,6 +25,12 @@ class Ended:
     status: int
     # What each client of a server was sent.
     got: tuple = ()
+    # A server went on without a connection until it was ended.
+    is_idle: bool = False
+    # A server that ended well left the file of its address.
+    is_left: bool = False
+    # A file was read again of which a read had failed.
+    is_again: bool = False
 
 
 def first_difference(given, wanted):
@@ -54,13 +70,13 @@ class Program:
             return f"standard output: {first_difference(ended.out, self.out)}"
         return "" if ended.status == self.status else f"status {ended.status}, and not {self.status}"
 
-    def stopped_difference(self, ended, words, status):
+    def stopped_difference(self, ended, fault):
         """Where the run does other than one that stops by such a fault, or nothing."""
         if ended.status < 0:
             return f"ended by {signal.Signals(-ended.status).name}"
-        said = [f"{self.program}: {word}\n".encode() for word in words]
-        if ended.err not in said or ended.status != status:
-            return f"status {ended.status} and {ended.err!r}, and not {status} and one of {said!r}"
+        said = [f"{self.program}: {word}\n".encode() for word in fault.words]
+        if ended.err not in said or ended.status != fault.status:
+            return f"status {ended.status} and {ended.err!r}, and not {fault.status} and one of {said!r}"
         is_whole = not ended.out or ended.out.endswith(b"\n")
         is_first = is_whole and self.out.startswith(ended.out)
         return "" if is_first else f"what it printed are not the first lines: {first_difference(ended.out, self.out)}"
@@ -72,6 +88,8 @@ class Program:
     def difference(self, ended, fault):
         """Where a run in which a call was disturbed does other than it may, or nothing."""
         whole = self.whole_difference(ended)
-        if not whole or not fault or self.again:
+        if not fault or self.again:
             return whole
-        return self.stopped_difference(ended, *fault)
+        if ended.is_again:
+            return "makes a read again that failed"
+        return whole and self.stopped_difference(ended, fault)

@@ -5,9 +5,9 @@
  *               or kept or bytes: nothing is disturbed
  * DISTURB_AT    which one, counted from 1 over the whole process
  * DISTURB_TIMES how many, with that one; without it, one
- * DISTURB_TOLD  a file descriptor that gets a byte once that one was met; of kept, a line with how many allocations there are,
- *               each time that there are more than ever before; of bytes, a line with how many bytes are allocated, at each
- *               write that ends a line
+ * DISTURB_TOLD  a file descriptor that gets a byte, '!', once that one was met, and another, '?', where a file is read again of
+ *               which a read failed; of kept, a line with how many allocations there are, each time that there are more than ever
+ *               before; of bytes, a line with how many bytes are allocated, at each write that ends a line
  * DISTURB_PIECE the most bytes of a read or a write; without it there is no such bound
  *
  * It counts every call of the C library's allocator, whoever makes it, and never one that only frees.
@@ -38,6 +38,8 @@ enum way { FAILS, SHORT, INTERRUPTED };
 static enum call disturbed_call = NONE;
 static enum way disturbed_way;
 static int told;
+/* The file of which a read failed, as long as it is open. */
+static atomic_int failed_file = -1;
 static long times = 1;
 static atomic_long left, kept, most_kept, bytes_kept;
 static size_t piece = SIZE_MAX;
@@ -175,27 +177,39 @@ int posix_memalign(void **made, size_t alignment, size_t size)
 }
 
 /* How many of so many bytes a call may transfer; -1 where it fails, with errno. */
-static ssize_t room(enum call call, size_t count)
+static ssize_t room(enum call call, int file, size_t count)
 {
     if (count > piece)
         count = piece;
+    if (call == READ && file == atomic_load(&failed_file))
+        syscall(SYS_write, told, "?", 1);
     if (!is_met(call))
         return count;
     if (disturbed_way == SHORT)
         return count ? 1 : 0;
+    if (call == READ && disturbed_way == FAILS)
+        atomic_store(&failed_file, file);
     errno = disturbed_way == FAILS ? EIO : EINTR;
     return -1;
 }
 
+/* Another file may get the number of one that is closed. */
+int close(int file)
+{
+    int same = file;
+    atomic_compare_exchange_strong(&failed_file, &same, -1);
+    return syscall(SYS_close, file);
+}
+
 ssize_t read(int file, void *bytes, size_t count)
 {
-    ssize_t most = room(READ, count);
+    ssize_t most = room(READ, file, count);
     return most < 0 ? -1 : syscall(SYS_read, file, bytes, most);
 }
 
 ssize_t write(int file, const void *bytes, size_t count)
 {
-    ssize_t most = room(WRITE, count);
+    ssize_t most = room(WRITE, file, count);
     if (disturbed_call == BYTES && count && ((const char *)bytes)[count - 1] == '\n')
         tell(atomic_load(&bytes_kept));
     return most < 0 ? -1 : syscall(SYS_write, file, bytes, most);
@@ -203,12 +217,12 @@ ssize_t write(int file, const void *bytes, size_t count)
 
 ssize_t recv(int socket, void *bytes, size_t count, int flags)
 {
-    ssize_t most = room(READ, count);
+    ssize_t most = room(READ, socket, count);
     return most < 0 ? -1 : recvfrom(socket, bytes, most, flags, NULL, NULL);
 }
 
 ssize_t send(int socket, const void *bytes, size_t count, int flags)
 {
-    ssize_t most = room(WRITE, count);
+    ssize_t most = room(WRITE, socket, count);
     return most < 0 ? -1 : sendto(socket, bytes, most, flags, NULL, 0);
 }

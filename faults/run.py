@@ -8,11 +8,12 @@ refused too. Each run is judged by itself:
 - mqserve and mqctl, over NAME.in, print NAME.out; or, where memory is refused or a read or a write fails, they end with
   the status and the words of that, and what they have printed by then are the first lines of NAME.out.
 - mqserve serve, with two clients one after the other, ends so too, or with status 0: then each client got the first of
-  its answers. mqctl ADDRESS KEY has a server that answers at once.
-- A short or interrupted read or write changes nothing.
+  its answers. It serves by a worker and on one thread, over TCP and at a Unix socket. One thread that is refused memory for good
+  may also accept nobody any more, and go on. mqctl ADDRESS KEY has a server that answers at once.
+- A short or interrupted read or write changes nothing, and no file is read again of which a read failed.
 
-Of mqserve serve, growths are also refused so many times one after another that the server's last try of a hello, a step or a
-hang-up is the first that is granted, or the last that is refused: `tries`. And of many connections, one after another, no
+Of mqserve serve over TCP, growths are also refused so many times one after another that the server's last try of a hello, a step
+or a hang-up is the first that is granted, or the last that is refused: `tries`. And of many connections, one after another, no
 allocation may be left: `kept`.
 
 Prints a line for each way, one for each run that fails, and the counts; the status is 1 where one failed, or where few
@@ -21,6 +22,7 @@ were met. The programs are looked for in crates/NAME/out; `--programs FOLDER` gi
 
 import argparse
 import concurrent.futures
+import dataclasses
 import itertools
 import os
 import pathlib
@@ -28,8 +30,8 @@ import subprocess
 import sys
 import tempfile
 
-from programs import Program
-from served import Client, Server, answers_of, frame, short_talk
+from programs import Fault, Program
+from served import Client, Loopback, Server, UnixSocket, answers_of, frame, short_talk
 from tries import tries_differences
 
 HERE = pathlib.Path(__file__).resolve().parent
@@ -44,9 +46,17 @@ ALL = 10**9
 ALLOCATION = "allocation"
 # How each way is said, and the program's words and exit status where it can't go on. A connection's reads and writes are the
 # network's.
-MEMORY = (["memory"], 5)
-FAILING = {"read-fails": (["read", "net"], 4), "write-fails": (["write", "net"], 4)}
+MEMORY = Fault(["memory"], 5)
+FAILING = {"read-fails": Fault(["read", "net"], 4), "write-fails": Fault(["write", "net"], 4)}
 HARMLESS = ["read-short", "read-interrupted", "write-short", "write-interrupted"]
+
+# How servers serve, and at which addresses.
+SERVERS = [
+    ("mqserve serve", ("--workers", "1"), Loopback),
+    ("mqserve serve unix:PATH", ("--workers", "1"), UnixSocket),
+    ("mqserve serve --one-thread", ("--one-thread",), Loopback),
+    ("mqserve serve unix:PATH --one-thread", ("--one-thread",), UnixSocket),
+]
 
 # How many connections a server has whose allocations are counted, and how many allocations more a hundred may leave.
 FEW, MANY, LEFT = 10, 110, 20
@@ -68,16 +78,23 @@ def programs(folder):
     script = ["script", "--queues-max", "256"]
     yield Program("mqserve", at("mqserve"), script, beside("mqserve", ".in"), beside("mqserve", ".out"), 0)
     yield Program("mqctl", at("mqctl"), [], beside("mqctl", ".in"), beside("mqctl", ".out"), 1)
-    yield server(at("mqserve"))
+    yield from servers(at("mqserve"))
     refused = frame(b"\x4c\0\x08")
     lines, printed = b"umask 000\nmq-close 7\n-\n", b"mask 022\nrefused 8 EBADF BadDescr\nfault usage\n"
     answers = answers_of(short_talk(0)) + refused
     yield Client("mqctl ADDRESS KEY", at("mqctl"), ["ka1"], lines, printed, 1, answers=answers)
 
 
-def server(file, **more):
-    out = b"serving ADDRESS\nserved %d\n" % len(more.get("talks", Server.talks))
-    return Server("mqserve serve", file, [TOP / "demo" / "users"], b"", out, 0, **more)
+def servers(file):
+    """The servers, each way and at each kind of address."""
+    out = b"serving ADDRESS\nserved %d\n" % len(Server.talks)
+    for name, how, kind in SERVERS:
+        yield Server(name, file, [TOP / "demo" / "users"], b"", out, 0, how=how, kind=kind)
+
+
+def with_talks(server, talks):
+    """The same with other clients."""
+    return dataclasses.replace(server, talks=talks, out=b"serving ADDRESS\nserved %d\n" % len(talks))
 
 
 def library_in(room):
@@ -100,6 +117,7 @@ def run(program, library, what, at, times=1):
         os.close(writer)
         with os.fdopen(reader, "rb") as end:
             said = end.read()
+    ended.is_again = b"?" in said
     return ended, said
 
 
@@ -142,22 +160,22 @@ def ways_of(program):
     """The ways in which calls of the program are disturbed: each with its fault, if it is one, and how many calls."""
     yield ALLOCATION, MEMORY, 1
     if not program.again:
-        yield ALLOCATION, MEMORY, ALL
+        yield ALLOCATION, MEMORY._replace(lasts=True), ALL
         yield from ((what, fault, 1) for what, fault in FAILING.items())
     yield from ((what, None, 1) for what in HARMLESS)
 
 
-def kept_difference(file, library):
+def kept_difference(server, library):
     """Where connections that are over leave allocations, or nothing."""
     most = []
     for count in (FEW, MANY):
-        program = server(file, talks=(short_talk,) * count)
+        program = with_talks(server, (short_talk,) * count)
         ended, said = run(program, library, "kept", 1)
         differs = program.whole_difference(ended)
         if differs or not said:
             return differs or "nothing was counted"
         most.append(max(map(int, said.split())))
-    print(f"mqserve serve, kept: {most[0]} allocations at most with {FEW} connections, {most[1]} with {MANY}", flush=True)
+    print(f"{server.name}, kept: {most[0]} allocations at most with {FEW} connections, {most[1]} with {MANY}", flush=True)
     return "" if most[1] - most[0] <= LEFT else "connections that are over leave allocations"
 
 
@@ -177,14 +195,14 @@ def room_difference(file, library):
     return "" if max(taken, gone_on) - new <= ROOM else "values that are gone leave room"
 
 
-def server_differences(pool, jobs, file, library):
+def server_differences(pool, jobs, server, library):
     """What else differs of a server."""
     def outcome(at, times):
-        ended, said = run(server(file), library, ALLOCATION, at, times)
+        ended, said = run(server, library, ALLOCATION, at, times)
         return bool(said), ended
 
-    yield from tries_differences(server(file), lambda judge: each_in_turn(pool, jobs, judge), outcome)
-    yield kept_difference(file, library)
+    yield from tries_differences(server, lambda judge: each_in_turn(pool, jobs, judge), outcome)
+    yield kept_difference(server, library)
 
 
 def main():
@@ -205,8 +223,8 @@ def main():
                 failed += amiss
                 allocations += met if way[0] == ALLOCATION else 0
                 transfers += met if way[0] != ALLOCATION else 0
-            if isinstance(program, Server):
-                for why in filter(None, server_differences(pool, asked.jobs, program.file, library)):
+            if isinstance(program, Server) and program.kind is Loopback:
+                for why in filter(None, server_differences(pool, asked.jobs, program, library)):
                     print(f"{program.name}: {why}")
                     failed += 1
         if not asked.names or "bench_calls" in asked.names:

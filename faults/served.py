@@ -1,16 +1,24 @@
-"""A server over loopback and its clients, as programs that run with calls disturbed."""
+"""Servers, over loopback or at a Unix socket, and their clients, as programs that run with calls disturbed."""
 
 import contextlib
 import dataclasses
 import itertools
+import os
+import pathlib
 import socket
 import subprocess
+import tempfile
 import threading
 
 from programs import SECONDS, Ended, Program
 
-# Each run has an address of its own, so that none waits for another's port.
+# How long a client of one thread waits where growths are refused for good: nobody is accepted then for whom there is no memory. A
+# server that can't record a hang-up for a second ends before.
+PATIENCE = 5
+
+# Each run has an address of its own, so that none waits for another's port or file.
 _numbers = itertools.count(1)
+_room = tempfile.TemporaryDirectory(prefix="faults-")
 
 
 def own_address():
@@ -24,6 +32,49 @@ def free_port():
 
 
 PORT = free_port()
+
+
+class Loopback:
+    """An address over TCP."""
+
+    def __init__(self):
+        self.host = own_address()
+        self.told = f"{self.host}:{PORT}".encode()
+
+    def connect(self, seconds):
+        return socket.create_connection((self.host, PORT), timeout=seconds)
+
+    def is_left(self):
+        return False
+
+    def remove(self):
+        pass
+
+
+class UnixSocket:
+    """A socket that is a file."""
+
+    def __init__(self):
+        self.path = pathlib.Path(_room.name, f"{next(_numbers)}.socket")
+        self.told = b"unix:%s" % os.fsencode(self.path)
+
+    def connect(self, seconds):
+        stream = socket.socket(socket.AF_UNIX)
+        stream.settimeout(seconds)
+        try:
+            stream.connect(str(self.path))
+        except BaseException:
+            stream.close()
+            raise
+        return stream
+
+    def is_left(self):
+        return self.path.exists()
+
+    def remove(self):
+        """Takes away what a server left that was stopped, and what stands beside its socket."""
+        for left in self.path.parent.glob(f"{self.path.name}*"):
+            left.unlink()
 
 
 def frame(body):
@@ -65,10 +116,10 @@ def is_beginning(got, frames, is_cut):
     return any(got == answers_of(frames[:count]) for count in range(len(frames) + 1))
 
 
-def exchange(address, requests):
-    """Sends the requests, and gives what comes until the server ends the connection."""
+def exchange(address, requests, seconds):
+    """Sends the requests, and gives what comes until the server ends the connection, or nothing comes for so long."""
     got = b""
-    with contextlib.suppress(OSError), socket.create_connection(address, timeout=SECONDS) as connection:
+    with contextlib.suppress(OSError), address.connect(seconds) as connection:
         # The server may hang up before it has read all.
         with contextlib.suppress(OSError):
             connection.sendall(requests)
@@ -78,46 +129,74 @@ def exchange(address, requests):
     return got
 
 
+def files_of(process):
+    """How many files it has open; none where it has ended."""
+    with contextlib.suppress(OSError):
+        return len(os.listdir(f"/proc/{process.pid}/fd"))
+    return 0
+
+
 @dataclasses.dataclass
 class Server(Program):
-    """mqserve serve, with one worker, and clients one after the other."""
+    """mqserve serve, and clients one after the other."""
 
     talks: tuple = (talk, short_talk)
+    how: tuple = ("--workers", "1")
+    kind: type = Loopback
+
+    @property
+    def is_one_thread(self):
+        return "--one-thread" in self.how
 
     def run(self, environment, pass_fds):
-        address = (own_address(), PORT)
-        told = b"%s:%d" % (address[0].encode(), PORT)
-        words = ["--workers", "1", "--stop-after", str(len(self.talks))]
-        command = [self.file, "serve", *self.arguments, told, *words]
+        address = self.kind()
+        is_patient = not self.is_one_thread or int(environment["DISTURB_TIMES"]) == 1
+        command = [self.file, "serve", *self.arguments, address.told, *self.how, "--stop-after", str(len(self.talks))]
         pipes = {"stdin": subprocess.DEVNULL, "stdout": subprocess.PIPE, "stderr": subprocess.PIPE}
         with subprocess.Popen(command, pass_fds=pass_fds, env=environment, **pipes) as server:
             timer = threading.Timer(SECONDS, server.kill)
             timer.start()
             try:
-                out, got = server.stdout.readline(), []
-                if out:
+                first, got, is_idle = server.stdout.readline(), [], False
+                files = files_of(server)
+                for one in self.talks if first else ():
                     # What the session's number is doesn't stand in a request.
-                    got = [exchange(address, requests_of(one(0))) for one in self.talks]
+                    got.append(exchange(address, requests_of(one(0)), SECONDS if is_patient else PATIENCE))
+                    is_idle = not is_patient and not got[-1] and server.poll() is None and files_of(server) == files
+                    if is_idle:
+                        server.kill()
+                        break
                 more, err = server.communicate()
             finally:
                 timer.cancel()
                 server.kill()
-        return Ended((out + more).replace(told, b"ADDRESS"), err, server.returncode, tuple(got))
+        is_left = not server.returncode and address.is_left()
+        address.remove()
+        out = (first + more).replace(address.told, b"ADDRESS")
+        return Ended(out, err, server.returncode, tuple(got), is_idle, is_left)
 
     def whole_difference(self, ended):
         wanted = tuple(answers_of(one(session)) for session, one in enumerate(self.talks))
         differs = "" if ended.got == wanted else f"clients got {ended.got!r}"
-        return super().whole_difference(ended) or differs
+        return super().whole_difference(ended) or differs or ("its socket is left" if ended.is_left else "")
 
-    def stopped_difference(self, ended, words, status):
-        """It stops by the fault; or a connection ends early, and the next is served."""
-        is_cut = "write" in words
+    def stopped_difference(self, ended, fault):
+        """It stops by the fault; or a connection ends early, and the next is served. One thread may also accept nobody any more,
+        where memory is refused for good, and go on."""
+        is_cut = "write" in fault.words
+        if ended.is_idle and fault.lasts:
+            is_well = self.out.startswith(ended.out) and not ended.err
+            return self.early_difference(ended, is_cut) if is_well else f"it printed {ended.out!r} and {ended.err!r}"
         if ended.status:
             # A line whose write fails may have been written in part.
             lines = ended.out[: ended.out.rfind(b"\n") + 1]
-            return super().stopped_difference(dataclasses.replace(ended, out=lines) if is_cut else ended, words, status)
+            return super().stopped_difference(dataclasses.replace(ended, out=lines) if is_cut else ended, fault)
         if ended.out != self.out or ended.err:
             return f"status 0, and it printed {ended.out!r} and {ended.err!r}"
+        return self.early_difference(ended, is_cut)
+
+    def early_difference(self, ended, is_cut):
+        """Where a client got what is not the first of its answers, or nothing."""
         for session, (one, got) in enumerate(zip(self.talks, ended.got)):
             # A hello that was refused memory started no session, so the next has its number.
             if not any(is_beginning(got, one(number), is_cut) for number in range(session + 1)):
