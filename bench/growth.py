@@ -4,6 +4,8 @@
 For each kind of thing a script is run with 1,000, 10,000 and 100,000 of them by the program that was built. Prints the
 microseconds of processor time a step, and writes the curves to growth.svg beside this file. An answer that is not the
 one that the script must get ends it, with status 1 and without a figure.
+
+Then it measures rounds of a server on one thread beside parked timed calls, as parked_rounds.py does by itself.
 """
 
 import argparse
@@ -13,6 +15,8 @@ import subprocess
 import sys
 import tempfile
 from pathlib import Path
+
+from parked_rounds import show_rounds
 
 HERE = Path(__file__).resolve().parent
 PROGRAM = HERE.parent / "crates" / "mqserve" / "out" / "mqserve"
@@ -220,6 +224,7 @@ def main():
         print(f"{name:36}" + "".join(f"{cost:12.1f}" for cost in costs), flush=True)
         curves.append((name, costs))
     (HERE / "growth.svg").write_text(plot(curves))
+    show_rounds(PROGRAM, runs)
 
 
 if __name__ == "__main__":

@@ -8,28 +8,24 @@ each part, and at the end tables in Markdown. The status is 1 where anything was
 import argparse
 import collections
 import contextlib
-import ctypes
 import os
 import platform
 import random
 import resource
 import select
 import signal
-import socket
 import struct
 import subprocess
 import sys
 import tempfile
 import time
 from pathlib import Path
-from typing import NamedTuple, Optional
 
 from hostile_client import (
     BOTH,
     CREATE,
     DONE,
     EVE,
-    HOST,
     LONGEST,
     MASK,
     MQ_GETATTR,
@@ -45,10 +41,8 @@ from hostile_client import (
     SEM_WAIT,
     SENT,
     UNKNOWN_KEY,
-    USERS,
     Client,
     Helper,
-    Passed,
     Wrong,
     all_free,
     are_answers,
@@ -72,175 +66,27 @@ from hostile_client import (
     umask,
 )
 
+from hostile_one_thread import ONE_THREAD_PARTS
 from hostile_parts import flood_of_gives, gives_to_the_ended, timed_calls
+from hostile_server import (
+    FREE,
+    MOST_UNFINISHED,
+    SPARE,
+    WORKERS,
+    Row,
+    Setup,
+    measured,
+    serve_to_the_end,
+    serving,
+    wait_until,
+)
 
 PROGRAM = Path(__file__).resolve().parent.parent / "crates" / "mqserve" / "out" / "mqserve"
-
-# Two workers serve the pair, and the others hostile clients.
-WORKERS = 8
-FREE = WORKERS - 2
 
 # Of the whole run, and of the malformed streams.
 MOST_SECONDS, MOST_STREAMING = 290, 120
 
-# A server is to serve so many more than are planned; fresh clients come for the rest.
-SPARE = 10
-
-# What the server keeps on one thread of frames that aren't whole.
-MOST_UNFINISHED = 2**26
-
 LITTLE_ROOM = 4_096  # the room in the kernel that a client asks for which reads nothing
-
-
-# ---- the server
-
-
-class Server(NamedTuple):
-    process: subprocess.Popen
-    port: int
-    output: Path
-    faults: Path
-    stop_after: Optional[int]
-
-    def status(self, name):
-        for line in Path(f"/proc/{self.process.pid}/status").read_text().splitlines():
-            word, value = line.split(":", 1)
-            if word == name:
-                return int(value.split()[0])
-        raise Wrong(f"the kernel doesn't tell the server's {name}")
-
-    def memory(self):
-        """In MiB."""
-        return self.status("VmRSS") / 1024
-
-    def peak(self):
-        return self.status("VmHWM") / 1024
-
-    def forget_peak(self):
-        with contextlib.suppress(OSError):
-            Path(f"/proc/{self.process.pid}/clear_refs").write_text("5")
-
-    def cost(self, before):
-        """Since there was so much memory."""
-        more = f"{self.memory() - before:.1f} MiB more"
-        return f"{more}; {self.files()} files and {self.status('Threads')} threads in all"
-
-    def files(self):
-        return len(os.listdir(f"/proc/{self.process.pid}/fd"))
-
-    def processor_seconds(self):
-        # The name, in brackets, may have spaces.
-        fields = Path(f"/proc/{self.process.pid}/stat").read_text().rpartition(")")[2].split()
-        return (int(fields[11]) + int(fields[12])) / os.sysconf("SC_CLK_TCK")
-
-
-class Setup(NamedTuple):
-    program: Path
-    room: Path
-    is_short: bool
-    # All connections on one thread, in place of workers.
-    is_one_thread: bool
-    dice: random.Random
-    # Each fault of a malformed stream, how many streams had it, and how many answers came before the hang-up.
-    faults: list
-
-    def count(self, whole):
-        return max(1, whole // 100) if self.is_short else whole
-
-    def pause(self):
-        """While others do their work."""
-        time.sleep(0.2 if self.is_short else 2)
-
-
-def free_port():
-    with socket.socket() as probe:
-        probe.bind((HOST, 0))
-        return probe.getsockname()[1]
-
-
-def limits_of(files):
-    """What the server's process does before it starts: it ends with this one, and opens so many files at most."""
-    libc = ctypes.CDLL(None)
-
-    def limit():
-        libc.prctl(1, signal.SIGKILL)  # PR_SET_PDEATHSIG
-        if files:
-            resource.setrlimit(resource.RLIMIT_NOFILE, (files, files))
-
-    return limit
-
-
-@contextlib.contextmanager
-def serving(setup, stop_after=None, workers=WORKERS, files=None):
-    """The server as a process, which is ended by its id."""
-    port, users = free_port(), setup.room / "users"
-    output, faults = setup.room / f"{port}.out", setup.room / f"{port}.err"
-    users.write_text(USERS)
-    words = [setup.program, "serve", users, f"{HOST}:{port}"]
-    words += ["--one-thread"] if setup.is_one_thread else ["--workers", str(workers)]
-    if stop_after:
-        words += ["--stop-after", str(stop_after)]
-    with output.open("w") as out, faults.open("w") as err:
-        process = subprocess.Popen(words, stdin=subprocess.DEVNULL, stdout=out, stderr=err, preexec_fn=limits_of(files))
-    try:
-        wait_until(lambda: output.read_text().endswith("\n") or process.poll() is not None, "the server doesn't start")
-        yield Server(process, port, output, faults, stop_after)
-    except (Wrong, OSError) as fault:
-        if process.poll() is None:
-            raise
-        raise Wrong(f"{fault}; the server has ended, status {process.returncode}: {faults.read_text()}") from fault
-    finally:
-        process.kill()
-        process.wait()
-
-
-def wait_until(is_so, otherwise):
-    start = time.monotonic()
-    while not is_so():
-        if time.monotonic() - start > SECONDS:
-            raise Wrong(otherwise)
-        time.sleep(0.01)
-
-
-def serve_to_the_end(server, part):
-    """Fresh clients come until the server has served as many as it is to serve. Then it must have ended by itself."""
-    count, why = 0, "they were all served"
-    while count <= server.stop_after:
-        try:
-            fresh(server.port)
-        except (OSError, Wrong) as fault:
-            why = fault
-            break
-        count += 1
-    try:
-        status = server.process.wait(SECONDS)
-    except subprocess.TimeoutExpired:
-        raise Wrong(f"no end after {count} fresh clients: {why}") from None
-    last = server.output.read_text().splitlines()[-1]
-    if not count or status or last != f"served {server.stop_after}":
-        raise Wrong(f"{count} fresh clients, status {status}, {last}")
-    print(f"{part}: {last}, of them {count} fresh clients at the end; status 0", flush=True)
-
-
-class Row(NamedTuple):
-    """Of the first table; memory in MiB."""
-
-    clients: str
-    outcome: str
-    passed: Optional[Passed] = None
-    before: float = 0
-    peak: float = 0
-
-
-def measured(server, pair, clients, work):
-    """What the pair passes, and how much memory the server takes, while the hostile clients do their work."""
-    server.forget_peak()
-    before = server.memory()
-    pair.pipe.send("pass")
-    outcome = work() or "–"
-    pair.pipe.send("stop")
-    passed = pair.told()
-    return Row(clients, outcome, passed, before, server.peak())
 
 
 # ---- silence
@@ -728,6 +574,7 @@ PARTS = {
     "deadlines": deadlines,
     "gives": gives,
 }
+ALL_PARTS = {**PARTS, **ONE_THREAD_PARTS}
 
 
 def shown(row):
@@ -757,7 +604,7 @@ def run(setup, names):
     for name in names:
         start = time.monotonic()
         try:
-            for row in PARTS[name](setup):
+            for row in ALL_PARTS[name](setup):
                 rows.append(row)
                 print(shown(row), flush=True)
         except (Wrong, OSError, subprocess.TimeoutExpired) as fault:
@@ -784,13 +631,14 @@ def prepare():
 def main():
     parser = argparse.ArgumentParser(description=__doc__)
     parser.add_argument("--program", type=Path, default=PROGRAM, help="another mqserve")
-    parser.add_argument("--one-thread", action="store_true", help="mqserve serve --one-thread")
+    parser.add_argument("--one-thread", action="store_true", help="mqserve serve --one-thread; with parts that it alone has")
     parser.add_argument("--short", action="store_true", help="a hundredth of the counts")
     parser.add_argument("--seed", type=int, default=1, help="of the malformed streams; 1 where none is given")
-    parser.add_argument("--parts", default=",".join(PARTS), help="some parts, of " + ",".join(PARTS))
+    parser.add_argument("--parts", help="some parts, of " + ",".join(ALL_PARTS))
     given = parser.parse_args()
-    names = given.parts.split(",")
-    if not set(names) <= set(PARTS):
+    parts = ALL_PARTS if given.one_thread else PARTS
+    names = given.parts.split(",") if given.parts else list(parts)
+    if not set(names) <= set(parts):
         parser.error("no such part")
     if not given.program.exists():
         sys.exit("no program was built yet: run `make build` first")
