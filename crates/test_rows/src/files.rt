@@ -9,6 +9,19 @@ pub fn read(rt: &(impl Files + AllocGlobal), name: &str, extension: &str) -> io:
     fs::read_to_string(rt, format!(in rt.alloc(); "{name}.{extension}")?)
 }
 
+/// The text of a file that may be missing.
+pub fn read_or(
+    rt: &(impl Files + AllocGlobal),
+    name: &str,
+    extension: &str,
+    missing: &str,
+) -> io::Result<String> {
+    match read(rt, name, extension) {
+        Err(e) if e.kind() == io::ErrorKind::NotFound => Ok(String::from_str(rt.alloc(), missing)?),
+        text => text,
+    }
+}
+
 /// The first line in which two texts differ.
 pub fn first_difference(
     alloc: Global,

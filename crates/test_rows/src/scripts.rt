@@ -8,9 +8,10 @@ mod row;
 
 use anyhow::Result;
 use row::judge;
+pub use row::words_of;
 
 /// The scripts, in the order in which they are run.
-const ROWS: [&str; 104] = [
+pub const ROWS: [&str; 104] = [
     "first_run",
     "present_before_mode",
     "name_forms",

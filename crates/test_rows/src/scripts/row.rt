@@ -1,6 +1,6 @@
 //! One script, and what it must write.
 
-use crate::files::{first_difference, read};
+use crate::files::{first_difference, read_or};
 use ipc_program::{ProgramFault, Task, task_of_words};
 use ipc_script::run_script;
 use std::alloc::{AllocError, Global};
@@ -54,7 +54,7 @@ fn outcome_of(alloc: Global, arguments: &str, input: &[u8]) -> Result<Outcome, A
 }
 
 /// The program's name, and the arguments.
-fn words_of(alloc: Global, arguments: &str) -> Result<Vec<&str>, AllocError> {
+pub fn words_of(alloc: Global, arguments: &str) -> Result<Vec<&str>, AllocError> {
     let mut words = Vec::new(alloc);
     words.push("mqserve")?;
     for word in arguments.lines() {
@@ -73,18 +73,5 @@ fn run(
         Task::Script(limits) => Ok(run_script(alloc, limits, input, output)?),
         // No connection comes here.
         Task::Serve(_) => Err(ProgramFault::Net),
-    }
-}
-
-/// The text of a file that may be missing.
-fn read_or(
-    rt: &(impl Files + AllocGlobal),
-    name: &str,
-    extension: &str,
-    missing: &str,
-) -> io::Result<String> {
-    match read(rt, name, extension) {
-        Err(e) if e.kind() == io::ErrorKind::NotFound => Ok(String::from_str(rt.alloc(), missing)?),
-        text => text,
     }
 }

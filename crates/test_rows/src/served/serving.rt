@@ -2,12 +2,12 @@
 
 use crate::files::{first_difference, read};
 use crate::served::memory::{Link, Manner, Memory};
-use crate::served::recorder::Recorder;
 use crate::streams::common::{bytes_of, config};
 use anyhow::Result;
 use ipc_loop::Server;
 use std::alloc::Global;
 use std::rt::Files;
+use test_links::Cut;
 
 /// How many links are open at once.
 const CONNECTIONS: usize = 8;
@@ -29,6 +29,9 @@ const MANNERS: [Manner; 4] = [
         fails_at: None,
     },
 ];
+
+/// How links that know their moves give and take.
+pub const CUTS: [Cut; 2] = [Cut::Whole, Cut::Pieces(1)];
 
 /// How many rounds a server takes at most.
 const MOST_ROUNDS: u32 = 100_000;
@@ -136,19 +139,4 @@ pub fn judge(rt: &(impl Files + AllocGlobal), name: &str) -> Result<String> {
         }
     }
     Ok(String::from_str(alloc, "as written")?)
-}
-
-/// Serves a host that knows its moves, until its link is closed. Says how many bytes moved.
-pub fn record(alloc: Global) -> Result<String> {
-    let mut host = Recorder::new(alloc, 3);
-    let mut server = new_server(alloc, 1)?;
-    for _ in 0..MOST_ROUNDS {
-        if server.is_over() {
-            break;
-        }
-        server.round(&mut host)?;
-    }
-    drop(server);
-    let (given, taken) = host.counts();
-    Ok(format!(in alloc; "{given} bytes given, {taken} taken")?)
 }

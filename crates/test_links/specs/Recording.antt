@@ -1,7 +1,7 @@
 -- What a recorder remembers.
 use Rattle.ipc_loop.specs.Moves.{Moved, LinkOpened, LinkGave, LinkTook}
-use Rattle.test_rows.specs.declared.served.recorder.Entry.{Entry}
-use Rattle.test_rows.specs.declared.served.recorder.Entry.TheVariants.{Opened, Gave, Took}
+use Rattle.test_links.specs.declared.recorder.Entry.{Entry}
+use Rattle.test_links.specs.declared.recorder.Entry.TheVariants.{Opened, Gave, Took}
 
 abbrev pub moved_by : Entry → Moved
 moved_by (Opened link) = LinkOpened link

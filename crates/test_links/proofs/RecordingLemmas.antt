@@ -1,8 +1,8 @@
 -- What a recorder remembers.
 use Rattle.std.proofs.Common.{◌≡◌, List, [], ◌∷◌, ◌++◌, map, refl, ap, ◌∙◌}
 use Rattle.ipc_loop.specs.Moves.{Moved}
-use Rattle.test_rows.specs.declared.served.recorder.Entry.{Entry}
-use Rattle.test_rows.specs.Recording.{moved_by}
+use Rattle.test_links.specs.declared.recorder.Entry.{Entry}
+use Rattle.test_links.specs.Recording.{moved_by}
 
 one_more : (log : List Entry) (entry : Entry) → map moved_by (log ++ entry ∷ []) ≡ map moved_by log ++ moved_by entry ∷ []
 one_more [] entry = refl

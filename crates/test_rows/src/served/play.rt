@@ -1,0 +1,261 @@
+//! Labelled sessions over the loop: each is a connection, and each step a frame.
+
+use anyhow::{Result, bail};
+use ipc_client::frame_of_words;
+use ipc_core::Config;
+use ipc_lines::words_of;
+use ipc_loop::{Ending, Server};
+use ipc_terms::{Answer, Bytes};
+use ipc_wire::{Request, read_answer, remove_front, write_request};
+use ipc_words::{WordFault, put_fault, put_line, read_decimal};
+use std::alloc::{AllocError, Global};
+use std::collections::BTreeMap;
+use test_links::{Cut, Entry, Recorder, settle};
+
+/// How many links are open at once.
+const CONNECTIONS: usize = 4_096;
+
+/// The peer of a link.
+#[derive(Drop)]
+struct Peer {
+    /// Who started it, or tried to.
+    label: String,
+    /// What its link took that is no whole answer yet.
+    kept: Vec<u8>,
+    /// Its session was started, and not hung up.
+    is_live: bool,
+}
+
+/// A server over the recorder, and labelled peers.
+#[derive(Drop)]
+pub struct Play {
+    alloc: Global,
+    server: Server,
+    host: Recorder,
+    peers: Vec<Peer>,
+    /// By label, the link of the session that it started last.
+    newest: BTreeMap<String, u64>,
+    /// How many moves were looked at.
+    seen: usize,
+    /// What a script writes.
+    output: String,
+    /// How many calls were left out, since their label had no session.
+    left_out: u64,
+}
+
+/// Whether the word is a label: 1 to 16 lower-case ASCII letters or digits.
+fn is_label(word: &str) -> bool {
+    (1..=16).contains(&word.len())
+        && word
+            .bytes()
+            .all(|byte| matches!(byte, b'a'..=b'z' | b'0'..=b'9'))
+}
+
+impl Play {
+    pub fn new(alloc: Global, config: Config, cut: Cut) -> Result<Play> {
+        Ok(Play {
+            alloc,
+            server: Server::new(alloc, config, CONNECTIONS, None)?,
+            host: Recorder::new(alloc, cut),
+            peers: Vec::new(alloc),
+            newest: BTreeMap::new(alloc),
+            seen: 0,
+            output: String::new(alloc),
+            left_out: 0,
+        })
+    }
+
+    /// What was written, and how many calls were left out.
+    pub fn into_output(self) -> (String, u64) {
+        (self.output, self.left_out)
+    }
+
+    /// Plays a line of a script.
+    pub fn take_line(&mut self, line: &str) -> Result<()> {
+        if line.is_empty() || line.starts_with('#') {
+            return Ok(());
+        }
+        let words = words_of(self.alloc, line)?;
+        match words.as_slice() {
+            [label, asked @ ..] if is_label(label) => self.ask(label, asked),
+            _ => Ok(self.output.push_str("- fault line\n")?),
+        }
+    }
+
+    fn ask(&mut self, label: &str, words: &[&str]) -> Result<()> {
+        let [verb, rest @ ..] = words else {
+            return self.call(label, words);
+        };
+        match (*verb, rest) {
+            ("hello", [key]) => self.hello(label, key),
+            ("hangup", []) => self.hang_up(label),
+            ("tick", [moment]) => self.tick(label, moment),
+            ("hello" | "hangup" | "tick", _) => self.blame(label, &WordFault::Usage),
+            _ => self.call(label, words),
+        }
+    }
+
+    /// Writes the fault of a label's words.
+    fn blame(&mut self, label: &str, fault: &WordFault) -> Result<()> {
+        self.output.push_str(label)?;
+        self.output.push_str(" ")?;
+        put_fault(&mut self.output, fault)?;
+        self.output.push_str("\n")?;
+        Ok(())
+    }
+
+    /// Connects a link, by which the hello goes.
+    fn hello(&mut self, label: &str, key: &str) -> Result<()> {
+        let hello = Request::Hello(Bytes::from_slice(self.alloc, key.as_bytes())?);
+        let frame = write_request(self.alloc, &hello)?;
+        let number = self.host.connect()?;
+        self.peers.push(Peer {
+            label: String::from_str(self.alloc, label)?,
+            kept: Vec::new(self.alloc),
+            is_live: false,
+        })?;
+        self.host.send(number, &frame)?;
+        self.collect(Some(number))?;
+        let wanted = if self.is_live(number) {
+            None
+        } else {
+            Some(Ending::BadKey)
+        };
+        self.check_ending(number, wanted)
+    }
+
+    fn hang_up(&mut self, label: &str) -> Result<()> {
+        let Some(number) = self.link_of(label) else {
+            return self.leave_out(label);
+        };
+        self.end(number)?;
+        self.collect(None)
+    }
+
+    /// The link's peer sends no more, so that it is closed.
+    fn end(&mut self, number: u64) -> Result<()> {
+        self.host.finish(number);
+        if let Some(peer) = self.peers.get_mut(number as usize) {
+            peer.is_live = false;
+        }
+        self.rest()?;
+        self.check_ending(number, Some(Ending::Closed))
+    }
+
+    fn tick(&mut self, label: &str, moment: &str) -> Result<()> {
+        let Some(moment) = read_decimal(moment, u64::MAX) else {
+            return self.blame(label, &WordFault::BadValue("moment"));
+        };
+        self.host.show(moment);
+        self.collect(None)
+    }
+
+    fn call(&mut self, label: &str, words: &[&str]) -> Result<()> {
+        let frame = match frame_of_words(self.alloc, words) {
+            Ok(frame) => frame,
+            Err(fault) => return self.blame(label, &fault),
+        };
+        let Some(number) = self.link_of(label) else {
+            return self.leave_out(label);
+        };
+        self.host.send(number, &frame)?;
+        self.collect(Some(number))
+    }
+
+    /// Nobody is there to make the call; a script refuses it.
+    fn leave_out(&mut self, label: &str) -> Result<()> {
+        self.left_out = self.left_out.saturating_add(1);
+        self.output.push_str(label)?;
+        self.output.push_str(" refused 1 ESRCH NoSession\n")?;
+        Ok(())
+    }
+
+    fn is_live(&self, number: u64) -> bool {
+        self.peers
+            .get(number as usize)
+            .is_some_and(|peer| peer.is_live)
+    }
+
+    /// The link of the label's newest session, if that is live.
+    fn link_of(&self, label: &str) -> Option<u64> {
+        let number = self.newest.get(label).copied()?;
+        self.is_live(number).then_some(number)
+    }
+
+    fn check_ending(&self, number: u64, wanted: Option<Ending>) -> Result<()> {
+        if self.host.ending(number) != wanted {
+            bail!("link {number} ends otherwise");
+        }
+        Ok(())
+    }
+
+    /// Has the server come to rest.
+    fn rest(&mut self) -> Result<()> {
+        if !settle(&mut self.server, &mut self.host)? {
+            bail!("the server goes on");
+        }
+        Ok(())
+    }
+
+    /// Writes what was answered since: first by this link, and then by others.
+    fn collect(&mut self, first: Option<u64>) -> Result<()> {
+        self.rest()?;
+        let takers = self.take_moves()?;
+        if let Some(number) = first {
+            self.write_answers(number)?;
+        }
+        for number in takers {
+            self.write_answers(number)?;
+        }
+        Ok(())
+    }
+
+    /// Puts what links took since to what is kept of each. The links, in order.
+    fn take_moves(&mut self) -> Result<Vec<u64>, AllocError> {
+        let mut takers = Vec::new(self.alloc);
+        for entry in self.host.moves().iter().skip(self.seen) {
+            if let Entry::Took(number, bytes) = entry {
+                if let Some(peer) = self.peers.get_mut(*number as usize) {
+                    peer.kept.extend_from_slice(bytes)?;
+                    takers.push(*number)?;
+                }
+            }
+        }
+        self.seen = self.host.moves().len();
+        Ok(takers)
+    }
+
+    /// Writes a line for each whole answer that is kept of the link.
+    fn write_answers(&mut self, number: u64) -> Result<()> {
+        let Some(peer) = self.peers.get_mut(number as usize) else {
+            return Ok(());
+        };
+        for _ in 0..u64::MAX {
+            let Some((answer, length)) = read_answer(self.alloc, &peer.kept)? else {
+                break;
+            };
+            remove_front(self.alloc, &mut peer.kept, length);
+            if let Answer::Started(_) = answer {
+                peer.is_live = true;
+                let label = String::from_str(self.alloc, peer.label.as_str())?;
+                self.newest.insert(label, number)?;
+            }
+            self.output.push_str(peer.label.as_str())?;
+            self.output.push_str(" ")?;
+            put_line(&mut self.output, &answer)?;
+            self.output.push_str("\n")?;
+        }
+        Ok(())
+    }
+
+    /// Ends all links that are open: no other ending came before.
+    pub fn end_all(&mut self) -> Result<()> {
+        for number in 0..self.peers.len() as u64 {
+            if self.is_live(number) {
+                self.check_ending(number, None)?;
+                self.end(number)?;
+            }
+        }
+        Ok(())
+    }
+}
