@@ -11,6 +11,7 @@ mod descriptions;
 mod fault;
 mod frames;
 mod hubs;
+mod loops;
 mod made;
 mod names;
 mod programs;
@@ -34,6 +35,7 @@ use ipc_wire::Frames;
 use std::io;
 use std::sync::Wait;
 use subject::{Fresh, Outcome, go_anew};
+use test_links::Cut;
 use texts::Texts;
 
 /// Prints how the case goes.
@@ -64,6 +66,17 @@ fn show_parts<R: Print + AllocGlobal>(rt: &R) -> io::Result<()> {
     show_all::<Trail, R>(rt, &trails::CASES)
 }
 
+/// The cases of the loop.
+fn show_loops<R: Print + AllocGlobal>(rt: &R) -> io::Result<()> {
+    let alloc = rt.alloc();
+    show(rt, "Server::round", loops::go_anew(alloc, Cut::Whole))?;
+    show(
+        rt,
+        "Server::round in pieces",
+        loops::go_anew(alloc, Cut::Pieces(1)),
+    )
+}
+
 /// The cases of books.
 fn show_books<R: Print + AllocGlobal + Wait>(rt: &R) -> io::Result<()> {
     let alloc = rt.alloc();
@@ -83,6 +96,7 @@ fn main(rt: HostRuntime) -> io::Result<()> {
     show_all::<Frames, HostRuntime>(&rt, &frames::CASES)?;
     show_all::<Texts, HostRuntime>(&rt, &texts::CASES)?;
     show_all::<Hub, HostRuntime>(&rt, &hubs::CASES)?;
+    show_loops(&rt)?;
     show_books(&rt)?;
     show(
         &rt,
