@@ -4,10 +4,16 @@ import subprocess
 import sys
 from pathlib import Path
 
-CRATE = Path(__file__).resolve().parent.parent / "crates" / "bench_calls"
+TOP = Path(__file__).resolve().parent.parent
+sys.path.insert(0, str(TOP / "tools"))
+from programs import is_current, proved  # noqa: E402
+
+NAME = "bench_calls"
 
 
 def bench_calls():
-    """The program. `rt run` proves it and the crates below it, unless it stands and none of them changed."""
-    subprocess.run(["rt", "run"], cwd=CRATE, check=True, stdout=sys.stderr)
-    return CRATE / "out" / CRATE.name
+    """The program: the one that `make test` or `rt run` left, where it is newer than its sources. Else `rt run` proves it, and the
+    crates below it."""
+    if not is_current(NAME):
+        subprocess.run(["rt", "run"], cwd=TOP / "crates" / NAME, check=True, stdout=sys.stderr)
+    return proved(NAME)
