@@ -1,12 +1,17 @@
 //! How long a round waits.
 
-ghost use Rattle.std.specs.Prelude.{◌≡◌, None, Some, true, false};
+ghost use Rattle.std.specs.Prelude.{◌≡◌, None, Some, true, false, min, is_some, option_map};
+ghost use Rattle.ipc_loop.specs.Pausing.{IsAtMost};
 
 /// How long nobody is accepted where accepting failed, as with too many open files, if nothing happens before.
 const MILLISECONDS_WITHOUT_ACCEPTING: u64 = 100;
 
 /// How long it takes until what found no memory is tried again, if nothing happens before.
 const MILLISECONDS_WITHOUT_MEMORY: u64 = 10;
+
+/// How long it takes at most until the clock is asked whether a parked call is due. A wait is measured by another clock,
+/// which stands while the machine sleeps, and which nobody sets.
+const MILLISECONDS_BY_ANOTHER_CLOCK: u64 = 1_000;
 
 /// Why a round may not wait until something is ready.
 #[derive(Clone, Copy)]
@@ -26,7 +31,8 @@ impl Reasons {
     pub fn pause(self) -> Option<u64>
         ensures short { self.is_short ≡ true → result ≡ Some 10 }
         ensures busy { self.is_short ≡ false → self.is_busy ≡ true → result ≡ Some 0 }
-        ensures due { self.is_short ≡ false → self.is_busy ≡ false → self.is_pausing ≡ false → result ≡ self.until_due }
+        ensures due { self.is_short ≡ false → self.is_busy ≡ false → self.is_pausing ≡ false → result ≡ option_map (λ left. min left 1000) self.until_due }
+        ensures timed { is_some self.until_due ≡ true → IsAtMost 1000 result }
         ensures pausing { self.is_short ≡ false → self.is_busy ≡ false → self.is_pausing ≡ true → self.until_due ≡ None → result ≡ Some 100 }
     {
         if self.is_short {
@@ -35,12 +41,15 @@ impl Reasons {
         if self.is_busy {
             return Some(0);
         }
-        if !self.is_pausing {
-            return self.until_due;
-        }
+        let most = if self.is_pausing {
+            MILLISECONDS_WITHOUT_ACCEPTING
+        } else {
+            MILLISECONDS_BY_ANOTHER_CLOCK
+        };
         match self.until_due {
-            Some(milliseconds) => Some(milliseconds.min(MILLISECONDS_WITHOUT_ACCEPTING)),
-            None => Some(MILLISECONDS_WITHOUT_ACCEPTING),
+            Some(milliseconds) => Some(milliseconds.min(most)),
+            None if self.is_pausing => Some(MILLISECONDS_WITHOUT_ACCEPTING),
+            None => None,
         }
     }
 }
