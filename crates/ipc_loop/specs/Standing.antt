@@ -10,7 +10,7 @@ use Rattle.ipc_loop.specs.declared.accepting.Bounds.{Bounds}
 use Rattle.ipc_loop.specs.Serving.{IsOwedByMark, LeavesNothing, LetsGo}
 
 -- the ports by their numbers, none where a link is closed; whether each number is queued; the numbers that get a turn in
--- this round and in the next; for how many more ports and flags there is room; and for how many numbers each of
+-- this round and in the next; for how many more ports, flags and numbers there is room; and for how many numbers each of
 -- the two lists has room
 pub record Ports : Type 0 where
   pub all : List (Option Port)
@@ -19,6 +19,7 @@ pub record Ports : Type 0 where
   pub next : List ℕ
   pub room : ℕ
   pub room_of_flags : ℕ
+  pub room_of_numbers : ℕ
   pub most_turns : ℕ
   pub most_next : ℕ
 

@@ -61,6 +61,7 @@ fn prepare(hub: &mut Hub, ports: &mut Ports, alloc: Global) -> Result<Box<Port>,
     ensures room { OnOk result (0 < ports.new.room) }
     ensures flags { OnOk result (0 < ports.new.room_of_flags) }
     ensures lists { OnOk result (HasRoomForOne ports.new) }
+    ensures numbers { OnOk result (0 < ports.new.room_of_numbers) }
     ensures serves { (moves : Option (List Moved)) (all : ℕ → Option Port) → Serves hub.old moves all hub.new moves all }
     ensures marks { (all : ℕ → Option Port) → KeepsMarks hub.old all hub.new all }
     ensures all { ports.new.all ≡ ports.old.all }
@@ -71,6 +72,7 @@ fn prepare(hub: &mut Hub, ports: &mut Ports, alloc: Global) -> Result<Box<Port>,
     let Ok(0) = hub.untaken(Conn(number)) else {
         return Err(NoMemory);
     };
+    ports.forget_numbers();
     ports.prepare()
 }
 

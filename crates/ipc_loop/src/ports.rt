@@ -21,6 +21,8 @@ pub struct Ports {
     next: Vec<u64>,
     /// How many ports are in their slots.
     open: usize,
+    /// The numbers of all links that are open, and of some that are closed.
+    numbers: Vec<u64>,
 }
 
 impl Model for Ports {
@@ -29,7 +31,7 @@ impl Model for Ports {
 
     ghost Value = { Ports };
 
-    ghost view = { λ p. record { all = seen p.all.items; queued = p.queued.items; turns = p.turns.items; next = p.next.items; room = vec_capacity p.all - vec_len p.all; room_of_flags = vec_capacity p.queued - vec_len p.queued; most_turns = vec_capacity p.turns; most_next = vec_capacity p.next } };
+    ghost view = { λ p. record { all = seen p.all.items; queued = p.queued.items; turns = p.turns.items; next = p.next.items; room = vec_capacity p.all - vec_len p.all; room_of_flags = vec_capacity p.queued - vec_len p.queued; room_of_numbers = vec_capacity p.numbers - vec_len p.numbers; most_turns = vec_capacity p.turns; most_next = vec_capacity p.next } };
 
     ghost invariant = { λ p. AreKept (seen p.all.items) p.queued.items p.turns.items p.next.items p.open (vec_capacity p.turns) (vec_capacity p.next) };
 }
@@ -79,6 +81,7 @@ impl Ports {
             turns,
             next,
             open: 0,
+            numbers: Vec::new(alloc),
         })
     }
 
@@ -114,6 +117,7 @@ impl Ports {
         ensures room { OnOk result (0 < self.new.room) }
         ensures flags { OnOk result (0 < self.new.room_of_flags) }
         ensures lists { OnOk result (HasRoomForOne self.new) }
+        ensures numbers { OnOk result (0 < self.new.room_of_numbers) }
         ensures all { self.new.all ≡ self.old.all }
         ensures turns { self.new.turns ≡ self.old.turns }
     {
@@ -124,6 +128,7 @@ impl Ports {
         let open = self.open + 1;
         self.turns.reserve(open + self.next.len())?;
         self.next.reserve(open + self.turns.len())?;
+        self.numbers.reserve(1)?;
         Ok(port)
     }
 
@@ -132,13 +137,34 @@ impl Ports {
         requires room { 0 < self.old.room }
         requires flags { 0 < self.old.room_of_flags }
         requires lists { HasRoomForOne self.old }
+        requires numbers { 0 < self.old.room_of_numbers }
         requires new { port.value ≡ new_port }
         ensures all { self.new.all ≡ self.old.all ++ Some new_port ∷ [] }
         ensures turns { self.new.turns ≡ self.old.turns }
     {
+        let number = self.all.len() as u64;
         self.all.push_reserved(Some(port));
         self.queued.push_reserved(false);
+        self.numbers.push_reserved(number);
         self.open += 1;
+    }
+
+    /// The numbers of all links that are open, and of some that are closed: at most twice as many as were open when the last
+    /// was opened, and two.
+    pub fn numbers(&self) -> &[u64] {
+        &self.numbers
+    }
+
+    /// Forgets the numbers of links that are closed, where they are most.
+    pub fn forget_numbers(&mut self)
+        ensures all { self.new.all ≡ self.old.all }
+        ensures turns { self.new.turns ≡ self.old.turns }
+    {
+        if self.numbers.len() / 2 <= self.open {
+            return;
+        }
+        let all = &self.all;
+        self.numbers.retain(|number| matches!(all.get(*number as usize), Some(Some(_))));
     }
 
     /// The numbers of the next round get their turns in this one.

@@ -61,16 +61,16 @@ fn turn<H: Host>(
     keep_bound(hub, host, ports, desk);
 }
 
-/// The connection of which the hub keeps most, of so many.
-fn largest(hub: &Hub, count: usize) -> u64 {
-    let (mut number, mut most) = (0, 0);
-    for i in 0..count as u64 {
-        let bytes = kept(hub, i);
+/// The connection of which the hub keeps most, of those whose links are open, if it keeps something of one.
+fn largest(hub: &Hub, ports: &Ports) -> Option<u64> {
+    let (mut largest, mut most) = (None, 0);
+    for number in ports.numbers() {
+        let bytes = kept(hub, *number);
         if bytes > most {
-            (number, most) = (i, bytes);
+            (largest, most) = (Some(*number), bytes);
         }
     }
-    number
+    largest
 }
 
 /// Ends the link with the largest unfinished frame, where all unfinished frames together have too many bytes.
@@ -83,7 +83,9 @@ fn keep_bound<H: Host>(hub: &mut Hub, host: &mut H, ports: &mut Ports, desk: &mu
     if desk.unfinished <= MOST_UNFINISHED {
         return;
     }
-    let number = largest(hub, ports.len());
+    let Some(number) = largest(hub, ports) else {
+        return;
+    };
     if let Some(mut port) = ports.take(number) {
         let before = kept(hub, number);
         port.give_up(hub, desk.alloc, number);

@@ -6,29 +6,35 @@ use Rattle.ipc_loop.proofs.OpeningLemmas.{closes_same, settled_closes}
 use Rattle.ipc_loop.proofs.turns.keep_bound.Goals as goal
 
 pub settle-requires-clause-out : goal.settle-requires-clause-out
-settle-requires-clause-out g c = empty_slot _ _ _ _ c.in-Some.ensures.port
+settle-requires-clause-out g c = empty_slot _ _ _ _ c.in-Some-take.ensures.port
 
 pub returns-then-desk-le-MOST_UNFINISHED-clause-serves : goal.returns-then-desk-le-MOST_UNFINISHED-clause-serves
 returns-then-desk-le-MOST_UNFINISHED-clause-serves g c = served_nothing _ _ _
 
-pub returns-in-Some-clause-serves : goal.returns-in-Some-clause-serves
-returns-in-Some-clause-serves g c =
-    taken_serves _ _ _ _ _ _ _ _ _ c.in-Some.ensures.port
-    (turned_serves _ _ _ _ _ _ _ _ _ _ _ _ c.deref_mut.ensures.value (empty_slot _ _ _ _ c.in-Some.ensures.port) (c.give_up.ensures.serves (g.H.Host.moves c.args.host.now)) c.settle.ensures.moved c.settle.ensures.settled)
+pub returns-in-Some-take-clause-serves : goal.returns-in-Some-take-clause-serves
+returns-in-Some-take-clause-serves g c =
+    taken_serves _ _ _ _ _ _ _ _ _ c.in-Some-take.ensures.port
+    (turned_serves _ _ _ _ _ _ _ _ _ _ _ _ c.deref_mut.ensures.value (empty_slot _ _ _ _ c.in-Some-take.ensures.port) (c.give_up.ensures.serves (g.H.Host.moves c.args.host.now)) c.settle.ensures.moved c.settle.ensures.settled)
 
-pub returns-in-Some-clause-marks : goal.returns-in-Some-clause-marks
-returns-in-Some-clause-marks g c =
-    taken_keeps c.largest-number.result c.args.hub.now c.settle.new.hub c.in-Some.port.value c.args.ports.now.all c.take.new.self.all c.settle.new.ports.all c.in-Some.ensures.port
-    (turned_keeps c.largest-number.result c.args.hub.now c.give_up.new.hub c.settle.new.hub c.in-Some.port.value c.deref_mut.result.now c.give_up.new.self c.take.new.self.all c.settle.new.ports.all c.deref_mut.ensures.value (empty_slot _ _ _ _ c.in-Some.ensures.port) c.give_up.ensures.marks c.settle.ensures.settled)
+pub returns-in-Some-take-clause-marks : goal.returns-in-Some-take-clause-marks
+returns-in-Some-take-clause-marks g c =
+    taken_keeps c.in-Some.number c.args.hub.now c.settle.new.hub c.in-Some-take.port.value c.args.ports.now.all c.take.new.self.all c.settle.new.ports.all c.in-Some-take.ensures.port
+    (turned_keeps c.in-Some.number c.args.hub.now c.give_up.new.hub c.settle.new.hub c.in-Some-take.port.value c.deref_mut.result.now c.give_up.new.self c.take.new.self.all c.settle.new.ports.all c.deref_mut.ensures.value (empty_slot _ _ _ _ c.in-Some-take.ensures.port) c.give_up.ensures.marks c.settle.ensures.settled)
 
-pub returns-in_default-clause-serves : goal.returns-in_default-clause-serves
-returns-in_default-clause-serves g c = same_serves _ _ _ _ c.in_default.ensures.none
+pub returns-in_default-take-clause-serves : goal.returns-in_default-take-clause-serves
+returns-in_default-take-clause-serves g c = same_serves _ _ _ _ c.in_default-take.ensures.none
 
 pub returns-then-desk-le-MOST_UNFINISHED-clause-closes : goal.returns-then-desk-le-MOST_UNFINISHED-clause-closes
 returns-then-desk-le-MOST_UNFINISHED-clause-closes g c = closes_same _ _ refl
 
-pub returns-in-Some-clause-closes : goal.returns-in-Some-clause-closes
-returns-in-Some-clause-closes g c = settled_closes c.largest-number.result _ _ _ _ _ _ _ c.in-Some.ensures.port c.settle.ensures.settled
+pub returns-in-Some-take-clause-closes : goal.returns-in-Some-take-clause-closes
+returns-in-Some-take-clause-closes g c = settled_closes c.in-Some.number _ _ _ _ _ _ _ c.in-Some-take.ensures.port c.settle.ensures.settled
+
+pub returns-in_default-take-clause-closes : goal.returns-in_default-take-clause-closes
+returns-in_default-take-clause-closes g c = closes_same _ _ c.in_default-take.ensures.none
+
+pub returns-in_default-clause-serves : goal.returns-in_default-clause-serves
+returns-in_default-clause-serves g c = served_nothing _ _ _
 
 pub returns-in_default-clause-closes : goal.returns-in_default-clause-closes
-returns-in_default-clause-closes g c = closes_same _ _ c.in_default.ensures.none
+returns-in_default-clause-closes g c = closes_same _ _ refl
