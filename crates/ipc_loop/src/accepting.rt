@@ -104,7 +104,8 @@ impl Accepting {
 
     /// Whether another may be accepted.
     pub fn is_open(&self, ports: &Ports) -> bool
-        ensures { result ≡ true → HasRoom self.now.bounds ports.now.all }
+        ensures room { result ≡ true → HasRoom self.now.bounds ports.now.all }
+        ensures asked { self.now.may_accept ≡ true → HasRoom self.now.bounds ports.now.all → result ≡ true }
     {
         self.may_accept && !self.has_all(ports) && ports.open() < self.bounds.most
     }

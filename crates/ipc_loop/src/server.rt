@@ -152,8 +152,7 @@ impl Server {
         self.accepting
             .accept_some(&mut self.hub, host, &mut self.ports, alloc);
         let later = host.moment();
-        make_ticks(&mut self.hub, alloc, later);
-        self.desk.is_waiting = self.hub.due(later);
+        self.desk.is_waiting = make_ticks(&mut self.hub, alloc, later).is_err();
         self.ports.start_round();
         give_turns(&mut self.hub, host, &mut self.ports, &mut self.desk);
         answer_all(&mut self.hub, host, &mut self.ports, &mut self.desk);

@@ -1,31 +1,38 @@
 //! Ticks, and when the next is due.
 
-ghost use Rattle.std.specs.Prelude.{ℕ, List, Option, IfSome, IfNone};
-ghost use Rattle.ipc_hub.specs.Hub.{Hub};
+ghost use Rattle.std.specs.Prelude.{◌≡◌, ◌⊎◌, false, ℕ, List, Option, IfSome, IfNone, OnOk};
+ghost use Rattle.ipc_hub.specs.Hub.{Hub, would_end};
 ghost use Rattle.ipc_loop.specs.Moves.{Moved};
 ghost use Rattle.ipc_loop.specs.Ports.{Port};
-ghost use Rattle.ipc_loop.specs.NextTick.{IsNextTick, NoTick};
+ghost use Rattle.ipc_loop.specs.NextTick.{IsNextTick, NoTick, MakesTicks};
 ghost use Rattle.ipc_loop.specs.Serving.{Serves, KeepsMarks};
 
 use ipc_hub::Hub;
+use ipc_terms::NoMemory;
 use std::alloc::Global;
 
 /// How many ticks a round makes at most.
 const MOST_TICKS: u32 = 1_024;
 
-/// Ends the parked calls whose deadlines are past at this moment, one tick each.
-pub fn make_ticks(hub: &mut Hub, alloc: Global, moment: u64)
+/// Ends the parked calls whose deadlines are past at this moment, one tick each: all of them, or as many as a round makes at
+/// most. At an `Err` a tick found no memory.
+pub fn make_ticks(hub: &mut Hub, alloc: Global, moment: u64) -> Result<(), NoMemory>
+    ensures due { (count : ℕ) × MakesTicks count moment hub.old hub.new }
+    ensures all { OnOk result ((would_end hub.new moment ≡ false) ⊎ MakesTicks 1024 moment hub.old hub.new) }
     ensures serves { (moves : Option (List Moved)) (ports : ℕ → Option Port) → Serves hub.old moves ports hub.new moves ports }
     ensures marks { (ports : ℕ → Option Port) → KeepsMarks hub.old ports hub.new ports }
 {
-    for _ in 0..MOST_TICKS {
+    let mut made = 0;
+    while made < MOST_TICKS {
         if !hub.due(moment) {
-            return;
+            return Ok(());
         }
         let Ok(()) = hub.tick(alloc, moment) else {
-            return;
+            return Err(NoMemory);
         };
+        made += 1;
     }
+    Ok(())
 }
 
 /// The least moment from `now` on at which a tick would end a call, if there is one.

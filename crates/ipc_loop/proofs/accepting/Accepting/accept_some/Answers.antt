@@ -16,7 +16,7 @@ pub returns-then-not-goes_on-clause-marks : goal.returns-then-not-goes_on-clause
 returns-then-not-goes_on-clause-marks g c = λ i owed. c.accept-accepted.ensures.marks i (c.loop.invariant.marks i owed)
 
 pub returns-then-not-goes_on-clause-within : goal.returns-then-not-goes_on-clause-within
-returns-then-not-goes_on-clause-within g c = λ w. subst (λ (b : Bounds). IsWithin b c.accept-accepted.new.ports.all) c.loop.invariant.bounds (adds_within c.loop.self.bounds _ _ (c.if-not-is_open.ensures refl) c.accept-accepted.ensures.adds (subst (λ (b : Bounds). IsWithin b c.loop.ports.all) (sym c.loop.invariant.bounds) (c.loop.invariant.within w)))
+returns-then-not-goes_on-clause-within g c = λ w. subst (λ (b : Bounds). IsWithin b c.accept-accepted.new.ports.all) c.loop.invariant.bounds (adds_within c.loop.self.bounds _ _ (c.if-not-is_open.ensures.room refl) c.accept-accepted.ensures.adds (subst (λ (b : Bounds). IsWithin b c.loop.ports.all) (sym c.loop.invariant.bounds) (c.loop.invariant.within w)))
 
 pub returns-then-not-goes_on-clause-continues : goal.returns-then-not-goes_on-clause-continues
 returns-then-not-goes_on-clause-continues g c = goes_both _ _ _ c.loop.invariant.continues (adds_goes _ _ c.accept-accepted.ensures.adds)
@@ -26,7 +26,7 @@ loop-preserved g c = record {
   serves = opens_both _ _ _ _ _ _ _ _ _ c.loop.invariant.continues (adds_goes _ _ c.accept-accepted.ensures.adds) c.loop.invariant.serves c.accept-accepted.ensures.serves;
   marks = λ i owed. c.accept-accepted.ensures.marks i (c.loop.invariant.marks i owed);
   bounds = c.if-not-goes_on.ensures ∙ c.loop.invariant.bounds;
-  within = λ w. subst (λ (b : Bounds). IsWithin b c.accept-accepted.new.ports.all) c.loop.invariant.bounds (adds_within c.loop.self.bounds _ _ (c.if-not-is_open.ensures refl) c.accept-accepted.ensures.adds (subst (λ (b : Bounds). IsWithin b c.loop.ports.all) (sym c.loop.invariant.bounds) (c.loop.invariant.within w)));
+  within = λ w. subst (λ (b : Bounds). IsWithin b c.accept-accepted.new.ports.all) c.loop.invariant.bounds (adds_within c.loop.self.bounds _ _ (c.if-not-is_open.ensures.room refl) c.accept-accepted.ensures.adds (subst (λ (b : Bounds). IsWithin b c.loop.ports.all) (sym c.loop.invariant.bounds) (c.loop.invariant.within w)));
   continues = goes_both _ _ _ c.loop.invariant.continues (adds_goes _ _ c.accept-accepted.ensures.adds);
   turns = c.accept-accepted.ensures.turns ∙ c.loop.invariant.turns;
 }
