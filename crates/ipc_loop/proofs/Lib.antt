@@ -10,3 +10,5 @@ pub mod OpeningLemmas
 pub mod KeepingLemmas
 pub mod AcceptingLemmas
 pub mod RoundLemmas
+pub mod PortionLemmas
+pub mod RequestLemmas

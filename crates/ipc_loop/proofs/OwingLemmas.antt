@@ -17,7 +17,7 @@ still : {A : Type 0} (u u' : List A) (left left' : Option (List ℕ)) → u' ≡
 still u u' left left' e f (inl none) = inl (e ∙ none)
 still u u' left left' e f (inr more) = inr (λ (q : left' ≡ Some []). more (sym f ∙ q))
 
-unmarked_before : (h h' : Hub) (i : ℕ) → Marks h h' → is_marked h' i ≡ false → is_marked h i ≡ false
+pub unmarked_before : (h h' : Hub) (i : ℕ) → Marks h h' → is_marked h' i ≡ false → is_marked h i ≡ false
 unmarked_before h h' i marks now = at (is_marked h i) refl where
   at : (b : Bool) → is_marked h i ≡ b → b ≡ false
   at true e = let on : true ≡ false = sym (marks.kept i e) ∙ now in absurd cc

@@ -81,6 +81,10 @@ unfed_with ending = cond (is_none ending) (Some []) None
 pub port_both : (k : ℕ) (h₀ h₁ h₂ : Hub) (m₀ m₁ m₂ : Moves) (p₀ p₁ p₂ : Port) → ServesPort k h₀ m₀ p₀ h₁ m₁ p₁ → ServesPort k h₁ m₁ p₁ h₂ m₂ p₂ → ServesPort k h₀ m₀ p₀ h₂ m₂ p₂
 port_both k h₀ h₁ h₂ m₀ m₁ m₂ p₀ p₁ p₂ a b others = serves_both h₀ h₁ h₂ m₀ m₁ m₂ (with_port others k (Some p₀)) (with_port others k (Some p₁)) (with_port others k (Some p₂)) (a others) (b others)
 
+-- the same, where moves and ports are told in another way
+pub port_so : (k : ℕ) (h h' : Hub) (m m' n' : Moves) (p p' q' : Port) → n' ≡ m' → q' ≡ p' → ServesPort k h m p h' m' p' → ServesPort k h m p h' n' q'
+port_so k h h' m m' n' p p' q' moved same s = subst (λ (x : Port). ServesPort k h m p h' n' x) (sym same) (subst (λ (w : Moves). ServesPort k h m p h' w p') (sym moved) s)
+
 -- the hub made these calls, and link k moved so
 pub serve_port : (k : ℕ) (h h' : Hub) (m m' : Moves) (p p' : Port) (calls : List Call) (gave fed out took : List ℕ) (ended over : Bool)
     → MakesAll calls h h' → Adds m m' k gave took ended
@@ -164,7 +168,7 @@ only_nothing p left e = at (is_none p.ending) e where
   at true f = cc
   at false f = absurd cc
 
-is_ended : (p : Port) → is_some p.ending ≡ true → unfed_of (Some p) ≡ None
+pub is_ended : (p : Port) → is_some p.ending ≡ true → unfed_of (Some p) ≡ None
 is_ended p e = at p.ending e where
   at : (x : Option Ending) → is_some x ≡ true → unfed_with x ≡ None
   at None f = absurd cc
@@ -336,25 +340,6 @@ closed_serves k h h' m o p lets = record {
 -- the same moves, told in another way
 pub moved_so : (h h' : Hub) (m m' n n' : Moves) (p p' : Ports) → m ≡ n → n' ≡ m' → Serves h m p h' m' p' → Serves h n p h' n' p'
 moved_so h h' m m' n n' p p' before later s = subst (λ (w : Moves). Serves h w p h' n' p') before (subst (λ (w : Moves). Serves h m p h' w p') (sym later) s)
-
--- ---- a port that is cut
-
--- it wrote the first of the bytes, and the rest is dropped
-pub cut_writes : (k : ℕ) (m m' : Moves) (p p' : Port) (bytes : List ℕ) (n : ℕ) → p.left ≡ Some [] → p'.left ≡ None → is_some p'.ending ≡ true → Adds m m' k [] (take n bytes) false → Writes k m m' p bytes p'
-cut_writes k m m' p p' bytes n before cut end adds = record {
-  took = take n bytes;
-  added = adds;
-  left = subst (λ (x : Option (List ℕ)). PassesOn x bytes (take n bytes) p'.left) (sym before) (subst (λ (x : Option (List ℕ)). PassesOn (Some []) bytes (take n bytes) x) (sym cut) (passes_dropped bytes n));
-  unfed = subst (λ (x : Option (List ℕ)). PassesOn (unfed_of (Some p)) [] [] x) (sym (is_ended p' end)) (passes_end (unfed_of (Some p)));
-}
-
--- the hub did nothing
-pub cut_serve : (k : ℕ) (h h' : Hub) (m : Moves) (p p' : Port) → h' ≡ h → p.left ≡ Some [] → p'.left ≡ None → is_some p'.ending ≡ true → ServesPort k h m p h' m p'
-cut_serve k h h' m p p' same before cut end = subst (λ (x : Hub). ServesPort k h m p x m p') (sym same) (writes_serve k h m m p p' (cut_writes k m m p p' [] 0 before cut end (adds_nothing m m k (go_nowhere m))))
-
--- what the hub gave stands in a buffer that was empty
-pub given_serve : (k : ℕ) (h h' : Hub) (m m' : Moves) (p p' : Port) (bytes before out written : List ℕ) → Takes h k bytes h' → before ≡ [] → out ≡ before ++ bytes → written ≡ out → Writes k m m' p written p' → ServesPort k h m p h' m' p'
-given_serve k h h' m m' p p' bytes before out written takes none more all w = gave_serve k h h' m m' p p' bytes takes (subst (λ (bs : List ℕ). Writes k m m' p bs p') (all ∙ more ∙ ap (λ (t : List ℕ). t ++ bytes) none) w)
 
 -- ---- ports that stay
 

@@ -1,5 +1,5 @@
 -- What taking a connection's answers leaves of the others'.
-use Rattle.std.proofs.Common.{◌≡◌, ◌⊎◌, inl, ℕ, Bool, true, false, ◌&&◌, eqb, cond, List, [], set, slice_get, Option, Some, None, refl, sym, ap, subst, ◌∙◌}
+use Rattle.std.proofs.Common.{◌≡◌, ◌⊎◌, inr, ℕ, Bool, true, false, ◌&&◌, eqb, cond, List, [], set, slice_get, Option, Some, None, refl, sym, ap, subst, ◌∙◌}
 use Rattle.std.specs.Prelude.{unwrap_or}
 use Rattle.std.specs.Option.{option_map}
 use Rattle.std.proofs.lemmas.Bool.{eqb-true, eq-eqb}
@@ -7,11 +7,12 @@ use Rattle.ipc_terms.specs.declared.ids.Sid.{Sid}
 use Rattle.ipc_terms.specs.declared.call.Answer.{Answer}
 use Rattle.ipc_core.specs.CoreView.{CoreView}
 use Rattle.ipc_core.proofs.BoxSteps.{taken_elsewhere}
-use Rattle.ipc_hub.specs.Hub.{Connection, Hub, IsGone, Takes, core_after_take, untaken_of, untaken, untaken_at, is_over_at}
+use Rattle.ipc_hub.specs.Hub.{Connection, Hub, IsGone, Takes, core_after_take, untaken_of, untaken, untaken_at, is_over_at, spell_answers}
 use Rattle.ipc_hub.specs.Sessions.{EachHasItsOwn}
 use Rattle.ipc_hub.proofs.GoneLemmas.{none_left}
 use Rattle.ipc_loop.specs.Ports.{Port}
-use Rattle.ipc_loop.specs.Serving.{Answers, LetsGo, is_done}
+use Rattle.ipc_loop.specs.Portions.{Collects}
+use Rattle.ipc_loop.specs.Serving.{LetsGo, is_done}
 use Rattle.ipc_loop.proofs.PortLemmas.{get_set}
 
 -- what another session was answered stays
@@ -20,8 +21,8 @@ left_elsewhere a None t apart = refl
 left_elsewhere a (Some sid) None apart = refl
 left_elsewhere a (Some sid) (Some other) apart = taken_elsewhere a.untaken sid.0 other.0 (λ (q : other.0 ≡ sid.0). apart sid refl (ap (λ (n : ℕ). Some (record { 0 = n })) q))
 
-pub takes_answers : (h h' : Hub) (k : ℕ) (bytes : List ℕ) (port : Port) → EachHasItsOwn h.core h.connections → Takes h k bytes h' → Answers k h h' port
-takes_answers h h' k bytes port sound takes = record { answered = inl own; others = others; marks = takes.marked } where
+pub takes_collects : (h h' : Hub) (k : ℕ) (bytes : List ℕ) (port : Port) → EachHasItsOwn h.core h.connections → Takes h k bytes h' → Collects k h h' port
+takes_collects h h' k bytes port sound takes = record { all = inr own; others = others; marks = takes.marked } where
   x : Connection
   x = takes.before
 
@@ -48,6 +49,10 @@ takes_answers h h' k bytes port sound takes = record { answered = inl own; other
     at None e = refl
     at (Some z) e = stays i other z e _ z.has_refusal
 
+-- what is given is the spelling of what was untaken
+pub takes_spelled : (h h' : Hub) (k : ℕ) (bytes : List ℕ) → Takes h k bytes h' → spell_answers (untaken_at h k) ≡ Some bytes
+takes_spelled h h' k bytes takes = ap (λ (s : Option Connection). spell_answers (unwrap_or (option_map (untaken h.core) s) [])) takes.changes.was ∙ takes.given
+
 -- a link that is done is let go
 in_front : (a b : Bool) → (a && b) ≡ true → a ≡ true
 in_front true b e = refl
@@ -56,4 +61,4 @@ in_front false b e = absurd cc
 pub lets_go : (h h' : Hub) (k : ℕ) (p q : Port) → true ≡ is_done h k q → q ≡ p → EachHasItsOwn h.core h.connections → (bytes : List ℕ) × Takes h k bytes h' → (is_over_at h k ≡ true → IsGone h' k) → LetsGo h k p h'
 lets_go h h' k p q done is sound takes gone =
     let now : is_done h k p ≡ true = subst (λ (x : Port). is_done h k x ≡ true) is (sym done) in
-    record { done = now; bytes = takes.0; dropped = takes.1; gone = gone (in_front (is_over_at h k) _ now); others = (takes_answers h h' k takes.0 p sound takes.1).others }
+    record { done = now; bytes = takes.0; dropped = takes.1; gone = gone (in_front (is_over_at h k) _ now); others = (takes_collects h h' k takes.0 p sound takes.1).others }

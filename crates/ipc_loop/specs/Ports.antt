@@ -4,7 +4,8 @@ use Rattle.ipc_loop.specs.declared.ending.Ending.{Ending}
 
 -- left: what was taken from the hub for the link and is not written yet; none once the link takes nothing any more.
 -- ending: why the link isn't read any more. is_over: whether the hub knows. may_read, may_write: what the link was last
--- known to do. is_full: whether the hub keeps requests that can be stepped once answers are taken
+-- known to do. is_full: whether the hub keeps requests that can be stepped once answers are taken.
+-- requests: how many of its requests were stepped
 pub record Port : Type 0 where
   pub left : Option (List ℕ)
   pub ending : Option Ending
@@ -12,9 +13,10 @@ pub record Port : Type 0 where
   pub may_read : Bool
   pub may_write : Bool
   pub is_full : Bool
+  pub requests : ℕ
 
 abbrev pub new_port : Port
-new_port = record { left = Some []; ending = None; is_over = false; may_read = false; may_write = true; is_full = false }
+new_port = record { left = Some []; ending = None; is_over = false; may_read = false; may_write = true; is_full = false; requests = 0 }
 
 -- the port of link i, if it is open
 abbrev pub open_at : List (Option Port) → ℕ → Option Port

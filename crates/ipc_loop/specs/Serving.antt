@@ -1,7 +1,8 @@
 -- What serving makes of a hub, of links and of their ports.
-use Rattle.std.specs.Prelude.{◌≡◌, ◌≢◌, ◌⊎◌, ◌==◌, ◌&&◌, ◌+◌, ◌-◌, length, if◌then◌else◌, Bool, true, false, ℕ, zero, suc, List, [], ◌∷◌, ◌++◌, Option, Some, None}
+use Rattle.std.specs.Prelude.{◌≡◌, ◌≢◌, ◌⊎◌, ◌==◌, ◌&&◌, ◌+◌, ◌-◌, length, if◌then◌else◌, Bool, true, false, ℕ, zero, suc, List, [], ◌∷◌, ◌++◌, slice_get, unwrap_or, is_some, Option, Some, None}
 use Rattle.ipc_terms.specs.declared.call.Answer.{Answer}
-use Rattle.ipc_hub.specs.Hub.{Hub, Takes, IsGone, is_marked, is_over_at, untaken_at}
+use Rattle.std.specs.Option.{option_map}
+use Rattle.ipc_hub.specs.Hub.{Connection, Hub, Takes, IsGone, is_marked, is_over_at, untaken_at}
 use Rattle.ipc_hub.specs.Laws.{Call, TookPiece, MakesAll, stream_of, output_of}
 use Rattle.ipc_hub.specs.declared.fed.Fed.{Fed}
 use Rattle.ipc_hub.specs.declared.fed.Fed.TheVariants.{Over}
@@ -106,6 +107,13 @@ pub record Answers (k : ℕ) (hub : Hub) (hub' : Hub) (port' : Port) : Type 0 wh
   pub answered : (untaken_at hub' k ≡ []) ⊎ (port'.left ≢ Some [])
   pub others : (i : ℕ) → (k == i) ≡ false → untaken_at hub' i ≡ untaken_at hub i
   pub marks : hub'.marked ≡ hub.marked
+
+-- how many bytes of connection i's stream are kept, which were not stepped; and whether its hello was accepted
+abbrev pub kept_at : Hub → ℕ → ℕ
+kept_at hub i = unwrap_or (option_map (λ (x : Connection). length x.kept) (slice_get hub.connections i)) 0
+
+abbrev pub has_session_at : Hub → ℕ → Bool
+has_session_at hub i = unwrap_or (option_map (λ (x : Connection). is_some x.session) (slice_get hub.connections i)) false
 
 -- whether nothing of a connection is still to be written: it was answered no more, and all before is written, or its link takes
 -- nothing any more

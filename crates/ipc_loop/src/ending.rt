@@ -17,6 +17,7 @@ pub enum Ending {
     BadKey,
     /// A growth was refused: of the port, of a piece that was read, of each of 100 tries of a step, or of answers.
     NoMemory,
-    /// Its unfinished frame was the largest when all unfinished frames together had too many bytes.
+    /// Its unfinished frame was the largest when all unfinished frames together had too many bytes. Or it was longer than a
+    /// key's before the hello was accepted.
     TooMuchUnfinished,
 }

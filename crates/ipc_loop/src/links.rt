@@ -5,6 +5,7 @@ ghost use Rattle.std.specs.Io.{ReadsAtMost, WritesAtMost};
 ghost use Rattle.ipc_loop.specs.Moves.{Opens, Gives, Takes};
 
 use crate::ending::Ending;
+use ipc_terms::Uid;
 use std::io;
 use std::time::Duration;
 
@@ -48,8 +49,13 @@ pub trait Host {
         ensures bound { WritesAtMost result bytes.now }
         ensures moved { Takes (moves self.old) (moves self.new) number result bytes.now };
 
-    /// Closes the link, if there is one.
-    fn close(&mut self, number: u64, ending: Ending)
+    /// The connection's hello was accepted: it is this user's from now on. It is told once, before its answer is written.
+    fn greeted(&mut self, number: u64, user: Uid)
+        ensures moved { moves self.new ≡ moves self.old };
+
+    /// Closes the link, if there is one: how many requests of its connection were stepped, and why it ends. The hello is one
+    /// of them, also one that was refused, and so is a call that a rule refused; the hang-up is none.
+    fn close(&mut self, number: u64, requests: u64, ending: Ending)
         ensures moved { moves self.new ≡ moves self.old };
 
     /// Waits until something is ready, or the pause is over; without a pause, until something is ready.

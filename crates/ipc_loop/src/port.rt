@@ -5,6 +5,7 @@ ghost use Rattle.ipc_loop.specs.Ports.{new_port, is_ending, has_work};
 
 use crate::ending::Ending;
 use crate::unsent::Unsent;
+use ipc_terms::Uid;
 use std::alloc::Global;
 use std::marker::Model;
 
@@ -21,6 +22,10 @@ pub struct Port {
     pub is_full: bool,
     /// How often its requests were tried in vain for want of memory.
     pub tries: u32,
+    /// How many of its requests were stepped.
+    pub requests: u64,
+    /// Whose hello was accepted, until the host is told.
+    pub newcomer: Option<Uid>,
 }
 
 impl Model for Port {
@@ -29,7 +34,7 @@ impl Model for Port {
 
     ghost Value = { Port };
 
-    ghost view = { λ p. record { left = if p.is_cut then None else Some p.unsent; ending = p.ending; is_over = p.is_over; may_read = p.may_read; may_write = p.may_write; is_full = p.is_full } };
+    ghost view = { λ p. record { left = if p.is_cut then None else Some p.unsent; ending = p.ending; is_over = p.is_over; may_read = p.may_read; may_write = p.may_write; is_full = p.is_full; requests = p.requests } };
 }
 
 impl Port {
@@ -46,7 +51,16 @@ impl Port {
             may_write: true,
             is_full: false,
             tries: 0,
+            requests: 0,
+            newcomer: None,
         }
+    }
+
+    /// How many of its requests were stepped.
+    pub fn requests(&self) -> u64
+        ensures { result ≡ self.now.requests }
+    {
+        self.requests
     }
 
     /// Why the link isn't read any more.

@@ -1,10 +1,12 @@
 //! What a turn does for a link.
 
-ghost use Rattle.std.specs.Prelude.{◌≡◌, ◌≤◌, ◌||◌, [], List, Option, false, true, length, take, Some, None, is_some, IfOk, IfSome, IfNone, OnOk, OnErr};
+ghost use Rattle.std.specs.Prelude.{◌≡◌, ◌≤◌, ◌<◌, ◌||◌, ◌+◌, ◌-◌, ◌^◌, [], ℕ, List, Option, false, true, length, take, max, min, Some, None, is_some, IfOk, IfSome, IfNone, OnOk, OnErr};
 ghost use Rattle.ipc_hub.specs.Hub.{Hub, Feeds, is_over_at, untaken_at};
 ghost use Rattle.ipc_loop.specs.Moves.{Moved, Adds};
 ghost use Rattle.ipc_loop.specs.Ports.{is_all};
-ghost use Rattle.ipc_loop.specs.Serving.{ServesPort, KeepsPortMarks, Writes, FeedsPort, StaysReadable, Answers, is_done, ends_connection};
+ghost use Rattle.ipc_loop.specs.Serving.{ServesPort, KeepsPortMarks, Writes, FeedsPort, StaysReadable, Answers, kept_at, has_session_at, is_done, ends_connection};
+ghost use Rattle.ipc_loop.specs.Portions.{HasAll, Collects, StepsAndCollects, StepsPortion, AddsSpelled, AddsFew, IsUnder, KeepsBound};
+ghost use Rattle.ipc_loop.specs.Requests.{requests_among, Counts};
 
 use crate::ending::Ending;
 use crate::links::Host;
@@ -15,8 +17,20 @@ use ipc_terms::NoMemory;
 use std::alloc::Global;
 use std::io::ErrorKind;
 
-/// A connection's requests aren't stepped, nor is it read, while so many answers are untaken.
-pub const MOST_UNTAKEN: usize = 256;
+/// A connection's requests are stepped in portions: until so many answers are untaken.
+const PORTION: usize = 8;
+
+/// Behind a portion that was spelled in more bytes, requests are stepped one at a time.
+const SMALL: usize = 65_536;
+
+/// How many portions a turn has at most.
+const MOST_PORTIONS: u32 = 32;
+
+/// Nothing is stepped or read once so many bytes of answers are to be written.
+const MOST_SPELLED: usize = 1_048_576;
+
+/// How many bytes of its stream a connection may keep before its hello is accepted: the frame of a key has no more.
+const MOST_OF_A_STRANGER: usize = 65_542;
 
 /// How often a step or a piece that wants memory is tried.
 const MOST_TRIES: u32 = 100;
@@ -57,8 +71,23 @@ fn untaken(hub: &Hub, number: u64) -> usize
 }
 
 /// How many bytes of the connection's stream the hub keeps.
-pub fn kept(hub: &Hub, number: u64) -> usize {
-    hub.kept(Conn(number)).unwrap_or(0)
+pub fn kept(hub: &Hub, number: u64) -> usize
+    ensures { result ≡ kept_at hub.now number }
+{
+    match hub.kept(Conn(number)) {
+        Ok(count) => count,
+        Err(_) => 0,
+    }
+}
+
+/// Whether the connection's hello was accepted.
+fn has_session(hub: &Hub, number: u64) -> bool
+    ensures { result ≡ has_session_at hub.now number }
+{
+    match hub.has_session(Conn(number)) {
+        Ok(has_session) => has_session,
+        Err(_) => false,
+    }
 }
 
 impl Desk {
@@ -100,19 +129,43 @@ fn write_some<H: Host>(
     }
 }
 
-/// Feeds a piece, as long as there is room for answers. Want of memory is tried some times.
-fn feed_piece(hub: &mut Hub, alloc: Global, conn: Conn, piece: &[u8]) -> Result<Fed, HubFault>
+/// Feeds a piece, until so many answers are untaken. Want of memory is tried some times.
+fn feed_piece(
+    hub: &mut Hub,
+    alloc: Global,
+    conn: Conn,
+    piece: &[u8],
+    most: usize,
+) -> Result<Fed, HubFault>
     ensures ok { IfOk result (λ fed. Feeds hub.old conn.0 piece.now fed hub.new) }
+    ensures bound { OnOk result (length (untaken_at hub.new conn.0) ≤ max (length (untaken_at hub.old conn.0)) (most + 1)) }
     ensures err { OnErr result (hub.new ≡ hub.old) }
 {
     for _ in 1..MOST_TRIES {
-        match hub.feed_some(alloc, conn, piece, MOST_UNTAKEN) {
+        match hub.feed_some(alloc, conn, piece, most) {
             Err(HubFault::NoMemory) => {}
             Ok(fed) => return Ok(fed),
             Err(fault) => return Err(fault),
         }
     }
-    hub.feed_some(alloc, conn, piece, MOST_UNTAKEN)
+    hub.feed_some(alloc, conn, piece, most)
+}
+
+/// Until how many answers are untaken a portion is stepped, behind one that was spelled in many bytes or in few.
+fn next_portion(is_large: bool) -> usize
+    ensures { result ≤ 8 }
+{
+    if is_large { 1 } else { PORTION }
+}
+
+/// How many of the events that were recorded are requests: all but the hang-up that a fault brought.
+fn requests_among(events: usize, fed: &Result<Fed, HubFault>) -> usize
+    ensures { result ≡ requests_among events fed.now }
+{
+    match fed {
+        Ok(Fed::Over(End::Wire(_))) => events.saturating_sub(1),
+        _ => events,
+    }
 }
 
 impl Port {
@@ -121,6 +174,7 @@ impl Port {
         ensures left { self.new.left ≡ self.old.left }
         ensures may_read { self.new.may_read ≡ self.old.may_read }
         ensures ended { is_some self.new.ending ≡ true }
+        ensures requests { self.new.requests ≡ self.old.requests }
     {
         if self.ending.is_none() {
             self.ending = Some(ending);
@@ -152,39 +206,43 @@ impl Port {
             return;
         }
         match write_some(host, number, self.unsent.as_slice(), &mut self.may_write) {
-            Some(count) => self.unsent.advance(alloc, count),
+            Some(count) => self.unsent.advance(count),
             None => self.cut(alloc, Ending::WriteFailed),
         }
     }
 
-    /// Writes these bytes, where all before is written. What the link doesn't take is left for it.
-    fn put<H: Host>(&mut self, alloc: Global, host: &mut H, number: u64, bytes: &[u8])
+    /// Lends a buffer for what is taken, where all before is written.
+    fn lend(&mut self, buffer: &mut Vec<u8>)
         requires { self.old.left ≡ Some [] }
-        ensures { Writes number (H.moves host.old) (H.moves host.new) self.old bytes.now self.new }
+        ensures { self.new ≡ self.old }
     {
-        let Some(count) = write_some(host, number, bytes, &mut self.may_write) else {
-            self.cut(alloc, Ending::WriteFailed);
+        self.unsent.lend(buffer);
+    }
+
+    /// Gives the buffer back.
+    fn give_back(&mut self, alloc: Global, buffer: &mut Vec<u8>)
+        ensures { self.new ≡ self.old }
+    {
+        self.unsent.give_back(alloc, buffer);
+    }
+
+    /// Takes what the connection was answered, behind what is left.
+    fn take(&mut self, hub: &mut Hub, alloc: Global, number: u64)
+        ensures serves { (moves : Option (List Moved)) → ServesPort number hub.old moves self.old hub.new moves self.new }
+        ensures collects { Collects number hub.old hub.new self.new }
+        ensures adds { AddsSpelled (untaken_at hub.old number) self.old.left self.new.left }
+    {
+        if self.is_cut {
             return;
-        };
-        match self.unsent.keep(&bytes[count..]) {
+        }
+        if untaken(hub, number) == 0 {
+            return;
+        }
+        hub.is_sound();
+        match self.unsent.take(hub, number) {
             Ok(()) => {}
             Err(NoMemory) => self.cut(alloc, Ending::NoMemory),
         }
-    }
-
-    /// Takes what the connection was answered, where all before is written, and writes it.
-    fn answer<H: Host>(&mut self, hub: &mut Hub, host: &mut H, number: u64, desk: &mut Desk)
-        requires { self.old.left ≡ Some [] }
-        ensures serves { ServesPort number hub.old (H.moves host.old) self.old hub.new (H.moves host.new) self.new }
-        ensures answers { Answers number hub.old hub.new self.new }
-    {
-        desk.answers.clear();
-        hub.is_sound();
-        let Ok(()) = hub.take_into(Conn(number), &mut desk.answers) else {
-            self.cut(desk.alloc, Ending::NoMemory);
-            return;
-        };
-        self.put(desk.alloc, host, number, desk.answers.as_slice());
     }
 
     /// Writes what is left, and then what the connection was answered since, as far as the link takes it.
@@ -193,9 +251,13 @@ impl Port {
         ensures answers { Answers number hub.old hub.new self.new }
     {
         self.flush(desk.alloc, host, number);
-        if self.is_written() {
-            self.answer(hub, host, number, desk);
+        if !self.is_written() {
+            return;
         }
+        self.lend(&mut desk.answers);
+        self.take(hub, desk.alloc, number);
+        self.flush(desk.alloc, host, number);
+        self.give_back(desk.alloc, &mut desk.answers);
     }
 
     /// What became of a piece.
@@ -204,6 +266,7 @@ impl Port {
         ensures may_read { self.new.may_read ≡ self.old.may_read }
         ensures err { OnErr fed (is_some self.new.ending ≡ true) }
         ensures over { IfOk fed (λ fed. ends_connection fed ≡ true → is_some self.new.ending ≡ true) }
+        ensures requests { self.new.requests ≡ self.old.requests }
     {
         self.is_full = false;
         match fed {
@@ -228,14 +291,29 @@ impl Port {
         }
     }
 
-    /// Steps the requests of a piece, as long as there is room for answers.
-    fn feed(&mut self, hub: &mut Hub, alloc: Global, number: u64, piece: &[u8])
+    /// Counts the requests that were stepped where so many events were recorded before, and finds whose hello was accepted: it
+    /// is the first of the connection's requests.
+    fn count(&mut self, hub: &Hub, before: usize, fed: &Result<Fed, HubFault>)
+        ensures { self.new ≡ record self.old { requests = min (self.old.requests + requests_among (length hub.now.core.history - before) fed.now) (2 ^ 64 - 1) } }
+    {
+        if self.requests == 0 {
+            self.newcomer = hub.started_at(before);
+        }
+        let requests = requests_among(hub.recorded().saturating_sub(before), fed);
+        self.requests = self.requests.saturating_add(requests as u64);
+    }
+
+    /// Steps the requests of a piece, until so many answers are untaken.
+    fn feed(&mut self, hub: &mut Hub, alloc: Global, number: u64, piece: &[u8], most: usize)
         requires { self.old.ending ≡ None }
         ensures fed { FeedsPort number hub.old self.old piece.now hub.new self.new }
-        ensures marks { KeepsPortMarks number hub.old self.old hub.new self.new }
+        ensures steps { StepsPortion number (most + 1) hub.old self.old hub.new self.new }
+        ensures counted { Counts hub.old self.old hub.new self.new }
         ensures may_read { self.new.may_read ≡ self.old.may_read }
     {
-        let fed = feed_piece(hub, alloc, Conn(number), piece);
+        let before = hub.recorded();
+        let fed = feed_piece(hub, alloc, Conn(number), piece, most);
+        self.count(hub, before, &fed);
         self.note_fed(fed);
     }
 
@@ -251,7 +329,7 @@ impl Port {
     )
         requires { self.old.ending ≡ None }
         ensures serves { ServesPort number hub.old (H.moves host.old) self.old hub.new (H.moves host.new) self.new }
-        ensures marks { KeepsPortMarks number hub.old self.old hub.new self.new }
+        ensures steps { StepsPortion number 9 hub.old self.old hub.new self.new }
         ensures more { StaysReadable number (H.moves host.old) (H.moves host.new) self.old self.new }
     {
         match host.read(number, buffer) {
@@ -259,7 +337,7 @@ impl Port {
                 if count == 0 {
                     self.end(Ending::Closed);
                 } else {
-                    self.feed(hub, alloc, number, &buffer[..count]);
+                    self.feed(hub, alloc, number, &buffer[..count], PORTION);
                 }
             }
             Err(error) => match error.kind() {
@@ -270,18 +348,116 @@ impl Port {
         }
     }
 
-    /// Steps what the hub kept, or else reads; where the link is still read, and all answers are written.
+    /// Steps what the hub kept, or else reads.
+    fn start<H: Host>(&mut self, hub: &mut Hub, host: &mut H, number: u64, desk: &mut Desk)
+        requires { self.old.ending ≡ None }
+        ensures serves { ServesPort number hub.old (H.moves host.old) self.old hub.new (H.moves host.new) self.new }
+        ensures steps { StepsPortion number 9 hub.old self.old hub.new self.new }
+    {
+        if self.is_full {
+            self.feed(hub, desk.alloc, number, &[], PORTION);
+        } else if self.may_read {
+            self.read(hub, host, number, desk.alloc, &mut desk.piece);
+        }
+    }
+
+    /// Whether the link is still read, and few bytes are to be written.
+    fn has_room(&self) -> bool
+        ensures on { result ≡ true → self.now.ending ≡ None }
+        ensures under { result ≡ true → IsUnder self.now.left }
+        ensures room { (left : List ℕ) → self.now.ending ≡ None → self.now.left ≡ Some left → length left < 1048576 → result ≡ true }
+    {
+        self.ending.is_none() && self.unsent.len() < MOST_SPELLED
+    }
+
+    /// Steps one more portion of what the hub kept, or one request, and takes what it was answered. Says whether that was
+    /// spelled in many bytes.
+    fn step_again(&mut self, hub: &mut Hub, alloc: Global, number: u64, is_large: bool) -> bool
+        requires { self.old.ending ≡ None }
+        ensures serves { (moves : Option (List Moved)) → ServesPort number hub.old moves self.old hub.new moves self.new }
+        ensures collects { StepsAndCollects number hub.old hub.new self.new }
+        ensures adds { HasAll number hub.old self.old → AddsFew 9 self.old.left self.new.left }
+    {
+        let before = self.unsent.len();
+        let most = next_portion(is_large);
+        self.feed(hub, alloc, number, &[], most);
+        self.take(hub, alloc, number);
+        self.unsent.len().saturating_sub(before) > SMALL
+    }
+
+    /// Steps more of what the hub kept, until enough is to be written or nothing is left to step.
+    fn step_on(&mut self, hub: &mut Hub, alloc: Global, number: u64, is_large: bool)
+        requires { HasAll number hub.old self.old }
+        ensures serves { (moves : Option (List Moved)) → ServesPort number hub.old moves self.old hub.new moves self.new }
+        ensures collects { StepsAndCollects number hub.old hub.new self.new }
+        ensures bound { KeepsBound self.old.left self.new.left }
+    {
+        let mut is_large = is_large;
+        for _ in 1..MOST_PORTIONS {
+            // Behind a step that found no memory, others get their turns first.
+            if !self.is_full || self.tries > 0 {
+                return;
+            }
+            if !self.has_room() {
+                return;
+            }
+            is_large |= self.step_again(hub, alloc, number, is_large);
+        }
+    }
+
+    /// Steps what the hub kept, or else reads and steps, where the link is still read, and takes what is answered, up to 1 MiB
+    /// and a portion.
     fn go_on<H: Host>(&mut self, hub: &mut Hub, host: &mut H, number: u64, desk: &mut Desk)
+        requires { HasAll number hub.old self.old }
+        ensures serves { ServesPort number hub.old (H.moves host.old) self.old hub.new (H.moves host.new) self.new }
+        ensures collects { StepsAndCollects number hub.old hub.new self.new }
+        ensures bound { KeepsBound self.old.left self.new.left }
+    {
+        if !self.has_room() {
+            return;
+        }
+        let before = self.unsent.len();
+        self.start(hub, host, number, desk);
+        self.take(hub, desk.alloc, number);
+        let is_large = self.unsent.len().saturating_sub(before) > SMALL;
+        self.step_on(hub, desk.alloc, number, is_large);
+    }
+
+    /// Tells the host whose connection it is, once its hello was accepted.
+    fn greet<H: Host>(&mut self, host: &mut H, number: u64)
+        ensures moved { H.moves host.new ≡ H.moves host.old }
+        ensures same { self.new ≡ self.old }
+    {
+        if let Some(user) = self.newcomer.take() {
+            host.greeted(number, user);
+        }
+    }
+
+    /// Writes what is left. Where all is written, goes on, and writes what is answered.
+    fn work<H: Host>(&mut self, hub: &mut Hub, host: &mut H, number: u64, desk: &mut Desk)
         ensures serves { ServesPort number hub.old (H.moves host.old) self.old hub.new (H.moves host.new) self.new }
         ensures marks { KeepsPortMarks number hub.old self.old hub.new self.new }
     {
-        if self.ending.is_some() || !self.is_written() {
+        self.flush(desk.alloc, host, number);
+        if !self.is_written() {
             return;
         }
-        if self.is_full {
-            self.feed(hub, desk.alloc, number, &[]);
-        } else if self.may_read {
-            self.read(hub, host, number, desk.alloc, &mut desk.piece);
+        self.lend(&mut desk.answers);
+        self.take(hub, desk.alloc, number);
+        self.go_on(hub, host, number, desk);
+        self.greet(host, number);
+        self.flush(desk.alloc, host, number);
+        self.give_back(desk.alloc, &mut desk.answers);
+    }
+
+    /// Ends a link whose connection keeps too much before its hello is accepted.
+    fn keep_few(&mut self, hub: &Hub, number: u64)
+        ensures serves { (moves : Option (List Moved)) → ServesPort number hub.now moves self.old hub.now moves self.new }
+        ensures marks { KeepsPortMarks number hub.now self.old hub.now self.new }
+        ensures few { self.new.ending ≡ None → has_session_at hub.now number ≡ false → kept_at hub.now number ≤ 65542 }
+    {
+        if !has_session(hub, number) && kept(hub, number) > MOST_OF_A_STRANGER {
+            self.end(Ending::TooMuchUnfinished);
         }
     }
 
@@ -308,13 +484,13 @@ impl Port {
         self.hang_up(hub, alloc, number);
     }
 
-    /// A turn: writes what can be written, and where all is written reads and steps a piece.
+    /// A turn: writes what can be written, and where all is written steps requests or reads, and writes what is answered.
     pub fn serve<H: Host>(&mut self, hub: &mut Hub, host: &mut H, number: u64, desk: &mut Desk)
         ensures serves { ServesPort number hub.old (H.moves host.old) self.old hub.new (H.moves host.new) self.new }
         ensures marks { KeepsPortMarks number hub.old self.old hub.new self.new }
     {
-        self.send(hub, host, number, desk);
-        self.go_on(hub, host, number, desk);
+        self.work(hub, host, number, desk);
+        self.keep_few(hub, number);
         self.hang_up(hub, desk.alloc, number);
     }
 

@@ -34,7 +34,8 @@ fn settle<H: Host>(hub: &mut Hub, host: &mut H, ports: &mut Ports, number: u64, 
     let Ok(()) = hub.discard(Conn(number)) else {
         unreachable!();
     };
-    host.close(number, port.why().unwrap_or(Ending::NoMemory));
+    let ending = port.why().unwrap_or(Ending::NoMemory);
+    host.close(number, port.requests(), ending);
 }
 
 /// Gives the port that was taken out a turn.

@@ -5,6 +5,7 @@ use crate::files::{SocketFile, listen_at_file, path_of};
 use crate::lingering::LingeringStreams;
 use crate::streams::{Listener, Stream};
 use ipc_loop::{Ending, Host, Ready};
+use ipc_terms::Uid;
 use mio::event::Event;
 use mio::net::UnixListener;
 use mio::{Events, Poll, Token};
@@ -157,7 +158,9 @@ impl<R: Clock> Host for Sockets<'_, R> {
         link.write(bytes)
     }
 
-    fn close(&mut self, number: u64, ending: Ending) {
+    fn greeted(&mut self, _number: u64, _user: Uid) {}
+
+    fn close(&mut self, number: u64, _requests: u64, ending: Ending) {
         let Some(place) = self.links.get_mut(number as usize) else {
             return;
         };

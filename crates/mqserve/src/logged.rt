@@ -3,6 +3,7 @@
 use crate::log::{Log, words_of_fault};
 use ipc_loop::{Ending, Host, Ready};
 use ipc_sockets::Sockets;
+use ipc_terms::Uid;
 use std::io;
 use std::sync::Wait;
 use std::time::{Clock, Duration};
@@ -29,8 +30,12 @@ impl<R: Print + Eprint + Wait + Clock> Host for LoggedSockets<'_, R> {
         self.sockets.write(number, bytes)
     }
 
-    fn close(&mut self, number: u64, ending: Ending) {
-        self.sockets.close(number, ending);
+    fn greeted(&mut self, number: u64, user: Uid) {
+        self.sockets.greeted(number, user);
+    }
+
+    fn close(&mut self, number: u64, requests: u64, ending: Ending) {
+        self.sockets.close(number, requests, ending);
         let ending = words_of(ending);
         self.log.ended(number, format_args!("ending={ending}"));
     }

@@ -5,6 +5,7 @@ ghost use Rattle.std.specs.Prelude.{◌≡◌, IfOk};
 
 use crate::peers::{Cut, Peers};
 use ipc_loop::{Ending, Host, Ready};
+use ipc_terms::Uid;
 use std::alloc::{AllocError, Global};
 use std::io;
 use std::io::ErrorKind;
@@ -136,7 +137,9 @@ impl Host for Recorder {
         Ok(count)
     }
 
-    fn close(&mut self, number: u64, ending: Ending) {
+    fn greeted(&mut self, _number: u64, _user: Uid) {}
+
+    fn close(&mut self, number: u64, _requests: u64, ending: Ending) {
         self.peers.close(number, ending);
     }
 

@@ -1,6 +1,7 @@
 //! Links in memory, which give what is written for them and keep what they are given.
 
 use ipc_loop::{Ending, Host, Ready};
+use ipc_terms::Uid;
 use std::alloc::{AllocError, Global};
 use std::io;
 use std::io::ErrorKind;
@@ -195,7 +196,9 @@ impl Host for Memory {
         Ok(count)
     }
 
-    fn close(&mut self, number: u64, ending: Ending) {
+    fn greeted(&mut self, _number: u64, _user: Uid) {}
+
+    fn close(&mut self, number: u64, _requests: u64, ending: Ending) {
         if let Some(link) = self.links.get_mut(number as usize) {
             link.ending = Some(ending);
         }

@@ -1,14 +1,26 @@
-use Rattle.std.proofs.Common.{refl, ap, sym, ◌∙◌}
-use Rattle.ipc_loop.specs.Ports.{Port}
-use Rattle.ipc_loop.proofs.MoveLemmas.{go_nowhere, adds_nothing}
-use Rattle.ipc_loop.proofs.ServingLemmas.{stays_serve, feeds_serve, not_some}
+use Rattle.std.proofs.Common.{refl, arith}
+use Rattle.ipc_loop.proofs.MoveLemmas.{go_nowhere}
+use Rattle.ipc_loop.proofs.ServingLemmas.{stays_serve, port_both}
+use Rattle.ipc_loop.proofs.PortionLemmas.{same_steps, steps_both, same_bound, adds_bound, bound_both, portion_collects, portion_adds}
 use Rattle.ipc_loop.proofs.port.Port.go_on.Goals as goal
 
-pub returns-then-is_some-clause-serves : goal.returns-then-is_some-clause-serves
-returns-then-is_some-clause-serves g c = stays_serve _ _ _ _ _ _ (go_nowhere _) refl refl
+pub returns-then-not-has_room-clause-serves : goal.returns-then-not-has_room-clause-serves
+returns-then-not-has_room-clause-serves g c = stays_serve _ _ _ _ _ _ (go_nowhere _) refl refl
 
-pub returns-then-self-clause-serves : goal.returns-then-self-clause-serves
-returns-then-self-clause-serves g c = feeds_serve _ _ _ _ _ _ _ _ (sym (ap (λ (p : Port). p.ending) c.self.view_is) ∙ not_some c.self.inside.ending c.if-is_some.ensures) (adds_nothing _ _ _ (go_nowhere _)) c.feed.ensures.fed
+pub returns-then-not-has_room-clause-collects : goal.returns-then-not-has_room-clause-collects
+returns-then-not-has_room-clause-collects g c = same_steps _ _ _ c.requires
 
-pub returns-else-self-2-clause-serves : goal.returns-else-self-2-clause-serves
-returns-else-self-2-clause-serves g c = stays_serve _ _ _ _ _ _ (go_nowhere _) refl refl
+pub returns-then-not-has_room-clause-bound : goal.returns-then-not-has_room-clause-bound
+returns-then-not-has_room-clause-bound g c = same_bound _
+
+pub step_on-requires : goal.step_on-requires
+step_on-requires g c = c.take.ensures.collects.all
+
+pub returns-clause-serves : goal.returns-clause-serves
+returns-clause-serves g c = port_both _ _ _ _ _ _ _ _ _ _ c.start.ensures.serves (port_both _ _ _ _ _ _ _ _ _ _ (c.take.ensures.serves (g.H.Host.moves c.start.new.host)) (c.step_on.ensures.serves (g.H.Host.moves c.start.new.host)))
+
+pub returns-clause-collects : goal.returns-clause-collects
+returns-clause-collects g c = steps_both _ _ _ _ _ _ (portion_collects _ _ _ _ _ _ _ _ c.start.ensures.steps c.take.ensures.collects) c.step_on.ensures.collects
+
+pub returns-clause-bound : goal.returns-clause-bound
+returns-clause-bound g c = bound_both _ _ _ (adds_bound _ _ _ (c.if-not-has_room.ensures.under refl) (portion_adds c.args.number 9 c.args.hub.now c.start.new.hub c.args.self.now c.start.new.self c.take.new.self c.requires (omega arith) c.start.ensures.steps c.take.ensures.adds)) c.step_on.ensures.bound

@@ -2,6 +2,7 @@ use Rattle.std.proofs.Common.{ℕ, ◌<◌, ◌∷◌, [], take, arith, refl, ap
 use Rattle.ipc_loop.specs.Moves.{GoOn, LinkGave}
 use Rattle.ipc_loop.specs.Ports.{Port}
 use Rattle.ipc_loop.proofs.ServingLemmas.{ends_serve, stays_serve, fails_serve, piece_serve, not_end, waits_gave_none}
+use Rattle.ipc_loop.proofs.PortionLemmas.{same_portion}
 use Rattle.ipc_loop.proofs.port.Port.read.Goals as goal
 
 pub returns-then-count-eq0-clause-serves : goal.returns-then-count-eq0-clause-serves
@@ -24,3 +25,15 @@ returns-in-Interrupted-clause-serves g c = stays_serve _ _ _ _ _ _ c.in-Err.ensu
 
 pub returns-in_default-clause-serves : goal.returns-in_default-clause-serves
 returns-in_default-clause-serves g c = fails_serve _ _ _ _ _ _ c.in-Err.ensures.moved c.end-in_default.ensures.left c.end-in_default.ensures.ended
+
+pub returns-then-count-eq0-clause-steps : goal.returns-then-count-eq0-clause-steps
+returns-then-count-eq0-clause-steps g c = same_portion _ _ _ _ _ c.end.ensures.left
+
+pub returns-in-WouldBlock-clause-steps : goal.returns-in-WouldBlock-clause-steps
+returns-in-WouldBlock-clause-steps g c = same_portion _ _ _ _ _ (ap (λ (p : Port). p.left) c.self.view_is)
+
+pub returns-in-Interrupted-clause-steps : goal.returns-in-Interrupted-clause-steps
+returns-in-Interrupted-clause-steps g c = same_portion _ _ _ _ _ refl
+
+pub returns-in_default-clause-steps : goal.returns-in_default-clause-steps
+returns-in_default-clause-steps g c = same_portion _ _ _ _ _ c.end-in_default.ensures.left

@@ -1,8 +1,20 @@
-use Rattle.ipc_loop.proofs.ServingLemmas.{writes_serve, port_both}
+use Rattle.std.proofs.Common.{refl, sym, subst, ◌∙◌}
+use Rattle.ipc_loop.specs.Ports.{Port}
+use Rattle.ipc_loop.specs.Serving.{Answers}
+use Rattle.ipc_loop.proofs.ServingLemmas.{writes_serve, port_both, port_so}
+use Rattle.ipc_loop.proofs.PortionLemmas.{wrote_answers, left_answers}
 use Rattle.ipc_loop.proofs.port.Port.send.Goals as goal
 
-pub returns-then-is_written-clause-serves : goal.returns-then-is_written-clause-serves
-returns-then-is_written-clause-serves g c = port_both _ _ _ _ _ _ _ _ _ _ (writes_serve _ _ _ _ _ _ c.flush.ensures) c.answer.ensures.serves
+pub returns-then-not-is_written-clause-serves : goal.returns-then-not-is_written-clause-serves
+returns-then-not-is_written-clause-serves g c = writes_serve _ _ _ _ _ _ c.flush.ensures
 
-pub returns-else-is_written-clause-serves : goal.returns-else-is_written-clause-serves
-returns-else-is_written-clause-serves g c = writes_serve _ _ _ _ _ _ c.flush.ensures
+pub returns-then-not-is_written-clause-answers : goal.returns-then-not-is_written-clause-answers
+returns-then-not-is_written-clause-answers g c = left_answers c.args.number c.args.hub.now c.flush.new.self (sym c.if-not-is_written.ensures)
+
+pub returns-clause-serves : goal.returns-clause-serves
+returns-clause-serves g c =
+    port_both _ _ _ _ _ _ _ _ _ _ (port_so _ _ _ _ _ _ _ _ _ refl c.lend.ensures (writes_serve _ _ _ _ _ _ c.flush.ensures))
+    (port_both _ _ _ _ _ _ _ _ _ _ (c.take.ensures.serves (g.H.Host.moves c.flush.new.host)) (port_so _ _ _ _ _ _ _ _ _ refl c.give_back.ensures (writes_serve _ _ _ _ _ _ c.flush-2.ensures)))
+
+pub returns-clause-answers : goal.returns-clause-answers
+returns-clause-answers g c = subst (λ (p : Port). Answers c.args.number c.args.hub.now c.take.new.hub p) (sym c.give_back.ensures) (wrote_answers c.args.number c.args.hub.now c.take.new.hub _ _ c.take.new.self c.flush-2.new.self c.take.ensures.collects c.flush-2.ensures)

@@ -1,9 +1,8 @@
-use Rattle.ipc_loop.proofs.OwingLemmas.{answers_keep}
 use Rattle.ipc_loop.proofs.ServingLemmas.{port_both}
 use Rattle.ipc_loop.proofs.port.Port.serve.Goals as goal
 
 pub returns-clause-serves : goal.returns-clause-serves
-returns-clause-serves g c = port_both _ _ _ _ _ _ _ _ _ _ c.send.ensures.serves (port_both _ _ _ _ _ _ _ _ _ _ c.go_on.ensures.serves (c.hang_up.ensures.serves (g.H.Host.moves c.go_on.new.host)))
+returns-clause-serves g c = port_both _ _ _ _ _ _ _ _ _ _ c.work.ensures.serves (port_both _ _ _ _ _ _ _ _ _ _ (c.keep_few.ensures.serves (g.H.Host.moves c.work.new.host)) (c.hang_up.ensures.serves (g.H.Host.moves c.work.new.host)))
 
 pub returns-clause-marks : goal.returns-clause-marks
-returns-clause-marks g c = λ others i owed. c.hang_up.ensures.marks others i (c.go_on.ensures.marks others i (answers_keep _ _ _ _ _ c.send.ensures.answers others i owed))
+returns-clause-marks g c = λ others i owed. c.hang_up.ensures.marks others i (c.keep_few.ensures.marks others i (c.work.ensures.marks others i owed))

@@ -1,0 +1,12 @@
+use Rattle.std.proofs.Common.{Option, List}
+use Rattle.ipc_loop.specs.Moves.{Moved}
+use Rattle.ipc_loop.specs.Serving.{ServesPort}
+use Rattle.ipc_loop.specs.Portions.{StepsAndCollects, KeepsBound}
+use Rattle.ipc_loop.proofs.port.Port.step_on.Given as goal
+
+abbrev pub invariant-loop : goal.invariant-loop
+invariant-loop l = record {
+  serves : (moves : Option (List Moved)) → ServesPort l.fn.number l.fn.hub moves l.fn.self l.hub moves l.self;
+  collects : StepsAndCollects l.fn.number l.fn.hub l.hub l.self;
+  bound : KeepsBound l.fn.self.left l.self.left;
+}
