@@ -18,9 +18,11 @@ Moves = Option (List Moved)
 
 -- rounds come to one serving, which opens some links
 rounds_serve : (rounds : List Between) (old new : Server) (moves moves' : Moves) → MakesRounds rounds old moves new moves' → (opened : List ℕ) × ServesOpening opened old.hub moves (port_at old.ports) new.hub moves' (port_at new.ports)
-rounds_serve [] old new moves moves' made =
-    ([], subst (λ (z : Server). ServesOpening [] old.hub moves (port_at old.ports) z.hub moves' (port_at z.ports)) (sym made.0)
-         (subst (λ (m : Moves). ServesOpening [] old.hub moves (port_at old.ports) old.hub m (port_at old.ports)) (sym made.1) (served_nothing old.hub moves (port_at old.ports))))
+rounds_serve [] old new moves moves' made = (
+  [],
+  subst (λ (z : Server). ServesOpening [] old.hub moves (port_at old.ports) z.hub moves' (port_at z.ports)) (sym made.0)
+      (subst (λ (m : Moves). ServesOpening [] old.hub moves (port_at old.ports) old.hub m (port_at old.ports)) (sym made.1) (served_nothing old.hub moves (port_at old.ports))),
+)
 rounds_serve (next ∷ rounds) old new moves moves' made =
     let later = rounds_serve rounds next.server new next.moves moves' made.1 in
     (_, opening_both _ later.0 old.hub next.server.hub new.hub moves next.moves moves' (port_at old.ports) (port_at next.server.ports) (port_at new.ports) made.0 later.1)
@@ -40,17 +42,18 @@ each_link c bounds rounds server moved i x sid range made there own =
     let all : moved ≡ s.moved = s.went in
     let gave = beginning (read_of i s.moved) (stream_of i s.calls) _ (s.read i) in
     let took = beginning (output_of i s.calls) (written_of i s.moved) _ (s.written i) in
-    let given = each_output c s.calls server.hub i x sid range s.made there own in
-    (record {
-       fed = stream_of i s.calls;
-       rest = gave.0;
-       whole = ap (read_of i) all ∙ gave.1;
-       stepped = each_stream c s.calls server.hub i x sid range s.made there own;
-     },
-     record {
-       rest = took.0 ++ given.left;
-       whole = given.whole ∙ ap (λ (t : List ℕ). Some (t ++ given.left)) took.1 ∙ ap Some (append_assoc (written_of i s.moved) took.0 given.left) ∙ ap (λ (m : List Moved). Some (written_of i m ++ (took.0 ++ given.left))) (sym all);
-     })
+    let given = each_output c s.calls server.hub i x sid range s.made there own in (
+      record {
+        fed = stream_of i s.calls;
+        rest = gave.0;
+        whole = ap (read_of i) all ∙ gave.1;
+        stepped = each_stream c s.calls server.hub i x sid range s.made there own;
+      },
+      record {
+        rest = took.0 ++ given.left;
+        whole = given.whole ∙ ap (λ (t : List ℕ). Some (t ++ given.left)) took.1 ∙ ap Some (append_assoc (written_of i s.moved) took.0 given.left) ∙ ap (λ (m : List Moved). Some (written_of i m ++ (took.0 ++ given.left))) (sym all);
+      },
+    )
 
 pub each_other : EachOtherIsRefused
 each_other c bounds rounds server moved i x range made there none =

@@ -14,11 +14,11 @@ const QUIET_ROUNDS: u32 = 3;
 /// Has the server make rounds until its host is at rest and nothing moves any more. Says whether it came to that.
 pub fn settle(server: &mut Server, host: &mut Recorder) -> io::Result<bool> {
     let mut moves = host.moves().len();
-    let mut quiet = 0;
+    let mut quiet = 0u32;
     for _ in 0..MOST_ROUNDS {
         server.round(host)?;
         quiet = if host.moves().len() == moves && host.is_at_rest() {
-            quiet + 1
+            quiet.saturating_add(1)
         } else {
             0
         };

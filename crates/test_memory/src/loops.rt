@@ -82,22 +82,22 @@ static LINKS: [(&[u8], Ending); 5] = [
 /// In a record, whose hello and tick are.
 const NOBODY: u64 = u64::MAX;
 
-/// The session, the call, the rule and the name of each record.
+/// The session, the call, the rule and the name of each record, the name behind its length.
 static RECORDS: [(u64, u8, u16, &[u8]); 14] = [
-    (NOBODY, 1, 0, b""),
-    (0, 3, 0, b"/a"),
-    (NOBODY, 1, 0, b""),
-    (1, 3, 0, b"/a"),
-    (1, 7, 0, b""),
-    (0, 6, 0, b""),
-    (NOBODY, 1, 31, b""),
-    (1, 27, 0, b""),
-    (NOBODY, 29, 0, b""),
-    (NOBODY, 1, 0, b""),
-    (2, 25, 0, b""),
-    (0, 25, 0, b""),
-    (1, 25, 0, b""),
-    (NOBODY, 1, 0, b""),
+    (NOBODY, 1, 0, b"\0\0"),
+    (0, 3, 0, b"\0\x02/a"),
+    (NOBODY, 1, 0, b"\0\0"),
+    (1, 3, 0, b"\0\x02/a"),
+    (1, 7, 0, b"\0\0"),
+    (0, 6, 0, b"\0\0"),
+    (NOBODY, 1, 31, b"\0\0"),
+    (1, 27, 0, b"\0\0"),
+    (NOBODY, 29, 0, b"\0\0"),
+    (NOBODY, 1, 0, b"\0\0"),
+    (2, 25, 0, b"\0\0"),
+    (0, 25, 0, b"\0\0"),
+    (1, 25, 0, b"\0\0"),
+    (NOBODY, 1, 0, b"\0\0"),
 ];
 
 /// Puts the frame of the records behind what stands there.
@@ -108,7 +108,6 @@ fn put_records(out: &mut Vec<u8>) -> Result<(), Fault> {
         out.extend_from_slice(&session.to_be_bytes())?;
         out.push(*call)?;
         out.extend_from_slice(&rule.to_be_bytes())?;
-        out.extend_from_slice(&(name.len() as u16).to_be_bytes())?;
         out.extend_from_slice(name)?;
     }
     Ok(())
@@ -117,7 +116,7 @@ fn put_records(out: &mut Vec<u8>) -> Result<(), Fault> {
 /// All that the link takes.
 fn wanted_of(alloc: Global, number: u64, front: &[u8]) -> Result<Vec<u8>, Fault> {
     let mut all = Vec::from_slice(alloc, front)?;
-    if number + 1 == LINKS.len() as u64 {
+    if number.saturating_add(1) == LINKS.len() as u64 {
         put_records(&mut all)?;
     }
     Ok(all)

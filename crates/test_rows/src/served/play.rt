@@ -45,10 +45,13 @@ pub struct Play {
 
 /// Whether the word is a label: 1 to 16 lower-case ASCII letters or digits.
 fn is_label(word: &str) -> bool {
-    (1..=16).contains(&word.len())
-        && word
-            .bytes()
-            .all(|byte| matches!(byte, b'a'..=b'z' | b'0'..=b'9'))
+    1 <= word.len() && word.len() <= 16 && has_label_bytes(word.as_bytes())
+}
+
+fn has_label_bytes(bytes: &[u8]) -> bool {
+    bytes
+        .iter()
+        .all(|byte| matches!(*byte, b'a'..=b'z' | b'0'..=b'9'))
 }
 
 impl Play {
@@ -227,24 +230,44 @@ impl Play {
 
     /// Writes a line for each whole answer that is kept of the link.
     fn write_answers(&mut self, number: u64) -> Result<()> {
+        for _ in 0..u64::MAX {
+            let Some(answer) = self.next_answer(number)? else {
+                break;
+            };
+            self.write_answer(number, &answer)?;
+        }
+        Ok(())
+    }
+
+    /// Takes the next whole answer of what is kept of the link.
+    fn next_answer(&mut self, number: u64) -> Result<Option<Answer>> {
+        let Some(peer) = self.peers.get_mut(number as usize) else {
+            return Ok(None);
+        };
+        match read_answer(self.alloc, &peer.kept) {
+            Ok(Some((answer, length))) => {
+                remove_front(self.alloc, &mut peer.kept, length);
+                Ok(Some(answer))
+            }
+            Ok(None) => Ok(None),
+            Err(fault) => bail!("link {number} takes no answer: {fault}"),
+        }
+    }
+
+    /// Writes an answer under the label of the link. One that starts a session has it act for the label.
+    fn write_answer(&mut self, number: u64, answer: &Answer) -> Result<()> {
         let Some(peer) = self.peers.get_mut(number as usize) else {
             return Ok(());
         };
-        for _ in 0..u64::MAX {
-            let Some((answer, length)) = read_answer(self.alloc, &peer.kept)? else {
-                break;
-            };
-            remove_front(self.alloc, &mut peer.kept, length);
-            if let Answer::Started(_) = answer {
-                peer.is_live = true;
-                let label = String::from_str(self.alloc, peer.label.as_str())?;
-                self.newest.insert(label, number)?;
-            }
-            self.output.push_str(peer.label.as_str())?;
-            self.output.push_str(" ")?;
-            put_line(&mut self.output, &answer)?;
-            self.output.push_str("\n")?;
+        if let Answer::Started(_) = answer {
+            peer.is_live = true;
+            let label = String::from_str(self.alloc, peer.label.as_str())?;
+            self.newest.insert(label, number)?;
         }
+        self.output.push_str(peer.label.as_str())?;
+        self.output.push_str(" ")?;
+        put_line(&mut self.output, answer)?;
+        self.output.push_str("\n")?;
         Ok(())
     }
 
