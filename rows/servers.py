@@ -316,18 +316,28 @@ def send_apart(stream, data):
 
 
 def log(programs, address, *words):
-    """What is told of a connection stands at the end of the log."""
+    """What is told of each connection stands at the end of the log, by both servers alike."""
     with tempfile.TemporaryDirectory() as room:
         file = pathlib.Path(room, "log")
         file.write_text("kept\n")
-        with serving(programs, address, "--stop-after", "1", "--log", str(file), *words) as server:
+        with serving(programs, address, "--stop-after", "3", "--log", str(file), *words) as server:
             is_same("refused", told(programs, address, "none", "umask", "022"), b"refused 31 EACCES BadKey\n")
-            ends(server, 1)
+            is_same("not open", told(programs, address, "ka1", "mq-getattr", "0"), b"refused 8 EBADF BadDescr\n")
+            with connect(address) as stream:
+                stream.sendall(frame(HELLO, b"\0\3ka1") + frame(UMASK, b"\0\0") * 2 + bytes(4))
+                while stream.recv(MUCH):
+                    pass
+            ends(server, 3)
         lines = re.sub(r"time=\d{13} ", "", file.read_text())
     peer = "" if address.startswith("unix:") else " peer=127.0.0.1:PORT"
-    requests = "" if ONE_THREAD[0] in words else " requests=1"
-    wanted = f"kept\nevent=begun connection=0{peer}\nevent=ended connection=0{requests} ending=BadKey rule=31\n"
-    is_same("the log", re.sub(r"127\.0\.0\.1:\d+", "127.0.0.1:PORT", lines), wanted)
+    wanted = ["kept", *(f"event=begun connection={number}{peer}" for number in range(3))]
+    wanted += [f"event=hello connection={number} user=1000" for number in (1, 2)]
+    wanted.append("event=ended connection=0 requests=1 ending=BadKey rule=31")
+    wanted.append("event=ended connection=1 requests=2 ending=Closed")
+    wanted.append("event=ended connection=2 requests=3 ending=Wire fault=Empty")
+    found = re.sub(r"127\.0\.0\.1:\d+", "127.0.0.1:PORT", lines).splitlines()
+    # Of workers the next connection may begin before the last is said to have ended.
+    is_same("the log", sorted(found), sorted(wanted))
 
 
 def log_in_a_fifo(programs, address, *words):

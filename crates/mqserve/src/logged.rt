@@ -8,7 +8,7 @@ use std::io;
 use std::sync::Wait;
 use std::time::{Clock, Duration};
 
-/// Sockets that write into a log which connections begin and end.
+/// Sockets that write into a log what becomes of each connection.
 #[derive(Drop)]
 pub struct LoggedSockets<'a, R> {
     pub sockets: Sockets<'a, R>,
@@ -32,12 +32,13 @@ impl<R: Print + Eprint + Wait + Clock> Host for LoggedSockets<'_, R> {
 
     fn greeted(&mut self, number: u64, user: Uid) {
         self.sockets.greeted(number, user);
+        self.log.greeted(number, user.0);
     }
 
     fn close(&mut self, number: u64, requests: u64, ending: Ending) {
         self.sockets.close(number, requests, ending);
         let ending = words_of(ending);
-        self.log.ended(number, format_args!("ending={ending}"));
+        self.log.ended(number, format_args!("requests={requests} ending={ending}"));
     }
 
     fn wait(&mut self, pause: Option<Duration>) -> io::Result<()> {
