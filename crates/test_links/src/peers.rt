@@ -4,6 +4,7 @@ ghost use Rattle.std.specs.Prelude.{◌≤◌, length, IfOk, IfSome};
 
 use crate::chance::Chance;
 use ipc_loop::{Ending, Ready};
+use ipc_terms::Uid;
 use std::alloc::{AllocError, Global};
 use std::io;
 use std::io::ErrorKind;
@@ -30,7 +31,10 @@ struct Link {
     given: usize,
     /// The peer sends no more.
     is_finished: bool,
-    ending: Option<Ending>,
+    /// Whose it is, as the loop told.
+    user: Option<Uid>,
+    /// How many requests were stepped, and why it was closed, if it was.
+    closed: Option<(u64, Ending)>,
     /// The next wait tells of it.
     is_due: bool,
 }
@@ -41,7 +45,8 @@ impl Link {
             stream: Vec::new(alloc),
             given: 0,
             is_finished: false,
-            ending: None,
+            user: None,
+            closed: None,
             is_due: true,
         }
     }
@@ -53,7 +58,7 @@ impl Link {
 
     /// Whether nothing is left to read of it, nor to tell.
     fn is_at_rest(&self) -> bool {
-        self.ending.is_some() || !self.is_finished && !self.is_due && self.rest().is_empty()
+        self.closed.is_some() || !self.is_finished && !self.is_due && self.rest().is_empty()
     }
 }
 
@@ -106,13 +111,23 @@ impl Peers {
         }
     }
 
-    pub fn ending(&self, number: u64) -> Option<Ending> {
-        self.links.get(number as usize)?.ending
+    pub fn closed(&self, number: u64) -> Option<(u64, Ending)> {
+        self.links.get(number as usize)?.closed
     }
 
-    pub fn close(&mut self, number: u64, ending: Ending) {
+    pub fn close(&mut self, number: u64, requests: u64, ending: Ending) {
         if let Some(link) = self.links.get_mut(number as usize) {
-            link.ending = Some(ending);
+            link.closed = Some((requests, ending));
+        }
+    }
+
+    pub fn user(&self, number: u64) -> Option<Uid> {
+        self.links.get(number as usize)?.user
+    }
+
+    pub fn greet(&mut self, number: u64, user: Uid) {
+        if let Some(link) = self.links.get_mut(number as usize) {
+            link.user = Some(user);
         }
     }
 

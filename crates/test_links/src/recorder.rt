@@ -90,7 +90,17 @@ impl Recorder {
 
     /// Why the link was closed, if it was.
     pub fn ending(&self, number: u64) -> Option<Ending> {
-        self.peers.ending(number)
+        Some(self.peers.closed(number)?.1)
+    }
+
+    /// How many requests of the link were stepped, as the loop told where it closed it.
+    pub fn requests(&self, number: u64) -> Option<u64> {
+        Some(self.peers.closed(number)?.0)
+    }
+
+    /// Whose the link is, as the loop told.
+    pub fn user(&self, number: u64) -> Option<Uid> {
+        self.peers.user(number)
     }
 
     /// Whether all links are accepted, and of none that is open anything is left to read, or to tell.
@@ -137,10 +147,12 @@ impl Host for Recorder {
         Ok(count)
     }
 
-    fn greeted(&mut self, _number: u64, _user: Uid) {}
+    fn greeted(&mut self, number: u64, user: Uid) {
+        self.peers.greet(number, user);
+    }
 
-    fn close(&mut self, number: u64, _requests: u64, ending: Ending) {
-        self.peers.close(number, ending);
+    fn close(&mut self, number: u64, requests: u64, ending: Ending) {
+        self.peers.close(number, requests, ending);
     }
 
     fn wait(&mut self, _pause: Option<Duration>) -> io::Result<()> {

@@ -7,6 +7,7 @@ use crate::fault::Fault;
 use crate::made::config;
 use crate::subject::Outcome;
 use ipc_loop::{Ending, Server};
+use ipc_terms::Uid;
 use ipc_wire::WireFault;
 use std::alloc::Global;
 use test_links::{Cut, Recorder, settle};
@@ -61,22 +62,49 @@ static STEPS: [Step; 18] = [
     Finish(4),
 ];
 
-/// What each link takes, and how it ends. The last then takes `RECORDS`.
-static LINKS: [(&[u8], Ending); 5] = [
-    (
-        b"\0\0\0\x09\x41\0\0\0\0\0\0\0\0\0\0\0\x09\x43\0\0\0\0\0\0\0\0\0\0\0\x01\x46",
-        Ending::Closed,
-    ),
-    (
-        b"\0\0\0\x09\x41\0\0\0\0\0\0\0\x01\0\0\0\x09\x43\0\0\0\0\0\0\0\x01\0\0\0\x07\x47\0\0\0\x05ho\0\0\0\x03\x4c\0\x20",
-        Ending::Closed,
-    ),
-    (b"\0\0\0\x03\x4c\0\x1f", Ending::BadKey),
-    (
-        b"\0\0\0\x09\x41\0\0\0\0\0\0\0\x02",
-        Ending::Wire(WireFault::Empty),
-    ),
-    (b"\0\0\0\x09\x41\0\0\0\0\0\0\0\x03", Ending::Closed),
+/// What comes of a link.
+struct Served {
+    /// What it takes.
+    taken: &'static [u8],
+    /// Whose it is, if its hello is accepted.
+    user: Option<u32>,
+    /// How many of its requests are stepped.
+    requests: u64,
+    ending: Ending,
+}
+
+/// What comes of each link. The last takes `RECORDS` too.
+static LINKS: [Served; 5] = [
+    Served {
+        taken: b"\0\0\0\x09\x41\0\0\0\0\0\0\0\0\0\0\0\x09\x43\0\0\0\0\0\0\0\0\0\0\0\x01\x46",
+        user: Some(1000),
+        requests: 3,
+        ending: Ending::Closed,
+    },
+    Served {
+        taken: b"\0\0\0\x09\x41\0\0\0\0\0\0\0\x01\0\0\0\x09\x43\0\0\0\0\0\0\0\x01\0\0\0\x07\x47\0\0\0\x05ho\0\0\0\x03\x4c\0\x20",
+        user: Some(1001),
+        requests: 4,
+        ending: Ending::Closed,
+    },
+    Served {
+        taken: b"\0\0\0\x03\x4c\0\x1f",
+        user: None,
+        requests: 1,
+        ending: Ending::BadKey,
+    },
+    Served {
+        taken: b"\0\0\0\x09\x41\0\0\0\0\0\0\0\x02",
+        user: Some(1000),
+        requests: 1,
+        ending: Ending::Wire(WireFault::Empty),
+    },
+    Served {
+        taken: b"\0\0\0\x09\x41\0\0\0\0\0\0\0\x03",
+        user: Some(0),
+        requests: 2,
+        ending: Ending::Closed,
+    },
 ];
 
 /// In a record, whose hello and tick are.
@@ -158,18 +186,18 @@ fn may_be_cut(ended: Ending, ending: Ending, taken: &[u8], wanted: &[u8]) -> boo
     (ended == Ending::NoMemory || was_over) && wanted.starts_with(taken)
 }
 
+/// Whether the host was told whose the link is, and how many of its requests were stepped.
+fn is_told(host: &Recorder, number: u64, link: &Served) -> bool {
+    host.user(number) == link.user.map(Uid) && host.requests(number) == Some(link.requests)
+}
+
 /// Whether the link took all that it takes, and ended as it ends. `Anew` where it was cut for want of memory.
-fn is_served(
-    alloc: Global,
-    host: &Recorder,
-    number: u64,
-    (front, ending): (&[u8], Ending),
-) -> Result<bool, Fault> {
-    let wanted = wanted_of(alloc, number, front)?;
+fn is_served(alloc: Global, host: &Recorder, number: u64, link: &Served) -> Result<bool, Fault> {
+    let wanted = wanted_of(alloc, number, link.taken)?;
     let taken = host.taken(number)?;
     match host.ending(number) {
-        Some(ended) if may_be_cut(ended, ending, &taken, &wanted) => Err(Fault::Anew),
-        ended => Ok(ended == Some(ending) && taken == wanted),
+        Some(ended) if may_be_cut(ended, link.ending, &taken, &wanted) => Err(Fault::Anew),
+        ended => Ok(ended == Some(link.ending) && taken == wanted && is_told(host, number, link)),
     }
 }
 
@@ -192,7 +220,7 @@ fn are_served(alloc: Global, host: &Recorder) -> Result<bool, Fault> {
     let mut all = true;
     let mut is_cut = false;
     for (number, link) in LINKS.iter().enumerate() {
-        match is_served(alloc, host, number as u64, *link) {
+        match is_served(alloc, host, number as u64, link) {
             Ok(is_served) => all &= is_served,
             Err(Fault::Anew) => is_cut = true,
             Err(fault) => return Err(fault.of_case()),
