@@ -54,6 +54,17 @@ fn has_label_bytes(bytes: &[u8]) -> bool {
         .all(|byte| matches!(*byte, b'a'..=b'z' | b'0'..=b'9'))
 }
 
+/// The frame of a hello.
+fn frame_of_hello(alloc: Global, key: &str) -> Result<Vec<u8>> {
+    let key = Bytes::from_slice(alloc, key.as_bytes())?;
+    Ok(write_request(alloc, &Request::Hello(key))?)
+}
+
+/// How a link has ended behind its hello: where no session was started, the hello was refused.
+fn ending_of(is_live: bool) -> Option<Ending> {
+    if is_live { None } else { Some(Ending::BadKey) }
+}
+
 impl Play {
     pub fn new(alloc: Global, config: Config, cut: Cut) -> Result<Play> {
         Ok(Play {
@@ -107,24 +118,24 @@ impl Play {
         Ok(())
     }
 
-    /// Connects a link, by which the hello goes.
-    fn hello(&mut self, label: &str, key: &str) -> Result<()> {
-        let hello = Request::Hello(Bytes::from_slice(self.alloc, key.as_bytes())?);
-        let frame = write_request(self.alloc, &hello)?;
-        let number = self.host.connect()?;
+    /// Connects a link for a session of the label.
+    fn connect(&mut self, label: &str) -> Result<u64> {
+        let label = String::from_str(self.alloc, label)?;
         self.peers.push(Peer {
-            label: String::from_str(self.alloc, label)?,
+            label,
             kept: Vec::new(self.alloc),
             is_live: false,
         })?;
+        Ok(self.host.connect()?)
+    }
+
+    /// Sends a hello over a new link, which is closed where it is refused.
+    fn hello(&mut self, label: &str, key: &str) -> Result<()> {
+        let frame = frame_of_hello(self.alloc, key)?;
+        let number = self.connect(label)?;
         self.host.send(number, &frame)?;
         self.collect(Some(number))?;
-        let wanted = if self.is_live(number) {
-            None
-        } else {
-            Some(Ending::BadKey)
-        };
-        self.check_ending(number, wanted)
+        self.check_ending(number, ending_of(self.is_live(number)))
     }
 
     fn hang_up(&mut self, label: &str) -> Result<()> {
