@@ -32,8 +32,8 @@ CALLS = 100_000
 USERS = b"ann:ka1:1000:1000::\n.\na hello ka1\n"
 STARTED = b"a started 0\n"
 
-# What each server logs of two clients, one at a time, of which the second has nobody's key.
-LOG_OF_WORKERS = b"""\
+# What both servers log of two clients, one at a time, of which the second has nobody's key.
+LOG_OF_TWO = b"""\
 time=TIME event=begun connection=0 peer=PEER
 time=TIME event=busy
 time=TIME event=hello connection=0 user=1000
@@ -42,16 +42,6 @@ time=TIME event=free
 time=TIME event=begun connection=1 peer=PEER
 time=TIME event=busy
 time=TIME event=ended connection=1 requests=1 ending=BadKey rule=31
-time=TIME event=free
-"""
-LOG_OF_ONE_THREAD = b"""\
-time=TIME event=begun connection=0 peer=PEER
-time=TIME event=busy
-time=TIME event=ended connection=0 ending=Closed
-time=TIME event=free
-time=TIME event=begun connection=1 peer=PEER
-time=TIME event=busy
-time=TIME event=ended connection=1 ending=BadKey rule=31
 time=TIME event=free
 """
 
@@ -123,8 +113,8 @@ def log_cases(two):
     serving, shown = b"serving ADDRESS\n", b"served 2\nopened 0\nrefused 31 EACCES BadKey\n"
     by_one_worker = [*two, b"--workers", b"1", b"--log"]
     on_one_thread = [*two, b"--one-thread", b"--connections", b"1", b"--log"]
-    for kind, words, log in (("workers", by_one_worker, LOG_OF_WORKERS), ("one thread", on_one_thread, LOG_OF_ONE_THREAD)):
-        out = serving + log + shown
+    for kind, words in (("workers", by_one_worker), ("one thread", on_one_thread)):
+        out = serving + LOG_OF_TWO + shown
         yield Case(f"mqserve a log, {kind}", "mqserve", [*words, b"-"], b"", out, clients=clients)
         for what, path in (("written", b"/dev/full"), ("opened", b"rows")):
             name = f"mqserve a log that can't be {what}, {kind}"
