@@ -197,11 +197,14 @@ def room_difference(file, library):
 
 def server_differences(pool, jobs, server, library):
     """What else differs of a server."""
+    # One thread makes its buffer of answers for the first client; a step of a later one wants no other growth between its tries.
+    tried = with_talks(server, (short_talk, *server.talks)) if server.is_one_thread else server
+
     def outcome(at, times):
-        ended, said = run(server, library, ALLOCATION, at, times)
+        ended, said = run(tried, library, ALLOCATION, at, times)
         return bool(said), ended
 
-    yield from tries_differences(server, lambda judge: each_in_turn(pool, jobs, judge), outcome)
+    yield from tries_differences(tried, lambda judge: each_in_turn(pool, jobs, judge), outcome)
     yield kept_difference(server, library)
 
 
