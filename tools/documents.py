@@ -2,7 +2,7 @@
 """Compares the documents with what they speak of:
 
 - MAP.md's table of rules: each rule's number, error, name, definition, function, row and edit
-- the wrong bodies that PROOFS.md names, and the files that WORKING.md names
+- the wrong bodies that PROOFS.md names, the files that WORKING.md names, and its recipe for a call with what the newest calls touched
 - the numbers of rules, calls and laws, wherever a document states how many there are
 - FRAMES.md's opcodes, their fields, the greatest body and the frames of its exchange; SCRIPTS.md's commands with what stands
   behind each
@@ -22,6 +22,7 @@ from pathlib import Path
 
 sys.dont_write_bytecode = True
 import document_frames  # noqa: E402
+import recipes  # noqa: E402
 
 ROOT = Path(__file__).resolve().parent.parent
 CRATES = ROOT / "crates"
@@ -121,6 +122,14 @@ def compare_files(it):
     for name in sorted(named):
         if not re.search(r"NAME|^\.git/", name):
             it.there(f"{name}, named in WORKING.md,", f"/{name}\n" in ends)
+
+
+def compare_recipe(it):
+    """Each file that a new call touched stands in WORKING.md's recipe for a call."""
+    tracked, names = recipes.tracked(), recipes.recipe()
+    for call in recipes.NEWEST:
+        for path in recipes.files_of(call, tracked):
+            it.there(f"{path}, which names {call}, in WORKING.md's recipe for a call,", recipes.is_named(path, names))
 
 
 def number_of(word):
@@ -288,6 +297,7 @@ def main():
     compare_rules(it, edits)
     compare_wrong_bodies(it, edits)
     compare_files(it)
+    compare_recipe(it)
     compare_counts(it)
     compare_frames(it)
     compare_clients(it)
