@@ -672,3 +672,8 @@ def _in_child() -> None:
 
 if hasattr(os, "register_at_fork"):
     os.register_at_fork(after_in_child=_in_child)
+
+
+if __name__ == "__main__":
+    import mqserve_top
+    raise SystemExit(mqserve_top.main())
