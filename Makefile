@@ -35,6 +35,7 @@ build:
 install: build
 	install -D -m 755 crates/mqserve/out/mqserve $(DESTDIR)$(PREFIX)/bin/mqserve
 	install -D -m 755 crates/mqctl/out/mqctl $(DESTDIR)$(PREFIX)/bin/mqctl
+	install -D -m 755 tools/users $(DESTDIR)$(PREFIX)/bin/mqserve-users
 	install -D -m 644 service/mqserve.service $(DESTDIR)$(PREFIX)/lib/systemd/system/mqserve.service
 	sed -i 's,/usr/local/,$(PREFIX)/,' $(DESTDIR)$(PREFIX)/lib/systemd/system/mqserve.service
 	install -D -m 644 service/mqserve.sysusers $(DESTDIR)$(PREFIX)/lib/sysusers.d/mqserve.conf
@@ -43,8 +44,9 @@ install: build
 
 # Takes back what make install put below $(PREFIX).
 uninstall:
-	rm -f $(DESTDIR)$(PREFIX)/bin/mqserve $(DESTDIR)$(PREFIX)/bin/mqctl $(DESTDIR)$(PREFIX)/lib/systemd/system/mqserve.service \
-		$(DESTDIR)$(PREFIX)/lib/sysusers.d/mqserve.conf $(DESTDIR)$(PREFIX)/share/mqserve/users.example
+	rm -f $(DESTDIR)$(PREFIX)/bin/mqserve $(DESTDIR)$(PREFIX)/bin/mqctl $(DESTDIR)$(PREFIX)/bin/mqserve-users \
+		$(DESTDIR)$(PREFIX)/lib/systemd/system/mqserve.service $(DESTDIR)$(PREFIX)/lib/sysusers.d/mqserve.conf \
+		$(DESTDIR)$(PREFIX)/share/mqserve/users.example
 	$(MAKE) -C clients uninstall DESTDIR=$(DESTDIR) PREFIX=$(PREFIX)
 
 # The client libraries in C and Python, and the library that runs programs as they are on a server: a C compiler is enough.

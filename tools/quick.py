@@ -121,6 +121,8 @@ def parts_for(crate):
         yield Part("streams", "tools/quick.py --part streams", streams)
     yield Part("layout", "tools/quick.py --part layout", lambda: layout([crate] if crate else lines))
     yield by_command("documents", "tools/documents.py")
+    if not crate:
+        yield by_command("user files", "tools/test_users.py")
     if are_current():
         for name, words in BY_PROVED.items():
             yield by_command(name, words)
