@@ -1,4 +1,4 @@
-.PHONY: demo run quick build install uninstall test rows ways docs faults clients clients-test conformance
+.PHONY: demo run quick build install uninstall dist deb test rows ways docs faults clients clients-test conformance
 
 PREFIX = /usr/local
 
@@ -31,10 +31,13 @@ build:
 	@cd crates/mqserve && rt run -- --version
 	@cd crates/mqctl && rt run < /dev/null
 
+# With PROGRAMS=DIR the programs mqserve and mqctl of that folder are installed as they are, and nothing is proved.
+PROGRAMS =
+
 # Puts the proved programs into $(PREFIX)/bin, and what a service needs beside them: service/README.md goes on.
-install: build
-	install -D -m 755 crates/mqserve/out/mqserve $(DESTDIR)$(PREFIX)/bin/mqserve
-	install -D -m 755 crates/mqctl/out/mqctl $(DESTDIR)$(PREFIX)/bin/mqctl
+install: $(if $(PROGRAMS),,build)
+	install -D -m 755 $(or $(PROGRAMS),crates/mqserve/out)/mqserve $(DESTDIR)$(PREFIX)/bin/mqserve
+	install -D -m 755 $(or $(PROGRAMS),crates/mqctl/out)/mqctl $(DESTDIR)$(PREFIX)/bin/mqctl
 	install -D -m 755 tools/users $(DESTDIR)$(PREFIX)/bin/mqserve-users
 	install -D -m 644 service/mqserve.service $(DESTDIR)$(PREFIX)/lib/systemd/system/mqserve.service
 	sed -i 's,/usr/local/,$(PREFIX)/,' $(DESTDIR)$(PREFIX)/lib/systemd/system/mqserve.service
@@ -48,6 +51,13 @@ uninstall:
 		$(DESTDIR)$(PREFIX)/lib/systemd/system/mqserve.service $(DESTDIR)$(PREFIX)/lib/sysusers.d/mqserve.conf \
 		$(DESTDIR)$(PREFIX)/share/mqserve/users.example
 	$(MAKE) -C clients uninstall DESTDIR=$(DESTDIR) PREFIX=$(PREFIX)
+
+# An archive of the sources, and a Debian package of what make install puts in place, in out.
+dist:
+	@tools/packages dist
+
+deb:
+	@PROGRAMS="$(PROGRAMS)" tools/packages deb
 
 # The client libraries in C and Python, and the library that runs programs as they are on a server: a C compiler is enough.
 clients:
