@@ -1,10 +1,11 @@
 #!/usr/bin/env python3
 """mock.py serve USERS ADDRESS [--workers N]: answers as docs/POLICY.md says, for tests where no server is built. ADDRESS is HOST:PORT or
-unix:PATH. Not the product: nothing here is proved, and calls 26 to 28, set-limit and audit are left out."""
+unix:PATH. Not the product: nothing here is proved, and set-limit and audit are left out."""
 import socket
 import struct
 import sys
 import threading
+import time
 
 QUEUES, SEMAPHORES = 1, 2
 READ, WRITE = 4, 2
@@ -12,6 +13,7 @@ CREATE, EXCLUSIVE, NONBLOCK = 1, 2, 4
 lock = threading.Lock()
 sessions, names, limits = {}, {QUEUES: {}, SEMAPHORES: {}}, {}
 count = {"sessions": 0, "descriptions": 0}
+timed, last_tick = [], 0    # the sessions whose parked call has a deadline, in the order in which they parked
 
 
 class Refused(Exception):
@@ -34,7 +36,7 @@ living = []
 
 class Session:
     def __init__(self, connection, user):
-        self.connection, self.user, self.mask, self.held, self.parked = connection, user, 0o22, {}, None
+        self.connection, self.user, self.mask, self.held, self.parked, self.deadline = connection, user, 0o22, {}, None, None
         self.number = count["sessions"]
         count["sessions"] += 1
         sessions[self.number] = self
@@ -170,21 +172,43 @@ def unlink(s, family, name):
     s.answer(66)
 
 
-def park(s, o, kind, message=None):
-    s.parked = (o, kind, message)
+def park(s, o, kind, deadline, message=None):
+    if deadline is not None and deadline <= last_tick:
+        raise Refused(32)
+    s.parked, s.deadline = (o, kind, message), deadline
     o.waiters.append(s)
+    if deadline is not None:
+        timed.append(s)
 
 
 def unpark(s):
     s.parked[0].waiters.remove(s)
-    s.parked = None
+    if s.deadline is not None:
+        timed.remove(s)
+    s.parked = s.deadline = None
+
+
+def tick(now):
+    """Ends the calls whose deadlines have come, the earliest call first. The time never goes back."""
+    global last_tick
+    for s in [s for s in timed if s.deadline <= now]:
+        last_tick = max(last_tick, now)
+        unpark(s)
+        s.answer(76, struct.pack(">H", 32))
+
+
+def keep_time():
+    while True:
+        time.sleep(0.01)
+        with lock:
+            tick(int(time.time() * 1000))
 
 
 def first_waiter(o, kind):
     return next((w for w in o.waiters if w.parked[1] == kind), None)
 
 
-def send(s, description, priority, data):
+def send(s, description, priority, data, deadline=None):
     o, wanted, nonblock = held(s, description, QUEUES)
     if not wanted & WRITE:
         raise Refused(9)
@@ -200,7 +224,7 @@ def send(s, description, priority, data):
     if len(o.messages) >= o.max_messages:
         if nonblock:
             raise Refused(29)
-        return park(s, o, "send", (priority, data))
+        return park(s, o, "send", deadline, (priority, data))
     registered = None if o.messages else o.registered
     o.messages.append((priority, data))
     s.answer(70)
@@ -209,7 +233,7 @@ def send(s, description, priority, data):
         registered[0].answer(78, struct.pack(">Q", registered[1]))
 
 
-def receive(s, description, size):
+def receive(s, description, size, deadline=None):
     o, wanted, nonblock = held(s, description, QUEUES)
     if not wanted & READ:
         raise Refused(10)
@@ -218,7 +242,7 @@ def receive(s, description, size):
     if not o.messages:
         if nonblock:
             raise Refused(29)
-        return park(s, o, "receive")
+        return park(s, o, "receive", deadline)
     best = max(range(len(o.messages)), key=lambda i: (o.messages[i][0], -i))
     priority, data = o.messages.pop(best)
     s.answer(71, struct.pack(">I", priority) + data)
@@ -229,14 +253,14 @@ def receive(s, description, size):
         sender.answer(70)
 
 
-def wait(s, description, may_park):
+def wait(s, description, may_park, deadline=None):
     o = held(s, description, SEMAPHORES)[0]
     if o.value:
         o.value -= 1
         return s.answer(66)
     if not may_park:
         raise Refused(29)
-    park(s, o, "wait")
+    park(s, o, "wait", deadline)
 
 
 def post(s, description):
@@ -362,6 +386,9 @@ CALLS = {
     20: chmod,
     21: chown,
     23: lambda s, f: interrupt(s),
+    26: lambda s, f: send(s, f.number(8), f.number(4), deadline=f.number(8), data=f.data),
+    27: lambda s, f: receive(s, f.number(8), f.number(4), f.number(8)),
+    28: lambda s, f: wait(s, f.number(8), True, f.number(8)),
     30: lambda s, f: give(s, f.number(8), f.number(8)),
 }
 
@@ -431,6 +458,7 @@ def main():
     users = read_users(sys.argv[2])
     workers = threading.Semaphore(int(sys.argv[5]) if len(sys.argv) > 5 else 4)
     listener = listen(sys.argv[3])
+    threading.Thread(target=keep_time, daemon=True).start()
     print("serving", sys.argv[3], flush=True)
 
     def work(connection):
