@@ -1,4 +1,5 @@
-/* blocking.c: the calls that block. A moment is kept by this side's clock: when it comes, the client interrupts its own call. */
+/* blocking.c: the calls that block. A server that shares this machine's clock gets a call's moment along with it, and ends the call. Else
+ * this side keeps it: when it comes, the client interrupts its own call. */
 #include "connection.h"
 
 #include <errno.h>
@@ -6,73 +7,73 @@
 #include <string.h>
 #include <sys/socket.h>
 
-enum { PRIORITIES = 32768 };
+enum { PRIORITIES = 32768, LATE_S = 2 };
 
 /* ---- Starting ---- */
 
-static int start(struct mqs *c, struct request *r, enum request_op op)
+static int gets_moment(const struct mqs *c, const struct timespec *until) { return until && c->shares_clock; }
+
+static int start(struct mqs *c, struct request *r, enum request_op op, int is_timed)
 {
     c->rule = 0;
     if (c->lost) return mqsi_fail(c->lost);
     if (c->started) return mqsi_fail(EBUSY);
     if (mqsi_write(c, r, mqsi_deadline(c)) < 0) return -1;
     c->started = op;
+    c->is_timed = is_timed;
     return 0;
 }
 
-int mqs_start_send(struct mqs *c, uint64_t description, const void *data, size_t size, uint32_t priority)
+int mqsi_start_send(struct mqs *c, uint64_t description, const void *data, size_t size, uint32_t priority, const struct timespec *until)
 {
-    struct request r = mqsi_by_description(MQ_SEND, description);
+    int is_timed = gets_moment(c, until);
+    struct request r = mqsi_by_description(is_timed ? MQ_TIMED_SEND : MQ_SEND, description);
     mqsi_put(&r, priority, 4);
+    if (is_timed) mqsi_put(&r, mqsi_milliseconds(until), 8);
     r.data = data;
     r.size = size;
-    return start(c, &r, MQ_SEND);
+    return start(c, &r, MQ_SEND, is_timed);
 }
 
-int mqs_start_receive(struct mqs *c, uint64_t description, size_t size)
+int mqsi_start_receive(struct mqs *c, uint64_t description, size_t size, const struct timespec *until)
 {
-    struct request r = mqsi_by_description(MQ_RECEIVE, description);
+    int is_timed = gets_moment(c, until);
+    struct request r = mqsi_by_description(is_timed ? MQ_TIMED_RECEIVE : MQ_RECEIVE, description);
     mqsi_put(&r, size > UINT32_MAX ? UINT32_MAX : size, 4);
-    if (start(c, &r, MQ_RECEIVE) < 0) return -1;
+    if (is_timed) mqsi_put(&r, mqsi_milliseconds(until), 8);
+    if (start(c, &r, MQ_RECEIVE, is_timed) < 0) return -1;
     c->asked = size;
     return 0;
 }
 
-int mqs_start_sem_wait(struct mqs *c, uint64_t description)
+int mqsi_start_sem_wait(struct mqs *c, uint64_t description, const struct timespec *until)
 {
-    struct request r = mqsi_by_description(SEM_WAIT, description);
-    return start(c, &r, SEM_WAIT);
+    int is_timed = gets_moment(c, until);
+    struct request r = mqsi_by_description(is_timed ? SEM_TIMED_WAIT : SEM_WAIT, description);
+    if (is_timed) mqsi_put(&r, mqsi_milliseconds(until), 8);
+    return start(c, &r, SEM_WAIT, is_timed);
 }
+
+int mqs_start_send(struct mqs *c, uint64_t description, const void *data, size_t size, uint32_t priority)
+{
+    return mqsi_start_send(c, description, data, size, priority, NULL);
+}
+
+int mqs_start_receive(struct mqs *c, uint64_t description, size_t size) { return mqsi_start_receive(c, description, size, NULL); }
+int mqs_start_sem_wait(struct mqs *c, uint64_t description) { return mqsi_start_sem_wait(c, description, NULL); }
 
 /* ---- Waiting ---- */
 
-static int is_moment(const struct timespec *until)
-{
-    return !until || (until->tv_nsec >= 0 && until->tv_nsec < 1000000000);
-}
-
-/* The time until the moment, but a second at most, since the clock may be set meanwhile. 0 where it has come. */
-static struct timespec time_left(const struct timespec *until)
-{
-    struct timespec now;
-    clock_gettime(CLOCK_REALTIME, &now);
-    if (until->tv_sec < now.tv_sec) return (struct timespec){ 0, 0 };
-    if (until->tv_sec > now.tv_sec + 1) return (struct timespec){ 1, 0 };
-    int64_t left = (until->tv_sec - now.tv_sec) * INT64_C(1000000000) + until->tv_nsec - now.tv_nsec;
-    if (left <= 0) return (struct timespec){ 0, 0 };
-    return (struct timespec){ left / 1000000000, left % 1000000000 };
-}
-
 /* Waits until bytes are there. Fails with EINTR or ETIMEDOUT. A recv goes on after a signal whose handler has SA_RESTART, as
  * the system's own calls do. */
-static int await_bytes(struct mqs *c, const struct timespec *until)
+static int await_bytes(struct mqs *c, clockid_t clock, const struct timespec *until)
 {
     if (!until) {
         uint8_t byte;
         return recv(c->fd, &byte, 1, MSG_PEEK) < 0 && errno == EINTR ? -1 : 0;
     }
     for (;;) {
-        struct timespec left = time_left(until);
+        struct timespec left = mqsi_time_left(clock, until);
         struct pollfd p = { c->fd, POLLIN, 0 };
         int n = ppoll(&p, 1, &left, NULL);
         if (n > 0) return 0;
@@ -81,21 +82,37 @@ static int await_bytes(struct mqs *c, const struct timespec *until)
     }
 }
 
-int mqs_wait(struct mqs *c, const struct timespec *until)
+static int wait_until(struct mqs *c, clockid_t clock, const struct timespec *until)
 {
     if (c->lost) return mqsi_fail(c->lost);
-    if (!c->started || !is_moment(until)) return mqsi_fail(EINVAL);
+    if (!c->started || !mqsi_is_moment(until)) return mqsi_fail(EINVAL);
     for (int was_late = 0;;) {
         int there = mqsi_front(c);
         if (there) return there < 0 ? -1 : 0;
         /* What comes unasked doesn't put the end off: a moment that has passed allows one more look. */
         if (was_late) return mqsi_fail(ETIMEDOUT);
         if (until) {
-            struct timespec left = time_left(until);
+            struct timespec left = mqsi_time_left(clock, until);
             was_late = left.tv_sec == 0 && left.tv_nsec == 0;
         }
-        if (await_bytes(c, until) < 0 || mqsi_fill(c) < 0) return -1;
+        if (await_bytes(c, clock, until) < 0 || mqsi_fill(c) < 0) return -1;
     }
+}
+
+int mqs_wait(struct mqs *c, const struct timespec *until) { return wait_until(c, CLOCK_REALTIME, until); }
+
+/* A server may be a little late. Where it is later than LATE_S its clock is another, or it stands still: this side ends the call, and keeps
+ * the moments of later ones. LATE_S is by a clock that nobody sets: a server may take a second to see that the system's was set forward. */
+int mqsi_wait_timed(struct mqs *c, const struct timespec *until)
+{
+    struct timespec last;
+    if (mqs_wait(c, until) == 0) return 0;
+    if (errno != ETIMEDOUT || !mqsi_is_timed(c)) return -1;
+    clock_gettime(CLOCK_MONOTONIC, &last);
+    last.tv_sec += LATE_S;
+    if (wait_until(c, CLOCK_MONOTONIC, &last) == 0) return 0;
+    if (errno == ETIMEDOUT) c->shares_clock = 0;
+    return -1;
 }
 
 int mqs_wait_bound(struct mqs *c)
@@ -186,7 +203,7 @@ ssize_t mqs_finish_receive(struct mqs *c, void *data, size_t size, uint32_t *pri
 /* 0: the answer is there. -1: it isn't, and the call is over. */
 static int wait_or_stop(struct mqs *c, const struct timespec *until)
 {
-    if (mqs_wait(c, until) == 0) return 0;
+    if (mqsi_wait_timed(c, until) == 0) return 0;
     if (c->lost) return -1;
     int why = errno, stopped = mqs_stop(c);
     return stopped == 1 ? mqsi_fail(why) : stopped;
@@ -195,25 +212,43 @@ static int wait_or_stop(struct mqs *c, const struct timespec *until)
 static int check_moment(struct mqs *c, const struct timespec *until)
 {
     c->rule = 0;
-    return is_moment(until) ? 0 : mqsi_fail(EINVAL);
+    return mqsi_is_moment(until) ? 0 : mqsi_fail(EINVAL);
 }
 
 int mqs_mq_send(struct mqs *c, uint64_t description, const void *data, size_t size, uint32_t priority,
                 const struct timespec *until)
 {
-    if (check_moment(c, until) < 0 || mqs_start_send(c, description, data, size, priority) < 0) return -1;
-    return wait_or_stop(c, until) < 0 ? -1 : mqs_finish(c);
+    int r;
+    if (check_moment(c, until) < 0) return -1;
+    do {
+        r = mqsi_start_send(c, description, data, size, priority, until);
+        if (r == 0) r = wait_or_stop(c, until);
+        if (r == 0) r = mqs_finish(c);
+    } while (r < 0 && mqsi_was_early(c, until));
+    return r;
 }
 
 ssize_t mqs_mq_receive(struct mqs *c, uint64_t description, void *data, size_t size, uint32_t *priority,
                        const struct timespec *until)
 {
-    if (check_moment(c, until) < 0 || mqs_start_receive(c, description, size) < 0) return -1;
-    return wait_or_stop(c, until) < 0 ? -1 : mqs_finish_receive(c, data, size, priority);
+    ssize_t r;
+    if (check_moment(c, until) < 0) return -1;
+    do {
+        r = mqsi_start_receive(c, description, size, until);
+        if (r == 0) r = wait_or_stop(c, until);
+        if (r == 0) r = mqs_finish_receive(c, data, size, priority);
+    } while (r < 0 && mqsi_was_early(c, until));
+    return r;
 }
 
 int mqs_sem_wait(struct mqs *c, uint64_t description, const struct timespec *until)
 {
-    if (check_moment(c, until) < 0 || mqs_start_sem_wait(c, description) < 0) return -1;
-    return wait_or_stop(c, until) < 0 ? -1 : mqs_finish(c);
+    int r;
+    if (check_moment(c, until) < 0) return -1;
+    do {
+        r = mqsi_start_sem_wait(c, description, until);
+        if (r == 0) r = wait_or_stop(c, until);
+        if (r == 0) r = mqs_finish(c);
+    } while (r < 0 && mqsi_was_early(c, until));
+    return r;
 }

@@ -155,6 +155,13 @@ static int say_hello(struct mqs *c, const char *key)
     return 0;
 }
 
+static int is_peer_here(int fd)
+{
+    struct sockaddr_storage peer = { .ss_family = AF_UNSPEC };
+    socklen_t size = sizeof peer;
+    return getpeername(fd, (struct sockaddr *)&peer, &size) == 0 && mqsi_is_here((const struct sockaddr *)&peer);
+}
+
 struct mqs *mqs_attach(int fd, const char *key, int answer_ms)
 {
     struct mqs *c = calloc(1, sizeof *c);
@@ -165,6 +172,7 @@ struct mqs *mqs_attach(int fd, const char *key, int answer_ms)
     }
     c->fd = fd;
     c->bound_ms = answer_ms;
+    c->shares_clock = is_peer_here(fd);
     int one = 1;
     setsockopt(fd, IPPROTO_TCP, TCP_NODELAY, &one, sizeof one);   /* fails where it isn't TCP, which is no matter */
     if (say_hello(c, key) == 0) return c;

@@ -2,7 +2,9 @@
 #ifndef CONNECTION_H
 #define CONNECTION_H
 
-#include "mqserve.h"
+#include "timed.h"
+
+#include <sys/socket.h>
 
 enum {
     BODY_MAX = 16777300,        /* of a frame: its opcode and its fields */
@@ -16,14 +18,14 @@ enum {
 enum request_op {
     HELLO = 1, UMASK, MQ_OPEN, MQ_CLOSE, MQ_UNLINK, MQ_SEND, MQ_RECEIVE, MQ_GETATTR, MQ_SETATTR, MQ_NOTIFY, SEM_OPEN, SEM_CLOSE,
     SEM_UNLINK, SEM_POST, SEM_WAIT, SEM_TRYWAIT, SEM_GETVALUE, LIST_NAMES, STAT_NAME, CHMOD, CHOWN, SET_LIMIT, INTERRUPT, AUDIT,
-    MQ_GIVE = 30,
+    MQ_TIMED_SEND = 26, MQ_TIMED_RECEIVE, SEM_TIMED_WAIT, MQ_GIVE = 30,
 };
 
 enum answer_op {
     STARTED = 65, DONE, OPENED, MASK, ATTRS, SENT, RECEIVED, VALUE, NAMES, STAT, RECORDS, REFUSED, INTERRUPTED, NOTICE, TAKEN,
 };
 
-enum { NOT_IN_CALL = 3, BAD_KEY = 31, LAST_RULE = 33 };
+enum { NOT_IN_CALL = 3, BAD_KEY = 31, TIMED_OUT = 32, LAST_RULE = 33 };
 
 /* The refusal of an Interrupt that came too late stands behind the answer of the call. */
 enum stale { STALE_NONE, STALE_NEXT, STALE_SECOND };
@@ -32,7 +34,9 @@ struct mqs {
     int fd, lost, rule, bound_ms;
     enum stale stale;
     uint64_t session;
-    int started;                /* the opcode of the call that was started and isn't finished, or 0 */
+    int shares_clock;           /* the server's clock is this machine's: it ends calls at their moments */
+    int started;                /* the opcode without a moment of the call that was started and isn't finished, or 0 */
+    int is_timed;               /* the server has that call's moment */
     size_t asked;               /* the bytes that a started receive has room for */
     uint8_t *in;                /* what has come: in[from .. to] */
     size_t capacity, from, to;
@@ -58,6 +62,11 @@ struct request mqsi_by_description(enum request_op op, uint64_t description);
 void mqsi_put(struct request *r, uint64_t value, int bytes);
 int mqsi_put_text(struct request *r, const char *text);
 uint64_t mqsi_get(const uint8_t *at, int bytes);
+
+int mqsi_is_here(const struct sockaddr *peer);
+int mqsi_is_moment(const struct timespec *until);
+struct timespec mqsi_time_left(clockid_t clock, const struct timespec *until);
+uint64_t mqsi_milliseconds(const struct timespec *until);
 
 int mqsi_write(struct mqs *c, struct request *r, deadline end);
 int mqsi_front(struct mqs *c);

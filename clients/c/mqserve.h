@@ -11,8 +11,15 @@
  * The first four lose the connection: each later call on it fails with the same error. Rules 1 and 2 don't come.
  *
  * Ends. A call that doesn't block ends within the connection's bound. A call that blocks ends when it is served, by its moment
- * or by a signal; the server decides which came first, so a call that fails had no effect. It tells the server, and waits for
- * the answer to that at most for the connection's bound. Only where the connection is lost is it unknown what a call did.
+ * or by a signal; the server decides which came first, so a call that fails had no effect. Where a signal ends it, or this side's clock
+ * does, it tells the server, and waits for the answer to that at most for the connection's bound. Only where the connection is lost is
+ * it unknown what a call did.
+ *
+ * Moments. Where the server shares this machine's clock (mqs_set_shared_clock) it gets a call's moment along with the call, rounded up to
+ * a millisecond, and refuses the call by rule 32 when it comes. Elsewhere this side's clock ends the call, by a request more, and
+ * mqs_rule() is then 0. The error is ETIMEDOUT both times, and no call ends before its moment. A moment that has passed, as each before
+ * 1970, ends a call that can't be served at once. A server that ends a call before its moment has another clock, and so has one that
+ * hasn't ended it two seconds after: this side then ends the call itself, and keeps the moments of later calls on the connection.
  *
  * Units. `until` is a moment of CLOCK_REALTIME, or NULL for no end. Bounds are in milliseconds; 0 is no bound. Sizes are in bytes.
  * A description is the number that an open gave. It belongs to the session that opened it.
@@ -62,6 +69,11 @@ int mqs_move_fd(struct mqs *c, int least);
 /* Sets the connection's bound. */
 void mqs_set_bound(struct mqs *c, int answer_ms);
 
+/* Says whether the server's clock is this machine's. At first that goes by the socket's peer, also in mqs_attach: it is where that is a
+ * Unix-domain socket (one of socketpair too) or a loopback address, and else it isn't. Say 0 where such a socket leads to another machine,
+ * as through a tunnel, and 1 of another machine whose clock agrees with this one's. Counts for calls that begin later. */
+void mqs_set_shared_clock(struct mqs *c, int is_shared);
+
 /* The session's number, by which others give it descriptions. */
 uint64_t mqs_session(const struct mqs *c);
 
@@ -91,13 +103,13 @@ int mqs_mq_open(struct mqs *c, const char *name, int access, int flags, unsigned
 int mqs_mq_close(struct mqs *c, uint64_t description);                       /* rule 8 */
 int mqs_mq_unlink(struct mqs *c, const char *name);                          /* rules 4, 5, 11, 13, 16, 17 */
 
-/* Sends. Blocks while the queue is full, unless the description has NONBLOCK. Errors: EMSGSIZE (more than 16,777,287 bytes),
- * EINVAL (until), EINTR, ETIMEDOUT, rules 8, 9, 25, 26, 29. */
+/* Sends. Blocks while the queue is full, unless the description has NONBLOCK. Errors: EMSGSIZE (more bytes than a request has room for:
+ * 16,777,279 with a moment that the server gets, else 16,777,287), EINVAL (until), EINTR, ETIMEDOUT, rules 8, 9, 25, 26, 29, 32. */
 int mqs_mq_send(struct mqs *c, uint64_t description, const void *data, size_t size, uint32_t priority,
                 const struct timespec *until);
 
 /* Receives into `size` bytes, at least the queue's message size, and returns the message's. Blocks while the queue is empty.
- * priority may be NULL. Errors: EINVAL (until), EINTR, ETIMEDOUT, rules 8, 10, 27, 29. */
+ * priority may be NULL. Errors: EINVAL (until), EINTR, ETIMEDOUT, rules 8, 10, 27, 29, 32. */
 ssize_t mqs_mq_receive(struct mqs *c, uint64_t description, void *data, size_t size, uint32_t *priority,
                        const struct timespec *until);
 
@@ -120,7 +132,7 @@ int mqs_sem_post(struct mqs *c, uint64_t description);                       /* 
 int mqs_sem_trywait(struct mqs *c, uint64_t description);                    /* rules 8, 29 */
 int mqs_sem_getvalue(struct mqs *c, uint64_t description, uint32_t *value);  /* rule 8 */
 
-/* Blocks while the value is 0. Errors: EINVAL (until), EINTR, ETIMEDOUT, rule 8. */
+/* Blocks while the value is 0. Errors: EINVAL (until), EINTR, ETIMEDOUT, rules 8, 32. */
 int mqs_sem_wait(struct mqs *c, uint64_t description, const struct timespec *until);
 
 /* ---- Names, modes and the trail ---- */
@@ -162,7 +174,7 @@ int mqs_next_unasked(struct mqs *c, int *what, uint64_t *description);
 /* ---- Calls that block, in parts ----
  *
  * For programs with a loop of their own: start the call; wait, or poll mqs_fd and then wait with a moment that has passed;
- * and finish. No other call may be made in between but mqs_next_unasked.
+ * and finish. No other call may be made in between but mqs_next_unasked. The server knows no moment of these calls.
  *
  * mqs_wait: 0 if the answer is there. -1 if it isn't, with EINTR or ETIMEDOUT; the call then goes on at the server. With `until`
  *     NULL it goes on after a signal whose handler has SA_RESTART; with a moment it ends with EINTR then too. EINVAL: nothing

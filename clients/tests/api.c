@@ -89,7 +89,7 @@ static void messages(uint64_t q, uint64_t r)
     struct mqs_state state;
     CHECK(mqs_mq_getattr(a, q, &state) == 0 && state.messages == 2 && state.message_size == 16 && state.messages_now == 0 && !state.nonblock);
     CHECK(mqs_mq_send(a, q, "one", 3, 1, NULL) == 0 && mqs_mq_send(a, q, "two", 3, 7, NULL) == 0);
-    CHECK(mqs_mq_send(a, q, "three", 5, 0, &past) == -1 && errno == ETIMEDOUT && mqs_rule(a) == 0);
+    CHECK(mqs_mq_send(a, q, "three", 5, 0, &past) == -1 && errno == ETIMEDOUT && mqs_rule(a) == 32);
     CHECK(mqs_mq_send(a, q, "three", 5, 0, &odd) == -1 && errno == EINVAL && mqs_rule(a) == 0);
     REFUSED(a, mqs_mq_send(a, q, "01234567890123456", 17, 0, NULL), 26);
     REFUSED(a, mqs_mq_send(a, q, "x", 1, 32768, NULL), 25);
@@ -204,6 +204,128 @@ static void signals(uint64_t q)
     CHECK(mqs_mq_send(a, q, "x", 1, 0, NULL) == 0 && mqs_mq_receive(a, q, data, sizeof data, NULL, NULL) == 1);
 }
 
+/* ---- Moments ---- */
+
+static struct timespec in_ms(long ms)
+{
+    struct timespec t;
+    clock_gettime(CLOCK_REALTIME, &t);
+    t.tv_nsec += ms * 1000000;
+    t.tv_sec += t.tv_nsec / 1000000000;
+    t.tv_nsec %= 1000000000;
+    return t;
+}
+
+static int has_come(const struct timespec *until)
+{
+    struct timespec now = in_ms(0);
+    return now.tv_sec != until->tv_sec ? now.tv_sec > until->tv_sec : now.tv_nsec >= until->tv_nsec;
+}
+
+/* Calls that can't be served end at their moments and not before, by the rule of who keeps them. */
+#define LATE(c, call) do { \
+        struct timespec until = in_ms(100); \
+        CHECK((call) == -1 && errno == ETIMEDOUT && mqs_rule(c) == rule && has_come(&until)); \
+        CHECK(mqs_lost(c) == 0); \
+    } while (0)
+
+static void ends(uint64_t q, uint64_t r, uint64_t s, int rule)
+{
+    static const struct timespec old[] = { { 0, 0 }, { 0, 999999999 }, { 1, 0 }, { -1, 999999999 }, { INT64_MIN, 0 } };
+    char data[16];
+    LATE(b, mqs_mq_receive(b, r, data, sizeof data, NULL, &until));
+    LATE(a, mqs_sem_wait(a, s, &until));
+    CHECK(mqs_mq_send(a, q, "1", 1, 0, NULL) == 0 && mqs_mq_send(a, q, "2", 1, 0, NULL) == 0);
+    LATE(a, mqs_mq_send(a, q, "3", 1, 9, &until));
+    for (size_t i = 0; i < sizeof old / sizeof *old; i++) {
+        CHECK(mqs_mq_send(a, q, "3", 1, 9, &old[i]) == -1 && errno == ETIMEDOUT && mqs_rule(a) == rule);
+        CHECK(mqs_sem_wait(a, s, &old[i]) == -1 && errno == ETIMEDOUT && mqs_rule(a) == rule);
+    }
+    for (char i = '1'; i <= '2'; i++) CHECK(mqs_mq_receive(b, r, data, sizeof data, NULL, &old[2]) == 1 && data[0] == i);
+    CHECK(mqs_mq_receive(b, r, data, sizeof data, NULL, &old[3]) == -1 && errno == ETIMEDOUT && mqs_rule(b) == rule);
+}
+
+struct later { uint64_t q, s; };
+
+static void *serve_later(void *arg)
+{
+    const struct later *l = arg;
+    usleep(100000);
+    return (void *)(long)(mqs_mq_send(a, l->q, "late", 4, 31, NULL) | mqs_sem_post(a, l->s));
+}
+
+/* Calls that are served at once, and while they wait: with a moment that is near, and with one that the clock never reaches. */
+static void served(uint64_t q, uint64_t r, uint64_t s)
+{
+    static const struct timespec never = { INT64_MAX, 999999999 };
+    struct timespec far = in_ms(20000);
+    struct later l = { q, s };
+    char data[16];
+    uint32_t priority = 0;
+    pthread_t other;
+    void *failed;
+    CHECK(mqs_mq_send(a, q, "0123456789abcdef", 16, 32767, &far) == 0 && mqs_mq_send(a, q, "", 0, 0, &never) == 0);
+    CHECK(mqs_mq_receive(b, r, data, 16, &priority, &far) == 16 && priority == 32767 && !memcmp(data, "0123456789abcdef", 16));
+    CHECK(mqs_mq_receive(b, r, data, 16, &priority, &never) == 0 && priority == 0);
+    CHECK(pthread_create(&other, NULL, serve_later, &l) == 0);
+    CHECK(mqs_mq_receive(b, r, data, 16, &priority, &far) == 4 && priority == 31 && !memcmp(data, "late", 4));
+    CHECK(pthread_join(other, &failed) == 0 && !failed && mqs_sem_wait(a, s, &never) == 0);
+    CHECK(mqs_mq_receive(b, r, data, 16, NULL, &past) == -1 && errno == ETIMEDOUT);
+}
+
+/* A signal ends a call with a moment, whatever its handler says. */
+static void ended_by_signals(uint64_t q, uint64_t r, uint64_t s)
+{
+    char data[16];
+    struct itimerval soon = { { 0, 0 }, { 0, 50000 } };
+    for (int flags = 0; flags != -1; flags = flags ? -1 : SA_RESTART) {
+        struct sigaction action = { .sa_handler = nothing, .sa_flags = flags };
+        struct timespec far = in_ms(20000);
+        sigaction(SIGALRM, &action, NULL);
+        setitimer(ITIMER_REAL, &soon, NULL);
+        CHECK(mqs_mq_receive(b, r, data, sizeof data, NULL, &far) == -1 && errno == EINTR && mqs_rule(b) == 0);
+        setitimer(ITIMER_REAL, &soon, NULL);
+        CHECK(mqs_sem_wait(a, s, &far) == -1 && errno == EINTR && mqs_rule(a) == 0);
+    }
+    CHECK(mqs_mq_send(a, q, "x", 1, 0, NULL) == 0 && mqs_mq_receive(b, r, data, sizeof data, NULL, NULL) == 1);
+}
+
+/* What else can refuse a call refuses it with a moment too, and before that. */
+static void refused_with_moments(uint64_t q, uint64_t r)
+{
+    struct timespec far = in_ms(20000);
+    char data[16];
+    REFUSED(a, mqs_mq_send(a, q, "01234567890123456", 17, 0, &far), 26);
+    REFUSED(a, mqs_mq_send(a, q, "x", 1, 32768, &past), 25);
+    REFUSED(a, mqs_mq_send(a, r, "x", 1, 0, &far), 8);
+    REFUSED(a, mqs_sem_wait(a, q, &past), 8);
+    REFUSED(b, mqs_mq_send(b, r, "x", 1, 0, &past), 9);
+    REFUSED(b, mqs_mq_receive(b, r, data, 15, NULL, &far), 27);
+    CHECK(mqs_mq_receive(b, r, data, 16, NULL, &odd) == -1 && errno == EINVAL && mqs_rule(b) == 0);
+    CHECK(mqs_mq_setattr(b, r, 1, NULL) == 0);
+    REFUSED(b, mqs_mq_receive(b, r, data, 16, NULL, &past), 29);
+    REFUSED(b, mqs_mq_receive(b, r, data, 16, NULL, &far), 29);
+    CHECK(mqs_mq_setattr(b, r, 0, NULL) == 0);
+}
+
+/* By the server's clock, as both connections begin, and by this side's. */
+static void moments(uint64_t q, uint64_t r)
+{
+    uint64_t s;
+    CHECK(mqs_sem_open(a, "/api", MQS_CREATE, 0600, 0, &s) == 0);
+    for (int is_shared = 1; is_shared >= 0; is_shared--) {
+        mqs_set_shared_clock(a, is_shared);
+        mqs_set_shared_clock(b, is_shared);
+        ends(q, r, s, is_shared ? 32 : 0);
+        served(q, r, s);
+        ended_by_signals(q, r, s);
+        refused_with_moments(q, r);
+    }
+    mqs_set_shared_clock(a, 1);
+    mqs_set_shared_clock(b, 1);
+    CHECK(mqs_sem_close(a, s) == 0 && mqs_sem_unlink(a, "/api") == 0);
+}
+
 static int count_names(const char *name, size_t size, void *arg)
 {
     *(int *)arg += size == 4 && !memcmp(name, "/api", 4);
@@ -299,6 +421,7 @@ int main(int argc, char **argv)
     calls_in_parts(q, r);
     stops_by_another(q, r);
     signals(q);
+    moments(q, r);
     modes();
     semaphores();
     if (has("audit")) administration(address);

@@ -1,70 +1,9 @@
 /* hostile.c: the library against servers that lie, stop at any byte, or say nothing. Each call must end as its case says, within its
  * bound. The server is the other end of a pair of sockets, whose bytes are there before the call, or come as the case says. */
-#include "../c/connection.h"
+#include "pair.h"
 
-#include <errno.h>
 #include <poll.h>
-#include <pthread.h>
-#include <stdio.h>
-#include <stdlib.h>
-#include <string.h>
-#include <sys/socket.h>
 #include <sys/un.h>
-#include <unistd.h>
-
-enum { BOUND_MS = 200, LONG_MS = 20000, LATE_S = 10 };   /* LATE_S: how much later a busy machine may be */
-
-static int checks, faults;
-static int server;              /* the server's end */
-
-#define CHECK(condition) do { \
-        checks++; \
-        if (!(condition)) { \
-            faults++; \
-            printf("line %d: not so: %s (errno %s)\n", __LINE__, #condition, strerrorname_np(errno)); \
-        } \
-    } while (0)
-
-static const uint8_t started[] = { 0, 0, 0, 9, STARTED, 0, 0, 0, 0, 0, 0, 0, 5 };
-
-static void put(const void *bytes, size_t size)
-{
-    if (write(server, bytes, size) != (ssize_t)size) abort();
-}
-
-static struct mqs *fresh(void)
-{
-    int ends[2];
-    if (socketpair(AF_UNIX, SOCK_STREAM, 0, ends) < 0) abort();
-    server = ends[1];
-    put(started, sizeof started);
-    struct mqs *c = mqs_attach(ends[0], "key", BOUND_MS);
-    if (!c) abort();
-    return c;
-}
-
-static void end(struct mqs *c)
-{
-    mqs_disconnect(c);
-    close(server);
-}
-
-static double seconds(void)
-{
-    struct timespec t;
-    clock_gettime(CLOCK_MONOTONIC, &t);
-    return (double)t.tv_sec + (double)t.tv_nsec / 1e9;
-}
-
-static struct timespec in_ms(long ms)
-{
-    struct timespec t;
-    clock_gettime(CLOCK_REALTIME, &t);
-    t.tv_nsec += ms * 1000000;
-    t.tv_sec += t.tv_nsec / 1000000000;
-    t.tv_nsec %= 1000000000;
-    return t;
-}
 
 /* ---- One answer to one call ---- */
 
@@ -132,7 +71,7 @@ static void cut_at_each_byte(int closes)
 {
     for (enum kind k = OPEN; k < KINDS; k++)
         for (size_t size = 0; size < honest[k].size; size++) {
-            if (!closes && size % 5 != 0) continue;   /* silence takes its bound each time */
+            if (!closes && size % 5 != 0) continue;   /* silence takes its bound each time, and two seconds where the call has a moment */
             struct mqs *c = fresh();
             put(honest[k].bytes, size);
             if (closes) shutdown(server, SHUT_WR);
@@ -284,21 +223,15 @@ static void full_socket(void)
 
 static const uint8_t interrupted[] = { 0, 0, 0, 1, INTERRUPTED, 0, 0, 0, 1, DONE }, refused_3[] = { 0, 0, 0, 3, REFUSED, 0, 3 };
 
-static void *answer_later(void *arg)
-{
-    const struct flood *f = arg;
-    usleep((useconds_t)f->pause_us);
-    put(f->bytes, f->size);
-    return NULL;
-}
-
+/* A call whose moment this side keeps: by the time of the answer it has sent an Interrupt. */
 static long late_call(const void *bytes, size_t size, int bound_ms, int *error)
 {
-    struct flood f = { bytes, size, 300000 };
+    struct later l = { bytes, size, 300 };
     pthread_t thread;
     struct mqs *c = fresh();
     mqs_set_bound(c, bound_ms);
-    pthread_create(&thread, NULL, answer_later, &f);
+    mqs_set_shared_clock(c, 0);
+    pthread_create(&thread, NULL, answer_later, &l);
     long r = call(c, RECEIVE);
     *error = errno;
     pthread_join(thread, NULL);
