@@ -1,4 +1,5 @@
-/* blocking.c: sends, receives and waits. First home is asked, where nothing blocks. What would block goes to a side. */
+/* blocking.c: sends, receives and waits. First home is asked, where nothing blocks. What would block goes to a side, and what has a moment
+ * may go there at once. */
 #include "preload.h"
 
 #include <errno.h>
@@ -9,11 +10,11 @@ enum { WOULD_BLOCK = 29, FIRST_PAUSE_NS = 1000000, LAST_PAUSE_NS = 64000000 };
 
 /* ---- On home ---- */
 
-static int start(struct mqs *c, uint64_t description, const struct job *j)
+static int start(struct mqs *c, uint64_t description, const struct job *j, const struct timespec *until)
 {
-    if (j->operation == SENDS) return mqs_start_send(c, description, j->data, j->size, j->priority);
-    if (j->operation == RECEIVES) return mqs_start_receive(c, description, j->size);
-    return mqs_start_sem_wait(c, description);
+    if (j->operation == SENDS) return mqsi_start_send(c, description, j->data, j->size, j->priority, until);
+    if (j->operation == RECEIVES) return mqsi_start_receive(c, description, j->size, until);
+    return mqsi_start_sem_wait(c, description, until);
 }
 
 static ssize_t finish(struct mqs *c, struct job *j)
@@ -38,7 +39,7 @@ static ssize_t attempt(struct job *j, int *would_block)
     uint64_t description = j->object->at[HOME];
     ssize_t r = -1;
     if (j->operation == WAITS) r = mqs_sem_trywait(c, description);
-    else if (start(c, description, j) == 0 && mqs_wait_bound(c) == 0) r = finish(c, j);
+    else if (start(c, description, j, NULL) == 0 && mqs_wait_bound(c) == 0) r = finish(c, j);
     int error = errno;
     *would_block = r < 0 && mqs_rule(c) == WOULD_BLOCK;
     if (registrations && j->operation == SENDS && r == 0) take_own_notice(c, description);
@@ -48,13 +49,13 @@ static ssize_t attempt(struct job *j, int *would_block)
 
 /* ---- Cancellation ---- */
 
-struct blocked { struct job *job; int side, timer, is_timed; };
+struct blocked { struct job *job; int side, timer, has_keeper; };   /* a keeper: the thread of deadlines.c */
 
 /* Ends a call on a side whose wait is over. 1: it is withdrawn, and *why says why. 0: its answer is there. -1. */
 static int settle(struct blocked *b, int has_answer, int *why)
 {
     struct mqs *c = sides[b->side].connection;
-    int is_asked = b->is_timed && drop_deadline(b->side);
+    int is_asked = b->has_keeper && drop_deadline(b->side);
     if (has_answer && !is_asked) return 0;
     if (mqs_lost(c)) return fail(mqs_lost(c));
     if (!is_asked) return mqs_stop(c);
@@ -98,7 +99,7 @@ static int wait_open_to_signals(struct blocked *b, const struct timespec *until,
     struct mqs *c = sides[b->side].connection;
     pthread_cleanup_push(on_cancel, b);
     let_signals_in(e);
-    r = mqs_wait(c, until);
+    r = mqsi_wait_timed(c, until);
     error = errno;
     keep_signals_out();
     pthread_cleanup_pop(0);
@@ -106,18 +107,28 @@ static int wait_open_to_signals(struct blocked *b, const struct timespec *until,
     return r;
 }
 
-/* The lock isn't held: the side is this call's alone. A signal ends a wait of a semaphore with a moment whatever its handler says, as it
- * does on Linux; and a queue's call where no thread for its moment can be had. */
-static ssize_t block_on_side(struct job *j, int side, const struct timespec *until, const struct entry *e)
+/* The lock isn't held: the side is this call's alone. A queue's call waits without an end, so that it goes on after a signal as its handler
+ * says: at its moment the server answers it, or a thread interrupts it where the server doesn't have the moment. A signal ends a wait of a
+ * semaphore with a moment whatever its handler says, as it does on Linux; and a queue's call where no such thread can be had. */
+static ssize_t block_once(struct job *j, int side, const struct timespec *until, const struct entry *e)
 {
     struct mqs *c = sides[side].connection;
     struct blocked b = { .job = j, .side = side, .timer = -1 };
-    if (start(c, j->object->at[side], j) < 0) return -1;
-    b.is_timed = until && j->operation != WAITS && keep_deadline(side, until) == 0;
-    int has_answer = wait_open_to_signals(&b, b.is_timed ? NULL : until, e) == 0, why = errno;
+    if (start(c, j->object->at[side], j, until) < 0) return -1;
+    int is_endless = until && j->operation != WAITS;
+    if (is_endless && !mqsi_is_timed(c)) is_endless = b.has_keeper = keep_deadline(side, until) == 0;
+    int has_answer = wait_open_to_signals(&b, is_endless ? NULL : until, e) == 0, why = errno;
     int withdrawn = settle(&b, has_answer, &why);
     if (withdrawn != 0) return withdrawn > 0 ? fail(why) : -1;
     return finish(c, j);
+}
+
+static ssize_t block_on_side(struct job *j, int side, const struct timespec *until, const struct entry *e)
+{
+    ssize_t r;
+    do r = block_once(j, side, until, e);
+    while (r < 0 && mqsi_was_early(sides[side].connection, until));
+    return r;
 }
 
 /* ---- Without a side ---- */
@@ -175,28 +186,59 @@ static ssize_t ask_again(struct job *j, const struct timespec *until, const stru
 
 /* ---- All of it ---- */
 
+static int is_nonblock(const struct object *o) { return o->nonblock && atomic_load(o->nonblock); }
+
+static int is_open_at_home(const struct object *o)
+{
+    struct mqs *c = sides[HOME].connection;
+    return c && !mqs_lost(c) && !o->lost && o->at[HOME] != NO_DESCRIPTION;
+}
+
+/* The side on which a call with a moment is made without asking home first, or 0: one request then does, whether it blocks or not. The
+ * server serves it there as it would at home, and a signal or a cancellation while its answer is on the way is settled as while it blocks.
+ * Home comes first for
+ * - what may not block: O_NONBLOCK is home's, and a moment that has passed is one request there too
+ * - what shows that home was lost, or that the object isn't open there
+ * - a send while there are registrations: its own notice must come before it returns, and comes to home
+ * - a call that no side can take at once, since most calls don't block
+ * - a server that doesn't get moments, where a call that blocks takes an interrupt besides */
+static int side_at_once(const struct job *j, const struct timespec *until)
+{
+    struct object *o = j->object;
+    long any_pause = LAST_PAUSE_NS;
+    if (!until || is_nonblock(o) || is_over(until, &any_pause) || !is_open_at_home(o)) return 0;
+    if (j->operation == SENDS && registrations) return 0;
+    int side = open_side(o);
+    return side && mqsi_shares_clock(sides[side].connection) ? side : 0;
+}
+
+static ssize_t block(struct job *j, int side, const struct timespec *until, struct entry *e)
+{
+    if (!side) return ask_again(j, until, e);
+    sides[side].busy = 1;
+    unlock_home();
+    ssize_t r = block_on_side(j, side, until, e);
+    int error = errno;
+    lock_home();
+    free_side(side);
+    errno = error;
+    return r;
+}
+
 ssize_t perform(struct job *j, const struct timespec *until, struct entry *e)
 {
     struct object *o = j->object;
-    int would_block;
+    int would_block, side = side_at_once(j, until);
     long any_pause = LAST_PAUSE_NS;
-    ssize_t r = attempt(j, &would_block);
-    if (!would_block) return r;
-    if (o->nonblock && atomic_load(o->nonblock)) return fail(EAGAIN);
-    if (is_over(until, &any_pause)) return fail(ETIMEDOUT);
-    int side = side_for(o);
-    o->references++;
-    if (side) {
-        sides[side].busy = 1;
-        unlock_home();
-        r = block_on_side(j, side, until, e);
-        int error = errno;
-        lock_home();
-        free_side(side);
-        errno = error;
-    } else {
-        r = ask_again(j, until, e);
+    if (!side) {
+        ssize_t r = attempt(j, &would_block);
+        if (!would_block) return r;
+        if (is_nonblock(o)) return fail(EAGAIN);
+        if (is_over(until, &any_pause)) return fail(ETIMEDOUT);
+        side = side_for(o);
     }
+    o->references++;
+    ssize_t r = block(j, side, until, e);
     drop(o);
     return r;
 }

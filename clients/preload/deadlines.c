@@ -1,5 +1,6 @@
-/* deadlines.c: ends timed calls at their moments. A recv without an end goes on after a signal, or not, as its handler says; no wait
- * with an end does. So a call that blocks waits without one, and a thread of the library's own interrupts it at its moment. */
+/* deadlines.c: ends timed calls of queues at their moments, where the server doesn't share this machine's clock. A recv without an end goes
+ * on after a signal, or not, as its handler says; no wait with an end does. So a call that blocks waits without one, and a thread of the
+ * library's own interrupts it at its moment. */
 #include "preload.h"
 
 #include <errno.h>

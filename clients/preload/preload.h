@@ -3,11 +3,12 @@
  * The server gives a session one call at a time, and a description belongs to one session; a program has one mqd_t for all its
  * threads. So session 0, `home`, is for all threads, behind one lock, and nothing on it blocks: its queue descriptions have
  * NONBLOCK, and a semaphore's wait is first a trywait. A call that must block goes to a session of its own, a `side`, for as
- * long as it blocks. A side opens the object by its name. Where no side can be had the call asks home again and again. */
+ * long as it blocks; one with a moment goes there at once if it can. A side opens the object by its name. Where no side can be had the
+ * call asks home again and again. */
 #ifndef PRELOAD_H
 #define PRELOAD_H
 
-#include "../c/mqserve.h"
+#include "../c/timed.h"
 
 #include <mqueue.h>
 #include <pthread.h>
@@ -36,6 +37,7 @@ enum {
 struct settings {
     const char *address, *key;  /* without an address nothing changes for the program */
     int spares, keep_names, hello_ms, answer_ms, debug;
+    int shared_clock;           /* whether the server's clock is this machine's; -1: as its address says */
 };
 extern struct settings settings;
 
@@ -123,6 +125,7 @@ extern struct side sides[SIDES];
 struct mqs *home(void);
 void end_side(int side);
 int widen(void);
+int open_side(struct object *o);
 int side_for(struct object *o);
 void spread(struct object *o);
 void free_side(int side);

@@ -195,12 +195,13 @@ PUBLIC int sem_timedwait(sem_t *s, const struct timespec *until)
     return has_nanoseconds(until) ? wait_until(o, until) : fail(EINVAL);
 }
 
-/* The moment of CLOCK_REALTIME that is as far away as this one of CLOCK_MONOTONIC. */
+/* The moment of CLOCK_REALTIME that is as far away as this one of CLOCK_MONOTONIC, which is looked at first: time that passes in between
+ * makes the wait longer, and never shorter. */
 static struct timespec on_wall_clock(const struct timespec *until)
 {
     struct timespec wall, other;
-    clock_gettime(CLOCK_REALTIME, &wall);
     clock_gettime(CLOCK_MONOTONIC, &other);
+    clock_gettime(CLOCK_REALTIME, &wall);
     int64_t nanoseconds = wall.tv_nsec - other.tv_nsec + until->tv_nsec, seconds = nanoseconds / 1000000000;
     nanoseconds %= 1000000000;
     if (nanoseconds < 0) {

@@ -37,6 +37,7 @@ static struct mqs *dial(int hello_ms)
     struct mqs *c = mqs_connect(settings.address, settings.key, hello_ms);
     if (!c) return NULL;
     mqs_set_bound(c, settings.answer_ms);
+    if (settings.shared_clock >= 0) mqs_set_shared_clock(c, settings.shared_clock);
     if (mqs_umask(c, 0) < 0) {
         int error = errno;
         mqs_disconnect(c);
@@ -88,18 +89,23 @@ int widen(void)
     return 0;
 }
 
+/* A side that is free and has the object open already, or 0. */
+int open_side(struct object *o)
+{
+    for (int i = HOME + 1; i < SIDES; i++)
+        if (is_free(i) && o->at[i] != NO_DESCRIPTION) return i;
+    return 0;
+}
+
 /* A side that is free and has the object open, or 0. */
 int side_for(struct object *o)
 {
-    int free_one = 0;
-    for (int i = HOME + 1; i < SIDES; i++) {
-        if (!is_free(i)) continue;
-        if (o->at[i] != NO_DESCRIPTION) return i;
-        if (!free_one) free_one = i;
-    }
-    if (o->gone) return 0;
-    if (!free_one) free_one = widen();
-    return free_one && bring(o, free_one) == 0 ? free_one : 0;
+    int side = open_side(o);
+    if (side || o->gone) return side;
+    for (int i = HOME + 1; i < SIDES && !side; i++)
+        if (is_free(i)) side = i;
+    if (!side) side = widen();
+    return side && bring(o, side) == 0 ? side : 0;
 }
 
 /* Opens the object on the spare sides too, so that calls can block on it after an unlink. */

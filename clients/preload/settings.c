@@ -11,7 +11,7 @@
 
 enum { KEY_ROOM = 65536 };
 
-struct settings settings = { .spares = 1, .hello_ms = 5000, .answer_ms = 60000 };
+struct settings settings = { .spares = 1, .hello_ms = 5000, .answer_ms = 60000, .shared_clock = -1 };
 
 /* One line on standard error, where MQSERVE_DEBUG is set. */
 void say(const char *what, const char *why)
@@ -68,6 +68,7 @@ __attribute__((constructor)) static void begin(void)
     settings.debug = getenv("MQSERVE_DEBUG") != NULL;
     read_number("MQSERVE_SPARES", 0, SIDES - 1, &settings.spares);
     read_number("MQSERVE_KEEP_NAMES", 0, 1, &settings.keep_names);
+    read_number("MQSERVE_SHARED_CLOCK", 0, 1, &settings.shared_clock);
     read_number("MQSERVE_TIMEOUT_MS", 1, INT_MAX, &settings.hello_ms);
     read_number("MQSERVE_ANSWER_MS", 1, INT_MAX, &settings.answer_ms);
     settings.key = find_key();

@@ -1,6 +1,8 @@
 /* lost.c: a program that closes the library's sockets. What was open is lost; the next open connects anew. */
 #include "cases/case.h"
 
+#include <sys/socket.h>
+
 int main(void)
 {
     mqd_t q = new_queue("/lost", 2, 16);
@@ -13,6 +15,10 @@ int main(void)
     SHOW(mq_send(q, "x", 1, 0));
     SHOW(sem_post(s));
     SHOW(mq_close(q) | sem_close(s));
+    struct timespec until = in_ms(10000);
+    shutdown(256, SHUT_RDWR);   /* the connection for what doesn't block; that for what does lives on */
+    SHOW(mq_send(again, "x", 1, 0));
+    SHOW(mq_timedsend(again, "x", 1, 0, &until));
     SHOW(mq_close(again) | mq_unlink("/lost") | sem_unlink("/lost"));
     return 0;
 }

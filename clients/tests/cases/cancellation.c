@@ -45,6 +45,32 @@ static void *receive_when_cancelled(void *arg)
     return arg;
 }
 
+static void *send_timed(void *arg)
+{
+    struct timespec until = in_ms(20000);
+    mq_timedsend(q, "late", 4, 0, &until);
+    return arg;
+}
+
+static void *wait_timed(void *arg)
+{
+    struct timespec until = in_ms(20000);
+    sem_timedwait(s, &until);
+    return arg;
+}
+
+static void *receive_timed_when_cancelled(void *arg)
+{
+    char data[16];
+    int old;
+    struct timespec until = in_ms(20000);
+    pthread_setcancelstate(PTHREAD_CANCEL_DISABLE, &old);
+    while (!is_cancelled) pause_ms(10);
+    pthread_setcancelstate(PTHREAD_CANCEL_ENABLE, &old);
+    mq_timedreceive(q, data, sizeof data, NULL, &until);   /* a message is there */
+    return arg;
+}
+
 static void cancel(const char *what, void *(*f)(void *))
 {
     pthread_t thread;
@@ -68,11 +94,14 @@ int main(void)
     cancel("timed receive cancelled", receive_timed);
     SHOW(mq_send(q, "a", 1, 0));
     cancel("send cancelled", send_to_full);
+    cancel("timed send cancelled", send_timed);
     cancel("receive cancelled before it began", receive_when_cancelled);
+    cancel("timed receive cancelled before it began", receive_timed_when_cancelled);
     mq_getattr(q, &a);
     say("messages", a.mq_curmsgs);
     SHOW(mq_receive(q, data, 16, NULL));
     cancel("wait cancelled", wait_once);
+    cancel("timed wait cancelled", wait_timed);
     SHOW(sem_post(s));
     SHOW(sem_trywait(s));
     SHOW(mq_close(q) | mq_unlink("/cancel"));
