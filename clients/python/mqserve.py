@@ -11,11 +11,16 @@ as long as it blocks. A child of fork connects anew, and opens by name what it u
 
 Other than in posix_ipc: there is no shared memory. SignalError is never raised: a signal's handler runs while a call blocks, and if it
 raises, the call is withdrawn first. `mqd` is the server's number, and no file: select doesn't know it. An exception's `rule` is the
-number of the server's rule that refused the call, or 0. ConnectionLost is raised where the connection ends; what was open stays lost.
+number of the server's rule that refused the call, or 0; it is 0 after a timeout. ConnectionLost is raised where the connection ends; what
+was open stays lost.
+
+A timeout is measured by time.monotonic(). Where the server shares this machine's clock it gets the moment along with the call and ends it:
+a poll that finds nothing is one request then. No call ends before its timeout. See `use`.
 """
 from __future__ import annotations
 
 import errno
+import math
 import os
 import random
 import select
@@ -39,15 +44,18 @@ USER_SIGNAL_MIN, USER_SIGNAL_MAX = int(signal.SIGRTMIN), int(signal.SIGRTMAX)
 # Requests and answers, by the table of docs/FRAMES.md
 _HELLO, _UMASK, _MQ_OPEN, _MQ_CLOSE, _MQ_UNLINK, _MQ_SEND, _MQ_RECEIVE, _MQ_GETATTR = range(1, 9)
 _MQ_NOTIFY, _SEM_OPEN, _SEM_CLOSE, _SEM_UNLINK, _SEM_POST, _SEM_WAIT, _SEM_TRYWAIT, _SEM_GETVALUE = range(10, 18)
-_INTERRUPT = 23
+_INTERRUPT, _MQ_TIMED_SEND, _MQ_TIMED_RECEIVE, _SEM_TIMED_WAIT = 23, 26, 27, 28
 _STARTED, _DONE, _OPENED, _MASK, _ATTRS, _SENT, _RECEIVED, _VALUE = range(65, 73)
 _REFUSED, _INTERRUPTED, _NOTICE, _TAKEN = range(76, 80)
 _SIZES = {_STARTED: 8, _DONE: 0, _OPENED: 8, _MASK: 2, _ATTRS: 13, _SENT: 0, _VALUE: 4, _REFUSED: 2, _INTERRUPTED: 0, _NOTICE: 8, _TAKEN: 8}
 _BODY_MAX = 16777300
 _CREATE, _EXCLUSIVE, _NONBLOCK = 1, 2, 4
-_NOT_IN_CALL, _WOULD_BLOCK = 3, 29
+_NOT_IN_CALL, _WOULD_BLOCK, _TIMED_OUT = 3, 29, 32
 
 _HELLO_S, _SIDE_S, _ANSWER_S = 5.0, 1.0, 60.0
+_LATE_S = 2.0               # by how much a server may be late with the end of a call
+_LONGEST_S = 3600.0         # of one wait; further ones follow
+_LAST_DEADLINE_S = 1e10     # what is further away has the last deadline
 _SIDES = 16
 _FIRST_PAUSE_S, _LAST_PAUSE_S = 0.001, 0.064
 _NO_WORKER = "the server has no free worker, or doesn't answer"
@@ -135,11 +143,43 @@ def _dial_path(path: str, seconds: float) -> socket.socket:
     return dialled
 
 
+def _is_here(connected: socket.socket) -> bool:
+    """Whether the peer is on this machine: a Unix-domain socket, or a loopback address."""
+    if connected.family == socket.AF_UNIX:
+        return True
+    try:
+        host = connected.getpeername()[0]
+    except OSError:
+        return False
+    return host == "::1" or host.startswith(("127.", "::ffff:127."))
+
+
+def _deadline(until: float) -> bytes:
+    """A moment of time.monotonic() as a deadline: by the system's clock, in milliseconds, rounded up. One that has come is 0, since what
+    is past may be to come for the server, which knows the time by its last tick."""
+    left = until - time.monotonic()   # before the other clock: time that passes in between makes the wait longer
+    if left <= 0:
+        return bytes(8)
+    if left > _LAST_DEADLINE_S:
+        return b"\xff" * 8
+    return struct.pack(">Q", -(-(time.time_ns() + math.ceil(left * 1e9)) // 1000000))
+
+
+class _Call:
+    """A call by description that may block: its opcodes at home, on a side and with a deadline, its fields before a deadline and behind
+    it, and its answer."""
+
+    def __init__(self, opcodes: Tuple[int, int, int], head: bytes, rest: bytes, answer: int) -> None:
+        self.at_home, self.opcode, self.timed = opcodes
+        self.head, self.rest, self.answer = head, rest, answer
+
+
 class _Connection:
     """One connection, one session, for one thread at a time."""
 
-    def __init__(self, address: str, key: str, seconds: float) -> None:
+    def __init__(self, address: str, key: str, seconds: float, shared_clock: Optional[bool] = None) -> None:
         self.socket = _dial(address, seconds)
+        self.shared_clock = _is_here(self.socket) if shared_clock is None else shared_clock
         self.data = bytearray()
         self.notices: List[int] = []
         self.stale = 0          # 2: a late refusal of an interrupt stands behind the next answer; 1: it comes next
@@ -181,7 +221,7 @@ class _Connection:
 
     def read_some(self, end: Optional[float]) -> bool:
         """Reads what comes until a moment of time.monotonic(). False if nothing came."""
-        left = None if end is None else max(0.0, end - time.monotonic())
+        left = None if end is None else min(max(0.0, end - time.monotonic()), _LONGEST_S)
         if not select.select([self.socket], [], [], left)[0]:
             return False
         try:
@@ -225,12 +265,17 @@ class _Connection:
             if time.monotonic() >= end or not self.read_some(end):
                 raise self.lose("the server didn't answer in time", TimeoutError())
 
-    def take(self, wanted: int) -> bytes:
-        """The fields of the answer in front; a refusal is raised."""
+    def pop(self) -> Tuple[int, bytes]:
+        """The opcode and the fields of the answer in front."""
         size = self.front_size()
         opcode, fields = self.data[4], bytes(self.data[5:size])
         del self.data[:size]
         self.stale -= self.stale == 2
+        return opcode, fields
+
+    def take(self, wanted: int) -> bytes:
+        """The fields of the answer in front; a refusal is raised."""
+        opcode, fields = self.pop()
         if opcode == _REFUSED:
             rule = int.from_bytes(fields, "big")
             if not 1 <= rule <= len(_NAMES):
@@ -246,25 +291,49 @@ class _Connection:
         self.await_answer()
         return self.take(wanted)
 
-    def ask_until(self, opcode: int, fields: bytes, wanted: int, until: Optional[float]) -> Optional[bytes]:
+    def ask_until(self, call: _Call, description: bytes, until: Optional[float]) -> Optional[bytes]:
         """A call that may block, until a moment of time.monotonic(), or None. None if the moment came first."""
+        if until is not None and self.shared_clock:
+            answer = self.ask_timed(call, description, until)
+            if answer is not None or time.monotonic() >= until:
+                return answer
+        return self.ask_blocking(call.opcode, description + call.head + call.rest, call.answer, until)
+
+    def ask_timed(self, call: _Call, description: bytes, until: float) -> Optional[bytes]:
+        """The same where the server has the moment. Where it ends the call before that, or much later, its clock isn't this machine's: this
+        side keeps the moments that follow."""
+        fields = description + call.head + _deadline(until) + call.rest
+        try:
+            answer = self.ask_blocking(call.timed, fields, call.answer, until + _LATE_S)
+            self.shared_clock = answer is not None
+        except BusyError as error:
+            if _rule_of(error) != _TIMED_OUT:
+                raise
+            answer, self.shared_clock = None, time.monotonic() >= until
+        return answer
+
+    def ask_blocking(self, opcode: int, fields: bytes, wanted: int, end: Optional[float]) -> Optional[bytes]:
+        """A call that is withdrawn where it has no answer at its end. None then."""
         self.write(opcode, fields)
         try:
-            while not self.has_answer():
-                if until is not None and time.monotonic() >= until or not self.read_some(until):
-                    return self.take(wanted) if self.stop() else None
+            while not self.has_answer() and (end is None or time.monotonic() < end):
+                self.read_some(end)
         except ConnectionLost:
             raise
         except BaseException:   # a signal's handler raised: what the call took in this moment is lost
             if self.stop():
-                self.take(wanted)
+                self.pop()
             raise
-        return self.take(wanted)
+        return self.take(wanted) if self.has_answer() or self.stop() else None
 
     def stop(self) -> bool:
         """Withdraws the call. True if its answer came first, and is still to be taken."""
-        self.write(_INTERRUPT)
-        self.await_answer()
+        try:
+            self.write(_INTERRUPT)
+            self.await_answer()
+        except BaseException:   # of a signal's handler too: answers that come later would be taken for another call's
+            self.close()
+            raise
         if self.data[4] != _INTERRUPTED:
             self.stale = 2
             return True
@@ -274,18 +343,11 @@ class _Connection:
         return False
 
 
-class _Call:
-    """A call by description that may block: how it is asked at home and on a side, and its answer."""
-
-    def __init__(self, opcode: int, at_home: int, fields: bytes, answer: int) -> None:
-        self.opcode, self.at_home, self.fields, self.answer = opcode, at_home, fields, answer
-
-
 class _Server:
     """The connections of this process: home for what doesn't block, and sides for what does."""
 
-    def __init__(self, address: str, key: str, spares: int) -> None:
-        self.address, self.key, self.spares = address, key, spares
+    def __init__(self, address: str, key: str, spares: int, shared_clock: Optional[bool]) -> None:
+        self.address, self.key, self.spares, self.shared_clock = address, key, spares, shared_clock
         self.lock = threading.RLock()
         self.home: Optional[_Connection] = None
         self.sides: List[_Connection] = []
@@ -300,8 +362,11 @@ class _Server:
         for c in ([self.home] if self.home else []) + self.sides:
             c.close()
         things = self.things
-        self.__init__(self.address, self.key, self.spares)  # type: ignore[misc]
+        self.__init__(self.address, self.key, self.spares, self.shared_clock)  # type: ignore[misc]
         self.things = things
+
+    def connect(self, seconds: float) -> _Connection:
+        return _Connection(self.address, self.key, seconds, self.shared_clock)
 
     def at_home(self) -> _Connection:
         if self.home is not None and self.home.lost:
@@ -309,7 +374,7 @@ class _Server:
                 thing.lost = True
             self.home, self.watched = None, {}
         if self.home is None:
-            self.home = _Connection(self.address, self.key, _HELLO_S)
+            self.home = self.connect(_HELLO_S)
         return self.home
 
     def widen(self) -> Optional[_Connection]:
@@ -317,7 +382,7 @@ class _Server:
         if len(self.sides) >= _SIDES or time.monotonic() < self.widen_after:
             return None
         try:
-            side = _Connection(self.address, self.key, _SIDE_S)
+            side = self.connect(_SIDE_S)
         except (Error, OSError):
             self.widen_after = time.monotonic() + 5
             return None
@@ -364,29 +429,40 @@ class _Server:
         try:
             with self.lock:
                 self.at_home().room = thing.room
-                return self.ask(thing, call.at_home, call.fields, call.answer)
+                return self.ask(thing, call.at_home, call.head + call.rest, call.answer)
         except BusyError as error:
             if _rule_of(error) != _WOULD_BLOCK:
                 raise
             return None
 
+    def side_at_once(self, thing: "_Thing", call: _Call) -> Optional[_Connection]:
+        """A side for a call with a timeout that needn't be asked at home first: one request does then, whether it blocks or not. Home comes
+        first where no side is at hand, since most calls don't block; where the server doesn't get the moment; and for a send whose own
+        notice may come, which comes to home."""
+        thing.open_on(self.at_home())
+        if call.opcode == _MQ_SEND and self.watched:
+            return None
+        return next((c for c in self.free_sides() if thing in c.opened and c.shared_clock), None)
+
     def perform(self, thing: "_Thing", call: _Call, timeout: Optional[float], blocks: bool = True) -> Optional[bytes]:
         """The answer, or None if it would have come too late."""
-        if timeout is not None and timeout < 0:
+        if timeout is not None and not timeout >= 0:
             raise ValueError("the timeout must not be negative")
         until = None if timeout is None else time.monotonic() + timeout
         with self.lock:
-            answer = self.attempt(thing, call)
-            if answer is not None or not blocks or until is not None and until <= time.monotonic():
-                return answer
-            side = self.side_for(thing)
+            side = self.side_at_once(thing, call) if timeout and blocks else None
+            if side is None:
+                answer = self.attempt(thing, call)
+                if answer is not None or not blocks or until is not None and until <= time.monotonic():
+                    return answer
+                side = self.side_for(thing)
             if side is not None:
                 self.busy.add(side)
         if side is None:
             return self.ask_again(thing, call, until)
         try:
             side.room = thing.room
-            return side.ask_until(call.opcode, struct.pack(">Q", side.opened[thing]) + call.fields, call.answer, until)
+            return side.ask_until(call, struct.pack(">Q", side.opened[thing]), until)
         finally:
             with self.lock:
                 self.busy.discard(side)
@@ -455,11 +531,12 @@ class _Server:
 _server: Optional[_Server] = None
 
 
-def use(address: str, key: str, spares: int = 1) -> None:
-    """The server, HOST:PORT or unix:PATH, and the key for all that is opened from now on. spares: connections that are kept open for calls that will block;
-    each takes a worker of the server."""
+def use(address: str, key: str, spares: int = 1, shared_clock: Optional[bool] = None) -> None:
+    """The server, HOST:PORT or unix:PATH, and the key for all that is opened from now on. spares: connections that are kept open for calls
+    that will block; each takes a worker of the server. shared_clock: whether the server's clock is this machine's; None: it is with
+    unix:PATH and a loopback address. Say False where such an address leads to another machine, as through a tunnel."""
     global _server
-    _server = _Server(address, key, spares)
+    _server = _Server(address, key, spares, shared_clock)
 
 
 def _current() -> _Server:
@@ -562,7 +639,8 @@ class Semaphore(_Thing):
 
     def acquire(self, timeout: Optional[float] = None) -> None:
         """Waits until the value is above 0, and lowers it. BusyError after `timeout` seconds; None: never."""
-        if self.server.perform(self, _Call(_SEM_WAIT, _SEM_TRYWAIT, b"", _DONE), timeout) is None:
+        call = _Call((_SEM_TRYWAIT, _SEM_WAIT, _SEM_TIMED_WAIT), b"", b"", _DONE)
+        if self.server.perform(self, call, timeout) is None:
             raise BusyError("the semaphore is 0")
 
     def release(self) -> None:
@@ -628,12 +706,13 @@ class MessageQueue(_Thing):
         data = message.encode() if isinstance(message, str) else bytes(message)
         if not 0 <= priority <= QUEUE_PRIORITY_MAX:
             raise ValueError("the priority is out of range")
-        if self.server.perform(self, _Call(_MQ_SEND, _MQ_SEND, struct.pack(">I", priority) + data, _SENT), timeout, self.block) is None:
+        call = _Call((_MQ_SEND, _MQ_SEND, _MQ_TIMED_SEND), struct.pack(">I", priority), data, _SENT)
+        if self.server.perform(self, call, timeout, self.block) is None:
             raise BusyError("the queue is full")
 
     def receive(self, timeout: Optional[float] = None) -> Tuple[bytes, int]:
         """The oldest message of the greatest priority, and that priority. Waits while the queue is empty, at most `timeout` seconds."""
-        call = _Call(_MQ_RECEIVE, _MQ_RECEIVE, struct.pack(">I", self.room), _RECEIVED)
+        call = _Call((_MQ_RECEIVE, _MQ_RECEIVE, _MQ_TIMED_RECEIVE), struct.pack(">I", self.room), b"", _RECEIVED)
         answer = self.server.perform(self, call, timeout, self.block)
         if answer is None:
             raise BusyError("the queue is empty")

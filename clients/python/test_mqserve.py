@@ -3,12 +3,16 @@ and what becomes of a server that lies or falls silent."""
 import os
 import signal
 import socket
+import sys
 import tempfile
 import threading
 import time
 import unittest
 
 import mqserve as ipc
+
+sys.path.append(os.path.join(os.path.dirname(os.path.abspath(__file__)), os.pardir, "tests"))
+from relay import Relay, own_address  # noqa: E402
 
 
 def rule_of(test, call, *words, **named):
@@ -254,6 +258,162 @@ class Queues(Thing):
     def test_texts(self):
         self.assertIn(self.q.name, repr(self.q))
         self.assertEqual(ipc.O_CREX, os.O_CREAT | os.O_EXCL)
+
+
+class Moments(Thing):
+    """What calls with a timeout ask of the server, as a relay in between sees it, and that none ends before its timeout."""
+
+    def begin(self, shared_clock=None, **how):
+        relay, before = Relay(os.environ["MQSERVE"], **how), ipc._server
+        ipc.use(relay.address, os.environ["MQSERVE_KEY"], shared_clock=shared_clock)
+        self.addCleanup(self.leave, relay, before)
+        self.relay = relay
+        self.q = self.keep(ipc.MessageQueue(None, ipc.O_CREX, max_messages=1, max_message_size=8))
+        self.sem = self.keep(ipc.Semaphore(None, ipc.O_CREX))
+
+    @staticmethod
+    def leave(relay, before):
+        ipc._server.forget()
+        ipc._server = before
+        relay.close()
+
+    def poll(self, requests, call, *words, timeout=0.1):
+        """The call finds nothing, and asks this."""
+        self.relay.requests.clear()
+        start = time.monotonic()
+        with self.assertRaises(ipc.BusyError) as caught:
+            call(*words, timeout=timeout)
+        took = time.monotonic() - start
+        self.assertGreaterEqual(took, timeout)
+        self.assertLess(took, timeout + ipc._LATE_S + 5)
+        self.assertEqual(self.relay.requests, requests)
+        self.assertEqual(caught.exception.rule, 0)
+
+    def test_one_request_a_timeout(self):
+        self.begin()
+        for _ in range(3):
+            self.poll([27], self.q.receive)
+            self.poll([28], self.sem.acquire)
+        self.q.send("full")
+        for timeout in (0.0001, 0.05, 1):
+            self.poll([26], self.q.send, "more", timeout=timeout)
+        self.assertEqual(self.q.receive(5), (b"full", 0))
+        self.assertEqual(self.q.current_messages, 0)
+
+    def test_served(self):
+        self.begin()
+        self.relay.requests.clear()
+        self.q.send("now", timeout=5, priority=7)
+        self.assertEqual(self.q.receive(5), (b"now", 7))
+        self.sem.release()
+        self.sem.acquire(5)
+        self.assertEqual(self.relay.requests, [26, 27, 14, 28])
+        threading.Timer(0.2, self.q.send, ("late",)).start()
+        self.assertEqual(self.q.receive(20), (b"late", 0))
+
+    def test_timeouts_without_end(self):
+        self.begin()
+        for timeout in (1e9, 1e12, 1e300, float("inf")):
+            self.sem.release()
+            self.sem.acquire(timeout)
+            threading.Timer(0.1, self.sem.release).start()
+            self.sem.acquire(timeout)
+        self.assertRaises(ValueError, self.sem.acquire, float("nan"))
+
+    def test_home_first(self):
+        self.begin()
+        self.poll([7], self.q.receive, timeout=0)
+        self.q.block = False
+        self.poll([7], self.q.receive, timeout=0)
+        self.relay.requests.clear()
+        self.assertRaises(ipc.BusyError, self.q.receive, 5)
+        self.assertEqual(self.relay.requests, [7])
+        self.q.block = True
+        came = threading.Event()
+        self.q.request_notification((lambda event: event.set(), came))
+        self.relay.requests.clear()
+        self.q.send("noticed", timeout=5)
+        self.assertTrue(came.wait(5))
+        self.assertEqual(self.relay.requests, [6])
+
+    def test_no_side_at_hand(self):
+        self.begin()
+        ipc._server.busy.update(ipc._server.sides)
+        self.poll([7, 1, 2, 3, 27], self.q.receive)
+        self.poll([27], self.q.receive)
+
+    def test_handler_that_raises(self):
+        def stop(*_):
+            raise KeyboardInterrupt
+        self.begin()
+        signal.signal(signal.SIGALRM, stop)
+        self.relay.requests.clear()
+        signal.setitimer(signal.ITIMER_REAL, 0.1)
+        self.assertRaises(KeyboardInterrupt, self.q.receive, 20)
+        self.assertEqual(self.relay.requests, [27, 23])
+        self.q.send("kept")
+        self.assertEqual(self.q.receive(5), (b"kept", 0))
+
+    def test_child(self):
+        self.begin()
+        self.assertEqual(in_child(lambda: self.assertRaises(ipc.BusyError, self.q.receive, 0.1)), 0)
+        self.poll([27], self.q.receive)
+
+    def test_own_clock(self):
+        self.begin(shared_clock=False)
+        self.old_way()
+        self.assertRaises(ValueError, self.sem.acquire, float("nan"))
+
+    def test_other_machine(self):
+        """By an address of this machine that isn't a loopback one."""
+        if own_address() is None:
+            self.skipTest("this machine has loopback addresses alone")
+        self.begin(host=own_address())
+        self.old_way()
+
+    def old_way(self):
+        self.poll([7, 7, 23], self.q.receive)
+        self.poll([16, 15, 23], self.sem.acquire)
+        self.q.send("full", timeout=5)
+        self.poll([6, 6, 23], self.q.send, "more")
+        self.assertEqual(self.q.receive(), (b"full", 0))
+
+    def test_clock_ahead(self):
+        self.begin(ahead=3600000)
+        self.poll([27, 7, 23], self.q.receive)
+        self.old_way()
+
+    def test_clock_behind(self):
+        self.begin(ahead=-3600000)
+        self.poll([27, 23], self.q.receive)
+        self.old_way()
+
+    def test_whose_clock(self):
+        class Peer:
+            def __init__(self, address, family=socket.AF_INET):
+                self.address, self.family = address, family
+
+            def getpeername(self):
+                if self.address is None:
+                    raise OSError
+                return self.address, 7000
+        for address in ("127.0.0.1", "127.255.3.2", "::1", "::ffff:127.0.0.1"):
+            self.assertTrue(ipc._is_here(Peer(address)), address)
+        for address in ("128.0.0.1", "10.0.0.127", "0.0.0.0", "1.127.0.1", "::2", "fe80::1%eth0", "::ffff:10.0.0.1", None):
+            self.assertFalse(ipc._is_here(Peer(address)), address)
+        self.assertTrue(ipc._is_here(Peer("", socket.AF_UNIX)))
+
+    def test_deadlines(self):
+        for seconds in (0.0001, 0.5, 100.0, 1e9):
+            before = time.time_ns()
+            deadline = int.from_bytes(ipc._deadline(time.monotonic() + seconds), "big")
+            after = time.time_ns()
+            self.assertGreaterEqual(deadline * 1000000, before + int(seconds * 1e9) - 1000)
+            self.assertLess(deadline * 1000000, after + int(seconds * 1e9) + 1001000)
+        self.assertEqual(ipc._deadline(time.monotonic()), bytes(8))
+        self.assertEqual(ipc._deadline(time.monotonic() - 5), bytes(8))
+        for seconds in (1e11, 1e300, float("inf")):
+            self.assertEqual(ipc._deadline(time.monotonic() + seconds), b"\xff" * 8)
 
 
 class Liar:
