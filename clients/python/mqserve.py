@@ -44,10 +44,13 @@ USER_SIGNAL_MIN, USER_SIGNAL_MAX = int(signal.SIGRTMIN), int(signal.SIGRTMAX)
 # Requests and answers, by the table of docs/FRAMES.md
 _HELLO, _UMASK, _MQ_OPEN, _MQ_CLOSE, _MQ_UNLINK, _MQ_SEND, _MQ_RECEIVE, _MQ_GETATTR = range(1, 9)
 _MQ_NOTIFY, _SEM_OPEN, _SEM_CLOSE, _SEM_UNLINK, _SEM_POST, _SEM_WAIT, _SEM_TRYWAIT, _SEM_GETVALUE = range(10, 18)
+_LIST_NAMES, _STAT_NAME, _CHMOD, _CHOWN = range(18, 22)
 _INTERRUPT, _MQ_TIMED_SEND, _MQ_TIMED_RECEIVE, _SEM_TIMED_WAIT = 23, 26, 27, 28
-_STARTED, _DONE, _OPENED, _MASK, _ATTRS, _SENT, _RECEIVED, _VALUE = range(65, 73)
+_STARTED, _DONE, _OPENED, _MASK, _ATTRS, _SENT, _RECEIVED, _VALUE, _PAGE, _STAT = range(65, 75)
 _REFUSED, _INTERRUPTED, _NOTICE, _TAKEN = range(76, 80)
-_SIZES = {_STARTED: 8, _DONE: 0, _OPENED: 8, _MASK: 2, _ATTRS: 13, _SENT: 0, _VALUE: 4, _REFUSED: 2, _INTERRUPTED: 0, _NOTICE: 8, _TAKEN: 8}
+_SIZES = {_STARTED: 8, _DONE: 0, _OPENED: 8, _MASK: 2, _ATTRS: 13, _SENT: 0, _VALUE: 4, _STAT: 10, _REFUSED: 2, _INTERRUPTED: 0, _NOTICE: 8,
+          _TAKEN: 8}
+_PAGE_NAMES, _PAGE_NAME = 1000, 256     # how many names a page has at most, and how long they are
 _BODY_MAX = 16777300
 _CREATE, _EXCLUSIVE, _NONBLOCK = 1, 2, 4
 _NOT_IN_CALL, _WOULD_BLOCK, _TIMED_OUT = 3, 29, 32
@@ -238,11 +241,19 @@ class _Connection:
         if len(self.data) < 5:
             return 0
         body, opcode = int.from_bytes(self.data[:4], "big"), self.data[4]
-        most = 4 + self.room if opcode == _RECEIVED else _SIZES.get(opcode, -1)
-        least = 4 if opcode == _RECEIVED else most
+        least, most = self.sizes_of(opcode)
         if not least <= body - 1 <= most:
             raise self.lose("the server sent what is no answer")
         return body + 4 if len(self.data) >= body + 4 else 0
+
+    def sizes_of(self, opcode: int) -> Tuple[int, int]:
+        """How many bytes the fields of an answer have, at least and at most."""
+        if opcode == _RECEIVED:
+            return 4, 4 + self.room
+        if opcode == _PAGE:
+            return 2, 2 + _PAGE_NAMES * (2 + _PAGE_NAME)
+        size = _SIZES.get(opcode, -1)
+        return size, size
 
     def has_answer(self) -> bool:
         """Whether an answer stands whole in front. Puts aside what comes unasked."""
