@@ -255,6 +255,17 @@ class _Connection:
         size = _SIZES.get(opcode, -1)
         return size, size
 
+    def names_in(self, page: bytes) -> List[bytes]:
+        """The names of a page: a list, by the table of docs/FRAMES.md."""
+        names, at = [], 2
+        for _ in range(int.from_bytes(page[:2], "big")):
+            end = at + 2 + int.from_bytes(page[at:at + 2], "big")
+            names.append(page[at + 2:end])
+            at = end
+        if at != len(page) or len(names) > _PAGE_NAMES:
+            raise self.lose("the server sent what is no answer")
+        return names
+
     def has_answer(self) -> bool:
         """Whether an answer stands whole in front. Puts aside what comes unasked."""
         while True:

@@ -39,6 +39,8 @@ _PUTTING, _READY, _DEAD = 0o200, 0o600, 0o400       # the modes of a job's queue
 _SPARE = 2                                          # copies that workers leave: one for revive, and one that stays meanwhile
 _ABSENT, _PRESENT, _MODE_DENIED, _MESSAGE_LONG, _TAKEN, _WOULD_BLOCK = 13, 14, 15, 26, 28, 29
 _ANY_SIZE = mqserve._BODY_MAX                       # of a message
+_TOKEN = mqserve._Call((mqserve._MQ_RECEIVE, mqserve._MQ_RECEIVE, mqserve._MQ_TIMED_RECEIVE), struct.pack(">I", _ANY_SIZE), b"",
+                       mqserve._RECEIVED)
 _NO_WAITER_S = 0.1
 _rule_of = mqserve._rule_of
 
@@ -105,15 +107,7 @@ class _Session(mqserve._Connection):
 
     def page(self, start: int) -> List[bytes]:
         """Names of queues from position `start` on."""
-        fields = self.ask(mqserve._LIST_NAMES, struct.pack(">BIH", 1, start, mqserve._PAGE_NAMES), mqserve._PAGE)
-        names, at = [], 2
-        for _ in range(int.from_bytes(fields[:2], "big")):
-            end = at + 2 + int.from_bytes(fields[at:at + 2], "big")
-            names.append(fields[at + 2:end])
-            at = end
-        if at != len(fields):
-            raise self.lose("the server sent what is no answer")
-        return names
+        return self.names_in(self.ask(mqserve._LIST_NAMES, struct.pack(">BIH", 1, start, mqserve._PAGE_NAMES), mqserve._PAGE))
 
 
 class _Held(NamedTuple):
@@ -202,7 +196,7 @@ class Jobs:
 
     def _connect(self, access: int, flags: int) -> Tuple[_Session, int]:
         """A session, and the pool's queue in it."""
-        session = self._session_type(self._server.address, self._server.key, mqserve._HELLO_S)
+        session = self._session_type(self._server.address, self._server.key, mqserve._HELLO_S, self._server.shared_clock)
         try:
             longest = len(self._pool) + len(".job-") + 16
             return session, session.open(self._pool, access, _CREATE | flags, _READY, (self.tries + _SPARE, longest))
@@ -390,8 +384,7 @@ class Jobs:
             if waiter is None:
                 time.sleep(min(seconds, _NO_WAITER_S))
                 return None
-            fields = struct.pack(">QI", self._waiter_queue, _ANY_SIZE)
-            answer = waiter.ask_until(mqserve._MQ_RECEIVE, fields, mqserve._RECEIVED, end)
+            answer = waiter.ask_until(_TOKEN, struct.pack(">Q", self._waiter_queue), end)
             return None if answer is None else answer[4:]
         except mqserve.ConnectionLost:
             return None

@@ -20,12 +20,10 @@ from typing import Any, Dict, Iterable, List, Optional, Sequence, Tuple, Union
 
 import mqserve
 
-# Requests and answers that the module has no calls for: docs/FRAMES.md.
-_LIST_NAMES, _STAT_NAME, _LISTED, _STAT = 18, 19, 73, 74
 _FAMILIES = {"mq": 1, "sem": 2}
 _READ, _WRITE = 1, 2
 _ABSENT, _MODE_DENIED = 13, 15
-_PAGE, _NAME_MOST, _PAGES_MOST = 1000, 256, 500
+_PAGES_MOST = 500
 # A session holds 1,024 descriptions. So many stay open, and so many more are open for a moment.
 _HELD_MOST, _AT_ONCE = 800, 200
 
@@ -35,15 +33,6 @@ Answer = Union[bytes, int]          # the fields, or the rule that refused
 
 class Session(mqserve._Connection):
     """A connection that also lists names, and makes many calls at a time."""
-
-    def front_size(self) -> int:
-        if len(self.data) < 5 or self.data[4] not in (_LISTED, _STAT):
-            return super().front_size()
-        body = int.from_bytes(self.data[:4], "big")
-        least, most = (10, 10) if self.data[4] == _STAT else (2, 2 + _PAGE * (2 + _NAME_MOST))
-        if not least <= body - 1 <= most:
-            raise self.lose("the server sent what is no answer")
-        return body + 4 if len(self.data) >= body + 4 else 0
 
     def take_or_rule(self, wanted: int) -> Answer:
         self.await_answer()
@@ -65,17 +54,9 @@ class Session(mqserve._Connection):
         return answers
 
     def page(self, family: int, start: int) -> Union[List[bytes], int]:
-        [fields] = self.ask_all([(_LIST_NAMES, struct.pack(">BIH", family, start, _PAGE), _LISTED)])
-        if isinstance(fields, int):
-            return fields
-        names, at = [], 2
-        for _ in range(int.from_bytes(fields[:2], "big")):
-            end = at + 2 + int.from_bytes(fields[at:at + 2], "big")
-            names.append(fields[at + 2:end])
-            at = end
-        if at != len(fields) or len(names) > _PAGE:
-            raise self.lose("the server sent what is no answer")
-        return names
+        fields = struct.pack(">BIH", family, start, mqserve._PAGE_NAMES)
+        [answer] = self.ask_all([(mqserve._LIST_NAMES, fields, mqserve._PAGE)])
+        return answer if isinstance(answer, int) else self.names_in(answer)
 
     def list_names(self, family: int) -> Union[List[bytes], int]:
         """The names in the order in which their objects were created, or the rule that refused. Pages overlap by a name: where it is
@@ -89,7 +70,7 @@ class Session(mqserve._Connection):
                 names = []
                 continue
             names += page[1:] if names else page
-            if len(page) < _PAGE:
+            if len(page) < mqserve._PAGE_NAMES:
                 break
         return names
 
@@ -109,7 +90,7 @@ class Entry:
         self.moment = 0.0
 
     def asking_facts(self) -> Request:
-        return _STAT_NAME, struct.pack(">BB", _FAMILIES[self.family], 1) + mqserve._text(self.name), _STAT
+        return mqserve._STAT_NAME, struct.pack(">BB", _FAMILIES[self.family], 1) + mqserve._text(self.name), mqserve._STAT
 
     def opening(self, access: int) -> Request:
         """A semaphore is opened to read and write whatever is asked for. Nothing is created."""

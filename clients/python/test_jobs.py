@@ -109,7 +109,7 @@ class Pooled(unittest.TestCase):
     def pool(self, tries=3, name=None, key=None):
         before = ipc._server
         if key is not None:
-            ipc._server = ipc._Server(os.environ["MQSERVE"], key, 0)
+            ipc._server = ipc._Server(os.environ["MQSERVE"], key, 0, None)
         try:
             self.made.append(Pool(name or self.name, tries, look=0.2))
         finally:
