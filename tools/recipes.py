@@ -5,6 +5,7 @@
 name. Without a CALL it looks at the newest ones. The status is 1 where one of these isn't named."""
 
 import re
+import shutil
 import subprocess
 import sys
 from pathlib import Path
@@ -31,10 +32,11 @@ def spelled(call):
 
 
 def listed():
-    """Each file of the repository, from the top; of one that came without git, each but for what is built."""
-    if (ROOT / ".git").exists():
-        return subprocess.run(["git", "ls-files"], cwd=ROOT, check=True, capture_output=True, text=True).stdout.splitlines()
-    return [str(path.relative_to(ROOT)) for path in ROOT.rglob("*") if "out" not in path.relative_to(ROOT).parts]
+    """Each file of the repository, from the top; where git can't tell, each but for what is built."""
+    told = subprocess.run(["git", "ls-files"], cwd=ROOT, capture_output=True, text=True) if shutil.which("git") else None
+    if told and told.returncode == 0 and told.stdout:
+        return told.stdout.splitlines()
+    return [str(path.relative_to(ROOT)) for path in ROOT.rglob("*") if not {"out", ".git"} & set(path.relative_to(ROOT).parts)]
 
 
 def tracked():
