@@ -2,7 +2,8 @@
 """Compares the documents with what they speak of:
 
 - MAP.md's table of rules: each rule's number, error, name, definition, function, row and edit
-- the wrong bodies that PROOFS.md names, the files that WORKING.md names, and its recipe for a call with what the newest calls touched
+- the functions, clauses, definitions and wrong bodies that PROOFS.md names
+- the files that WORKING.md names, and its recipe for a call with what the newest calls touched
 - the numbers of rules, calls and laws, wherever a document states how many there are
 - FRAMES.md's opcodes, their fields, the greatest body and the frames of its exchange; SCRIPTS.md's commands with what stands
   behind each
@@ -21,6 +22,7 @@ import sys
 from pathlib import Path
 
 sys.dont_write_bytecode = True
+import document_claims  # noqa: E402
 import document_frames  # noqa: E402
 import recipes  # noqa: E402
 
@@ -296,6 +298,7 @@ def main():
     edits = {path.stem for path in CRATES.glob("*/must-fail/*.edit")}
     compare_rules(it, edits)
     compare_wrong_bodies(it, edits)
+    document_claims.compare(it, text("docs/PROOFS.md"), CRATES)
     compare_files(it)
     compare_recipe(it)
     compare_counts(it)
