@@ -14,7 +14,7 @@ class Code:
     """What the crates have, by name."""
 
     def __init__(self, crates):
-        self.functions, self.others = {}, {path.parent.parent.name for path in crates.glob("*/src/lib.rt")}
+        self.functions, self.others = {}, {path.name for path in crates.iterdir()}
         for path in crates.glob("*/src/**/*.rt"):
             self.read(path.stem, path.read_text(encoding="utf-8"))
         for path in [*crates.glob("*/specs/**/*.antt"), *crates.glob("*/proofs/**/*.antt")]:
