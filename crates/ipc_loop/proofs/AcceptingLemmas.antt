@@ -1,12 +1,13 @@
 -- What accepting links brings.
 use Rattle.std.proofs.Common.{◌≡◌, ℕ, zero, suc, ◌+◌, ◌-◌, ◌≤◌, List, [], ◌∷◌, ◌++◌, length, Option, Some, refl, sym, ap, subst, ◌∙◌, arith}
 use Rattle.ipc_hub.specs.Hub.{Hub, untaken_at}
-use Rattle.ipc_loop.specs.Moves.{Moved, LinkOpened, GoOn}
+use Rattle.std.specs.declared.io.ErrorKind.{ErrorKind}
+use Rattle.ipc_loop.specs.Moves.{Moved, LinkOpened, NobodyCame, GoOn}
 use Rattle.ipc_loop.specs.Ports.{new_port, port_at, open_at, Continues}
 use Rattle.ipc_loop.specs.Serving.{ServesOpening, Serves, ServesAndOpens, KeepsMarks, numbers_from}
 use Rattle.ipc_loop.proofs.PortLemmas.{Slots, pushed_port}
 use Rattle.ipc_loop.proofs.OwingLemmas.{pushed_keeps}
-use Rattle.ipc_loop.proofs.ServingLemmas.{serves_both, opening_both, opening_so, went_nowhere, link_opened}
+use Rattle.ipc_loop.proofs.ServingLemmas.{serves_both, opening_both, opening_so, nobody_serves, link_opened}
 use Rattle.ipc_loop.proofs.OpeningLemmas.{one_longer}
 
 abbrev pub Moves : Type 0
@@ -32,11 +33,15 @@ opens_none h h' m m' xs ys same s =
     let none : 0 ≡ length ys - length xs = omega arith in
     subst (λ (n : ℕ). ServesOpening (numbers_from (length xs) n) h m (port_at xs) h' m' (port_at ys)) none s
 
--- the hub was made ready for the next link, but nobody was accepted
-pub refused_serves : (h h' : Hub) (m m' : Moves) (xs ys : Slots) → ys ≡ xs → GoOn m m' [] → Serves h m (port_at xs) h' m (port_at xs) → ServesAndOpens h m xs h' m' ys
-refused_serves h h' m m' xs ys same went s =
+-- the hub was made ready for the next link, but nobody was asked for
+pub unasked_serves : (h h' : Hub) (m : Moves) (xs ys : Slots) → ys ≡ xs → Serves h m (port_at xs) h' m (port_at xs) → ServesAndOpens h m xs h' m ys
+unasked_serves h h' m xs ys same s = subst (λ (zs : Slots). ServesAndOpens h m xs h' m zs) (sym same) (opens_none h h' m m xs xs refl s)
+
+-- or nobody came
+pub refused_serves : (h h' : Hub) (m m' : Moves) (xs ys : Slots) (kind : ErrorKind) → ys ≡ xs → GoOn m m' (NobodyCame kind ∷ []) → Serves h m (port_at xs) h' m (port_at xs) → ServesAndOpens h m xs h' m' ys
+refused_serves h h' m m' xs ys kind same went s =
     subst (λ (zs : Slots). ServesAndOpens h m xs h' m' zs) (sym same)
-    (opens_none h h' m m' xs xs refl (serves_both h h' h' m m m' (port_at xs) (port_at xs) (port_at xs) s (went_nowhere h' m m' (port_at xs) went)))
+    (opens_none h h' m m' xs xs refl (serves_both h h' h' m m m' (port_at xs) (port_at xs) (port_at xs) s (nobody_serves h' m m' (port_at xs) kind went)))
 
 -- the next link was accepted
 pub accepted_serves : (h h' : Hub) (m m' : Moves) (xs ys : Slots) → ys ≡ xs ++ Some new_port ∷ [] → GoOn m m' (LinkOpened (length xs) ∷ []) → Serves h m (port_at xs) h' m (port_at xs) → ServesAndOpens h m xs h' m' ys

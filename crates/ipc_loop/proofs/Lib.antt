@@ -1,11 +1,15 @@
 pub mod MoveLemmas
 pub mod PassingLemmas
 pub mod OwingLemmas
+pub mod WhyLemmas
+pub mod ClosingLemmas
 pub mod ServingLemmas
 pub mod PortLemmas
 pub mod StandingLemmas
 pub mod TakingLemmas
 pub mod TurnLemmas
+pub mod AskingLemmas
+pub mod OfferingLemmas
 pub mod OpeningLemmas
 pub mod KeepingLemmas
 pub mod AcceptingLemmas

@@ -1,9 +1,10 @@
 -- How many links are open, and which stay closed.
-use Rattle.std.proofs.Common.{◌≡◌, inl, inr, ℕ, zero, suc, ◌+◌, ◌≤◌, Bool, true, false, eqb, cond, [], ◌∷◌, ◌++◌, length, set, slice_get, Option, Some, None, refl, sym, ap, subst, ◌∙◌, arith}
+use Rattle.std.proofs.Common.{◌≡◌, inl, inr, ℕ, zero, suc, ◌+◌, ◌≤◌, Bool, true, false, eqb, cond, List, [], ◌∷◌, ◌++◌, length, set, slice_get, Option, Some, None, refl, sym, ap, subst, ◌∙◌, arith}
 use Rattle.std.specs.Prelude.{MatchOption, ⊤}
 use Rattle.std.proofs.lemmas.Bool.{leb-false}
 use Rattle.std.proofs.lemmas.List.{length-set, length_push}
 use Rattle.ipc_hub.specs.Hub.{Hub}
+use Rattle.ipc_loop.specs.Moves.{Moved}
 use Rattle.ipc_loop.specs.declared.accepting.Bounds.{Bounds}
 use Rattle.ipc_loop.specs.Ports.{Port, new_port, open_at, port_at, how_many_open, Continues, OnlyCloses}
 use Rattle.ipc_loop.specs.Bounds.{are_all, IsWithin, HasRoom, AddsAtMostOne}
@@ -46,14 +47,14 @@ was_closed true p s e = absurd cc
 was_closed false p s e = e
 
 -- a port that was taken out, and stood in its slot before, is settled
-pub turned_closes : (k : ℕ) (h h' : Hub) (p p' : Port) (xs ys : Slots) → slice_get xs k ≡ Some None → IsSettled h xs k p' h' ys → OnlyCloses (set xs k (Some p)) ys
-turned_closes k h h' p p' xs ys empty (inl put) = record {
-  count = ap (λ (zs : Slots). length zs) put.1 ∙ length-set xs k (Some p') ∙ sym (length-set xs k (Some p));
-  closed = λ i e. ap (λ (zs : Slots). slice_get zs i) put.1 ∙ get_set xs k None (Some p') i empty ∙ stays_closed (eqb k i) p p' (slice_get xs i) (sym (get_set xs k None (Some p) i empty) ∙ e);
+pub turned_closes : (k : ℕ) (h h' : Hub) (m m' : Option (List Moved)) (p p' : Port) (xs ys : Slots) → slice_get xs k ≡ Some None → IsSettled h m xs k p' h' m' ys → OnlyCloses (set xs k (Some p)) ys
+turned_closes k h h' m m' p p' xs ys empty (inl put) = record {
+  count = ap (λ (zs : Slots). length zs) put.2 ∙ length-set xs k (Some p') ∙ sym (length-set xs k (Some p));
+  closed = λ i e. ap (λ (zs : Slots). slice_get zs i) put.2 ∙ get_set xs k None (Some p') i empty ∙ stays_closed (eqb k i) p p' (slice_get xs i) (sym (get_set xs k None (Some p) i empty) ∙ e);
 }
-turned_closes k h h' p p' xs ys empty (inr gone) = record {
-  count = ap (λ (zs : Slots). length zs) gone.1 ∙ sym (length-set xs k (Some p));
-  closed = λ i e. ap (λ (zs : Slots). slice_get zs i) gone.1 ∙ was_closed (eqb k i) p (slice_get xs i) (sym (get_set xs k None (Some p) i empty) ∙ e);
+turned_closes k h h' m m' p p' xs ys empty (inr gone) = record {
+  count = ap (λ (zs : Slots). length zs) gone.2 ∙ sym (length-set xs k (Some p));
+  closed = λ i e. ap (λ (zs : Slots). slice_get zs i) gone.2 ∙ was_closed (eqb k i) p (slice_get xs i) (sym (get_set xs k None (Some p) i empty) ∙ e);
 }
 
 put_back : (xs : Slots) (k : ℕ) (p : Port) → slice_get xs k ≡ Some (Some p) → set (set xs k None) k (Some p) ≡ xs
@@ -64,8 +65,8 @@ put_back (x ∷ xs) (suc k) p e = ap (λ (ys : Slots). x ∷ ys) (put_back xs k 
 pub taken_closes : (k : ℕ) (p : Port) (xs ys zs : Slots) → TakesOut xs k p ys → OnlyCloses (set ys k (Some p)) zs → OnlyCloses xs zs
 taken_closes k p xs ys zs out closes = subst (λ (ws : Slots). OnlyCloses ws zs) (ap (λ (vs : Slots). set vs k (Some p)) out.rest ∙ put_back xs k p out.there) closes
 
-pub settled_closes : (k : ℕ) (h h' : Hub) (p p' : Port) (xs ys zs : Slots) → TakesOut xs k p ys → IsSettled h ys k p' h' zs → OnlyCloses xs zs
-settled_closes k h h' p p' xs ys zs out settled = taken_closes k p xs ys zs out (turned_closes k h h' p p' ys zs (empty_slot xs ys k p out) settled)
+pub settled_closes : (k : ℕ) (h h' : Hub) (m m' : Option (List Moved)) (p p' : Port) (xs ys zs : Slots) → TakesOut xs k p ys → IsSettled h m ys k p' h' m' zs → OnlyCloses xs zs
+settled_closes k h h' m m' p p' xs ys zs out settled = taken_closes k p xs ys zs out (turned_closes k h h' m m' p p' ys zs (empty_slot xs ys k p out) settled)
 
 rest_closes : (x y : Option Port) (xs ys : Slots) → OnlyCloses (x ∷ xs) (y ∷ ys) → OnlyCloses xs ys
 rest_closes x y xs ys a = record { count = omega (arith, a.count); closed = λ i e. a.closed (suc i) e }

@@ -1,13 +1,13 @@
 -- Who is owed answers.
-use Rattle.std.proofs.Common.{◌≡◌, ◌≢◌, ◌⊎◌, inl, inr, ℕ, zero, suc, Bool, true, false, eqb, cond, List, [], ◌∷◌, ◌++◌, length, map, set, slice_get, Option, Some, None, refl, sym, ap, subst, ◌∙◌, arith}
+use Rattle.std.proofs.Common.{◌≡◌, ◌≢◌, ◌⊎◌, inl, inr, ℕ, Bool, true, false, eqb, cond, List, [], ◌∷◌, ◌++◌, length, slice_get, Option, Some, None, refl, sym, ap, subst, ◌∙◌, arith}
 use Rattle.std.specs.Prelude.{unwrap_or}
 use Rattle.std.specs.Option.{option_map, option_or}
-use Rattle.std.proofs.lemmas.Bool.{eqb-true, eq-eqb}
-use Rattle.ipc_terms.proofs.Lists.{eqb_suc, slice_get_push, slice_past}
+use Rattle.std.proofs.lemmas.Bool.{eqb-true}
+use Rattle.ipc_terms.proofs.Lists.{slice_get_push, slice_past}
 use Rattle.ipc_hub.specs.Marking.{is_set}
-use Rattle.ipc_hub.specs.Hub.{Connection, new_connection, with_connection, Hub, Marks, Takes, Names, is_marked, untaken_at, untaken}
+use Rattle.ipc_hub.specs.Hub.{Connection, new_connection, with_connection, Hub, Marks, Takes, is_marked, untaken_at, untaken, spell_answers}
 use Rattle.ipc_loop.specs.Ports.{Port, new_port, open_at, with_port}
-use Rattle.ipc_loop.specs.Serving.{IsAnswered, IsOwedByMark, KeepsMarks, KeepsPortMarks, Answers, LetsGo}
+use Rattle.ipc_loop.specs.Serving.{KeepsMarks, KeepsPortMarks, Answers, LetsGo}
 
 abbrev pub Ports : Type 0
 Ports = ℕ → Option Port
@@ -80,3 +80,7 @@ opened_marked h i = ap (λ (s : Option Bool). unwrap_or s false) (slice_get_push
 -- a connection is opened
 pub opened_keeps : (h h' : Hub) (p : Ports) → h' ≡ with_connection h → KeepsMarks h p h' p
 opened_keeps h h' p e = subst (λ (x : Hub). KeepsMarks h p x p) (sym e) (hub_keeps h (with_connection h) p (record { kept = λ i m. opened_marked h i ∙ m; silent = λ i m. opened_untaken h i }))
+
+-- what is given is the spelling of what was untaken
+pub takes_spelled : (h h' : Hub) (k : ℕ) (bytes : List ℕ) → Takes h k bytes h' → spell_answers (untaken_at h k) ≡ Some bytes
+takes_spelled h h' k bytes takes = ap (λ (s : Option Connection). spell_answers (unwrap_or (option_map (untaken h.core) s) [])) takes.changes.was ∙ takes.given

@@ -1,10 +1,10 @@
 -- Ports by their numbers.
-use Rattle.std.proofs.Common.{◌≡◌, ◌⊎◌, inl, inr, ℕ, zero, suc, ◌<◌, Bool, true, false, ◌||◌, eqb, cond, List, [], ◌∷◌, ◌++◌, length, map, set, slice_get, Option, Some, None, refl, sym, ap, subst, ◌∙◌, arith}
+use Rattle.std.proofs.Common.{◌≡◌, ℕ, zero, suc, Bool, true, false, ◌||◌, eqb, cond, List, [], ◌∷◌, ◌++◌, set, slice_get, Option, Some, None, refl, sym, ap, subst, ◌∙◌, arith}
 use Rattle.std.specs.Prelude.{unwrap_or}
 use Rattle.std.proofs.lemmas.Bool.{eqb-true, eq-eqb, ne_eqb}
 use Rattle.ipc_terms.proofs.Lists.{eqb_suc}
-use Rattle.ipc_loop.specs.Ports.{Port, new_port, port_at, open_at, with_port, stands_in}
-use Rattle.ipc_loop.specs.Standing.{TakesOut, IsSettled}
+use Rattle.ipc_loop.specs.Ports.{Port, new_port, port_at, with_port, stands_in}
+use Rattle.ipc_loop.specs.Standing.{TakesOut}
 
 abbrev pub Slots : Type 0
 Slots = List (Option Port)

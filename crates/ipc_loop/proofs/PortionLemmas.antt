@@ -1,6 +1,6 @@
 -- Steps in portions.
-use Rattle.std.proofs.Common.{◌≡◌, ◌≢◌, ◌⊎◌, inl, inr, ◌<◌, ◌≤◌, arith, ℕ, Bool, true, false, eqb, cond, List, [], ◌∷◌, ◌++◌, length, Option, Some, None, refl, sym, ap, subst, ◌∙◌}
-use Rattle.std.specs.Prelude.{max, Result, Ok, Err, IfOk, OnOk, OnErr, is_some}
+use Rattle.std.proofs.Common.{◌≡◌, ◌≢◌, ◌⊎◌, inl, inr, ◌≤◌, arith, ℕ, Bool, true, false, eqb, cond, List, [], ◌∷◌, ◌++◌, length, Option, Some, None, refl, sym, ap, subst, ◌∙◌}
+use Rattle.std.specs.Prelude.{max, Result, Ok, Err, IfOk, OnOk, OnErr}
 use Rattle.std.proofs.lemmas.Bool.{eqb-true}
 use Rattle.std.proofs.lemmas.List.{append-nil}
 use Rattle.ipc_terms.specs.declared.call.Answer.{Answer}
@@ -9,14 +9,15 @@ use Rattle.ipc_hub.specs.Hub.{Hub, Marks, Feeds, Takes, is_marked, spell_answers
 use Rattle.ipc_hub.specs.declared.fed.Fed.{Fed}
 use Rattle.ipc_hub.specs.declared.fed.HubFault.{HubFault}
 use Rattle.ipc_loop.specs.Moves.{Moved}
-use Rattle.ipc_loop.specs.Ports.{Port, with_port, unfed_of, is_all}
+use Rattle.ipc_loop.specs.Ports.{Port, is_all}
 use Rattle.ipc_loop.specs.Portions.{HasAll, Collects, OthersAreMarked, StepsAndCollects, StepsPortion, AreBehind, AddsSpelled, AddsFew, IsUnder, KeepsBound}
-use Rattle.ipc_loop.specs.Serving.{PassesOn, Answers, KeepsPortMarks, ServesPort, Writes}
+use Rattle.ipc_loop.specs.declared.ending.Ending.TheVariants.{NoMemory}
+use Rattle.ipc_loop.specs.Serving.{PassesOn, is_shown, Answers, KeepsPortMarks, ServesPort, Writes}
 use Rattle.ipc_loop.proofs.MoveLemmas.{go_nowhere, adds_nothing}
 use Rattle.ipc_loop.proofs.PassingLemmas.{passes_end, passes_stop}
-use Rattle.ipc_loop.proofs.OwingLemmas.{unmarked_before}
-use Rattle.ipc_loop.proofs.ServingLemmas.{gave_serve, writes_serve, is_ended, same_unfed}
-use Rattle.ipc_loop.proofs.TakingLemmas.{takes_spelled}
+use Rattle.ipc_loop.proofs.OwingLemmas.{unmarked_before, takes_spelled}
+use Rattle.ipc_loop.proofs.ServingLemmas.{gave_serve, writes_serve}
+use Rattle.ipc_loop.proofs.WhyLemmas.{why_stays, why_cuts, drops_cut}
 
 -- ---- who is marked
 
@@ -119,19 +120,21 @@ took_serve k h h' m p p' left bytes takes before behind ending = gave_serve k h 
   took = [];
   added = adds_nothing m m k (go_nowhere m);
   left = subst (λ (x : Option (List ℕ)). PassesOn x bytes [] p'.left) (sym before) (subst (λ (x : Option (List ℕ)). PassesOn (Some left) bytes [] x) (sym behind) refl);
-  unfed = same_unfed p p' ending;
+  why = why_stays (is_shown k [] []) p.ending p'.ending ending;
+  drops = λ before none. let wrong : Some (left ++ bytes) ≡ None = sym behind ∙ none in absurd cc;
 })
 
 pub took_spelled : (k : ℕ) (h h' : Hub) (left bytes : List ℕ) (was now : Option (List ℕ)) → Takes h k bytes h' → was ≡ Some left → now ≡ Some (left ++ bytes) → AddsSpelled (untaken_at h k) was now
 took_spelled k h h' left bytes was now takes before behind = subst (λ (x : Option (List ℕ)). AddsSpelled (untaken_at h k) was x) (sym behind) (record { before = left; last = bytes; was = before; spelled = takes_spelled h h' k bytes takes; whole = refl })
 
 -- the link is cut, since there was no memory for what was answered
-pub cut_serve : (k : ℕ) (h h' : Hub) (m : Option (List Moved)) (p p' : Port) → h' ≡ h → p'.left ≡ None → is_some p'.ending ≡ true → ServesPort k h m p h' m p'
-cut_serve k h h' m p p' same cut end = subst (λ (x : Hub). ServesPort k h m p x m p') (sym same) (writes_serve k h m m p p' (record {
+pub cut_serve : (k : ℕ) (h h' : Hub) (m : Option (List Moved)) (p p' : Port) → h' ≡ h → p'.left ≡ None → p'.ending ≡ Some NoMemory → ServesPort k h m p h' m p'
+cut_serve k h h' m p p' same cut is = subst (λ (x : Hub). ServesPort k h m p x m p') (sym same) (writes_serve k h m m p p' (record {
   took = [];
   added = adds_nothing m m k (go_nowhere m);
   left = subst (λ (x : Option (List ℕ)). PassesOn p.left [] [] x) (sym cut) (passes_end p.left);
-  unfed = subst (λ (x : Option (List ℕ)). PassesOn (unfed_of (Some p)) [] [] x) (sym (is_ended p' end)) (passes_end (unfed_of (Some p)));
+  why = why_cuts (is_shown k [] []) p.ending p'.ending NoMemory is refl refl;
+  drops = drops_cut p p' NoMemory is refl;
 }))
 
 pub cut_collects : (k : ℕ) (h h' : Hub) (p' : Port) → h' ≡ h → p'.left ≡ None → Collects k h h' p'

@@ -1,6 +1,5 @@
 -- Who has work is queued.
 use Rattle.std.proofs.Common.{◌≡◌, ◌⊎◌, inl, inr, ℕ, zero, suc, ◌<◌, ◌≤◌, Bool, true, false, ◌||◌, eqb, cond, List, [], ◌∷◌, ◌++◌, length, set, slice_get, Option, Some, None, refl, sym, ap, subst, ◌∙◌, arith}
-use Rattle.std.specs.Prelude.{unwrap_or}
 use Rattle.std.specs.Prelude.{IfSome}
 use Rattle.std.specs.Global.{Box}
 use Rattle.std.specs.Option.{option_map, option_or}

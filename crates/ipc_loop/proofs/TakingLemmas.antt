@@ -7,7 +7,7 @@ use Rattle.ipc_terms.specs.declared.ids.Sid.{Sid}
 use Rattle.ipc_terms.specs.declared.call.Answer.{Answer}
 use Rattle.ipc_core.specs.CoreView.{CoreView}
 use Rattle.ipc_core.proofs.BoxSteps.{taken_elsewhere}
-use Rattle.ipc_hub.specs.Hub.{Connection, Hub, IsGone, Takes, core_after_take, untaken_of, untaken, untaken_at, is_over_at, spell_answers}
+use Rattle.ipc_hub.specs.Hub.{Connection, Hub, IsGone, Takes, core_after_take, untaken_of, untaken, untaken_at, is_over_at}
 use Rattle.ipc_hub.specs.Sessions.{EachHasItsOwn}
 use Rattle.ipc_hub.proofs.GoneLemmas.{none_left}
 use Rattle.ipc_loop.specs.Ports.{Port}
@@ -48,10 +48,6 @@ takes_collects h h' k bytes port sound takes = record { all = inr own; others = 
     at : (s : Option Connection) → slice_get h.connections i ≡ s → unwrap_or (option_map (untaken h'.core) s) [] ≡ unwrap_or (option_map (untaken h.core) s) []
     at None e = refl
     at (Some z) e = stays i other z e _ z.has_refusal
-
--- what is given is the spelling of what was untaken
-pub takes_spelled : (h h' : Hub) (k : ℕ) (bytes : List ℕ) → Takes h k bytes h' → spell_answers (untaken_at h k) ≡ Some bytes
-takes_spelled h h' k bytes takes = ap (λ (s : Option Connection). spell_answers (unwrap_or (option_map (untaken h.core) s) [])) takes.changes.was ∙ takes.given
 
 -- a link that is done is let go
 in_front : (a b : Bool) → (a && b) ≡ true → a ≡ true

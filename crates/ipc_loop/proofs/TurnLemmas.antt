@@ -12,40 +12,39 @@ use Rattle.ipc_loop.specs.Standing.{TakesOut, IsOut, IsSettled}
 use Rattle.ipc_loop.specs.Serving.{Serves, ServesPort, KeepsMarks, KeepsPortMarks, Answers, IsAnswered, IsOwedByMark, has_no_more, is_done}
 use Rattle.ipc_loop.proofs.ServingLemmas.{serves_both, serves_so, closed_serves}
 use Rattle.ipc_loop.proofs.OwingLemmas.{keeps_so, both_keep, closed_keeps}
-use Rattle.ipc_loop.proofs.PortLemmas.{Slots, get_set, slot_set, slot_none, taken_out, empty_slot}
+use Rattle.ipc_loop.proofs.PortLemmas.{Slots, get_set, slot_set, slot_none, taken_out}
 
 abbrev pub Moves : Type 0
 Moves = Option (List Moved)
 
 -- a turn of a port that was taken out, up to its settling
-pub settled_serves : (k : ℕ) (h h' h'' : Hub) (m m' m'' : Moves) (p p' : Port) (xs ys : Slots) → slice_get xs k ≡ Some None → ServesPort k h m p h' m' p' → m'' ≡ m' → IsSettled h' xs k p' h'' ys
+pub settled_serves : (k : ℕ) (h h' h'' : Hub) (m m' m'' : Moves) (p p' : Port) (xs ys : Slots) → slice_get xs k ≡ Some None → ServesPort k h m p h' m' p' → IsSettled h' m' xs k p' h'' m'' ys
     → Serves h m (with_port (port_at xs) k (Some p)) h'' m'' (port_at ys)
-settled_serves k h h' h'' m m' m'' p p' xs ys empty serves same (inl put) =
+settled_serves k h h' h'' m m' m'' p p' xs ys empty serves (inl put) =
     subst (λ (x : Hub). Serves h m (with_port (port_at xs) k (Some p)) x m'' (port_at ys)) (sym put.0)
-    (subst (λ (w : Moves). Serves h m (with_port (port_at xs) k (Some p)) h' w (port_at ys)) (sym same)
-    (serves_so h h' m m' (with_port (port_at xs) k (Some p)) (with_port (port_at xs) k (Some p)) (with_port (port_at xs) k (Some p')) (port_at ys) (λ i. refl) (λ i. ap (λ (zs : Slots). port_at zs i) put.1 ∙ slot_set (Some new_port) xs k None (Some p') i empty) (serves (port_at xs))))
-settled_serves k h h' h'' m m' m'' p p' xs ys empty serves same (inr gone) =
-    subst (λ (w : Moves). Serves h m (with_port (port_at xs) k (Some p)) h'' w (port_at ys)) (sym same)
-    (serves_both h h' h'' m m' m' (with_port (port_at xs) k (Some p)) (with_port (port_at xs) k (Some p')) (port_at ys) (serves (port_at xs))
-    (serves_so h' h'' m' m' (with_port (port_at xs) k (Some p')) (with_port (port_at xs) k (Some p')) (with_port (port_at xs) k None) (port_at ys) (λ i. refl) (λ i. ap (λ (zs : Slots). port_at zs i) gone.1 ∙ slot_none (Some new_port) xs k i empty) (closed_serves k h' h'' m' (port_at xs) p' gone.0)))
+    (subst (λ (w : Moves). Serves h m (with_port (port_at xs) k (Some p)) h' w (port_at ys)) (sym put.1)
+    (serves_so h h' m m' (with_port (port_at xs) k (Some p)) (with_port (port_at xs) k (Some p)) (with_port (port_at xs) k (Some p')) (port_at ys) (λ i. refl) (λ i. ap (λ (zs : Slots). port_at zs i) put.2 ∙ slot_set (Some new_port) xs k None (Some p') i empty) (serves (port_at xs))))
+settled_serves k h h' h'' m m' m'' p p' xs ys empty serves (inr gone) =
+    serves_both h h' h'' m m' m'' (with_port (port_at xs) k (Some p)) (with_port (port_at xs) k (Some p')) (port_at ys) (serves (port_at xs))
+    (serves_so h' h'' m' m'' (with_port (port_at xs) k (Some p')) (with_port (port_at xs) k (Some p')) (with_port (port_at xs) k None) (port_at ys) (λ i. refl) (λ i. ap (λ (zs : Slots). port_at zs i) gone.2 ∙ slot_none (Some new_port) xs k i empty) (closed_serves k h' h'' m' m'' (port_at xs) p' gone.0 gone.1))
 
-pub settled_keeps : (k : ℕ) (h h' h'' : Hub) (p p' : Port) (xs ys : Slots) → slice_get xs k ≡ Some None → KeepsPortMarks k h p h' p' → IsSettled h' xs k p' h'' ys
+pub settled_keeps : (k : ℕ) (h h' h'' : Hub) (m' m'' : Moves) (p p' : Port) (xs ys : Slots) → slice_get xs k ≡ Some None → KeepsPortMarks k h p h' p' → IsSettled h' m' xs k p' h'' m'' ys
     → KeepsMarks h (with_port (open_at xs) k (Some p)) h'' (open_at ys)
-settled_keeps k h h' h'' p p' xs ys empty keeps (inl put) =
+settled_keeps k h h' h'' m' m'' p p' xs ys empty keeps (inl put) =
     subst (λ (x : Hub). KeepsMarks h (with_port (open_at xs) k (Some p)) x (open_at ys)) (sym put.0)
-    (keeps_so h h' (with_port (open_at xs) k (Some p)) (with_port (open_at xs) k (Some p)) (with_port (open_at xs) k (Some p')) (open_at ys) (λ i. refl) (λ i. ap (λ (zs : Slots). open_at zs i) put.1 ∙ slot_set None xs k None (Some p') i empty) (keeps (open_at xs)))
-settled_keeps k h h' h'' p p' xs ys empty keeps (inr gone) =
+    (keeps_so h h' (with_port (open_at xs) k (Some p)) (with_port (open_at xs) k (Some p)) (with_port (open_at xs) k (Some p')) (open_at ys) (λ i. refl) (λ i. ap (λ (zs : Slots). open_at zs i) put.2 ∙ slot_set None xs k None (Some p') i empty) (keeps (open_at xs)))
+settled_keeps k h h' h'' m' m'' p p' xs ys empty keeps (inr gone) =
     both_keep h h' h'' (with_port (open_at xs) k (Some p)) (with_port (open_at xs) k (Some p')) (open_at ys) (keeps (open_at xs))
-    (keeps_so h' h'' (with_port (open_at xs) k (Some p')) (with_port (open_at xs) k (Some p')) (with_port (open_at xs) k None) (open_at ys) (λ i. refl) (λ i. ap (λ (zs : Slots). open_at zs i) gone.1 ∙ slot_none None xs k i empty) (closed_keeps k h' h'' (open_at xs) p' gone.0))
+    (keeps_so h' h'' (with_port (open_at xs) k (Some p')) (with_port (open_at xs) k (Some p')) (with_port (open_at xs) k None) (open_at ys) (λ i. refl) (λ i. ap (λ (zs : Slots). open_at zs i) gone.2 ∙ slot_none None xs k i empty) (closed_keeps k h' h'' (open_at xs) p' gone.0))
 
 -- the port is told in another way
-pub turned_serves : (k : ℕ) (h h' h'' : Hub) (m m' m'' : Moves) (p q p' : Port) (xs ys : Slots) → q ≡ p → slice_get xs k ≡ Some None → ServesPort k h m q h' m' p' → m'' ≡ m' → IsSettled h' xs k p' h'' ys
+pub turned_serves : (k : ℕ) (h h' h'' : Hub) (m m' m'' : Moves) (p q p' : Port) (xs ys : Slots) → q ≡ p → slice_get xs k ≡ Some None → ServesPort k h m q h' m' p' → IsSettled h' m' xs k p' h'' m'' ys
     → Serves h m (with_port (port_at xs) k (Some p)) h'' m'' (port_at ys)
-turned_serves k h h' h'' m m' m'' p q p' xs ys is empty serves same settled = settled_serves k h h' h'' m m' m'' p p' xs ys empty (subst (λ (x : Port). ServesPort k h m x h' m' p') is serves) same settled
+turned_serves k h h' h'' m m' m'' p q p' xs ys is empty serves settled = settled_serves k h h' h'' m m' m'' p p' xs ys empty (subst (λ (x : Port). ServesPort k h m x h' m' p') is serves) settled
 
-pub turned_keeps : (k : ℕ) (h h' h'' : Hub) (p q p' : Port) (xs ys : Slots) → q ≡ p → slice_get xs k ≡ Some None → KeepsPortMarks k h q h' p' → IsSettled h' xs k p' h'' ys
+pub turned_keeps : (k : ℕ) (h h' h'' : Hub) (m' m'' : Moves) (p q p' : Port) (xs ys : Slots) → q ≡ p → slice_get xs k ≡ Some None → KeepsPortMarks k h q h' p' → IsSettled h' m' xs k p' h'' m'' ys
     → KeepsMarks h (with_port (open_at xs) k (Some p)) h'' (open_at ys)
-turned_keeps k h h' h'' p q p' xs ys is empty keeps settled = settled_keeps k h h' h'' p p' xs ys empty (subst (λ (x : Port). KeepsPortMarks k h x h' p') is keeps) settled
+turned_keeps k h h' h'' m' m'' p q p' xs ys is empty keeps settled = settled_keeps k h h' h'' m' m'' p p' xs ys empty (subst (λ (x : Port). KeepsPortMarks k h x h' p') is keeps) settled
 
 -- what is known of the hub's connection once its port is settled
 pub settled_there : (h : Hub) (k : ℕ) (fault : HubFault) (p : Port) → is_done h k p ≡ true → fault_of_take (slice_get h.connections k) ≡ Some fault → ⊥
@@ -64,13 +63,13 @@ taken_keeps k h h' p xs ys zs out keeps = keeps_so h h' (with_port (open_at ys) 
 -- ---- connections that were answered
 
 -- port k, which was sent what it was answered, is settled
-pub sent_answered : (k : ℕ) (h h' h'' : Hub) (p' : Port) (xs ys : Slots) → slice_get xs k ≡ Some None → Answers k h h' p' → IsSettled h' xs k p' h'' ys → IsAnswered h'' (open_at ys) k
-sent_answered k h h' h'' p' xs ys empty a (inl put) port e =
-    let now : Some p' ≡ Some port = sym (ap (λ (zs : Slots). open_at zs k) put.1 ∙ slot_set None xs k None (Some p') k empty ∙ ap (λ (b : Bool). cond b (Some p') (open_at xs k)) (eq-eqb k k refl)) ∙ e in
+pub sent_answered : (k : ℕ) (h h' h'' : Hub) (m' m'' : Moves) (p' : Port) (xs ys : Slots) → slice_get xs k ≡ Some None → Answers k h h' p' → IsSettled h' m' xs k p' h'' m'' ys → IsAnswered h'' (open_at ys) k
+sent_answered k h h' h'' m' m'' p' xs ys empty a (inl put) port e =
+    let now : Some p' ≡ Some port = sym (ap (λ (zs : Slots). open_at zs k) put.2 ∙ slot_set None xs k None (Some p') k empty ∙ ap (λ (b : Bool). cond b (Some p') (open_at xs k)) (eq-eqb k k refl)) ∙ e in
     let same : p' ≡ port = cc in
     subst (λ (x : Hub). (untaken_at x k ≡ []) ⊎ (port.left ≢ Some [])) (sym put.0) (subst (λ (q : Port). (untaken_at h' k ≡ []) ⊎ (q.left ≢ Some [])) same a.answered)
-sent_answered k h h' h'' p' xs ys empty a (inr gone) port e =
-    let now : None ≡ Some port = sym (ap (λ (zs : Slots). open_at zs k) gone.1 ∙ slot_none None xs k k empty ∙ ap (λ (b : Bool). cond b None (open_at xs k)) (eq-eqb k k refl)) ∙ e in
+sent_answered k h h' h'' m' m'' p' xs ys empty a (inr gone) port e =
+    let now : None ≡ Some port = sym (ap (λ (zs : Slots). open_at zs k) gone.2 ∙ slot_none None xs k k empty ∙ ap (λ (b : Bool). cond b None (open_at xs k)) (eq-eqb k k refl)) ∙ e in
     absurd cc
 
 flag_there : (flags : List Bool) (k : ℕ) → is_set flags k ≡ true → slice_get flags k ≡ Some true

@@ -84,3 +84,7 @@ pub record Continues (ports ports' : List (Option Port)) : Type 0 where
 pub record OnlyCloses (ports ports' : List (Option Port)) : Type 0 where
   pub count : length ports' ≡ length ports
   pub closed : (i : ℕ) → slice_get ports i ≡ Some None → slice_get ports' i ≡ Some None
+
+-- who stands in a list still does
+abbrev pub KeepsListed : List ℕ → List ℕ → Type 0
+KeepsListed numbers numbers' = (i : ℕ) → stands_in i numbers ≡ true → stands_in i numbers' ≡ true

@@ -1,10 +1,12 @@
 -- The ports of a loop, and who gets a turn.
-use Rattle.std.specs.Prelude.{◌≡◌, ◌==◌, ◌⊎◌, ◌+◌, ◌<◌, ◌≤◌, true, false, Bool, ◌||◌, ℕ, List, [], ◌∷◌, length, map, slice_get, slice_set, Option, Some, None, if◌then◌else◌}
+use Rattle.std.specs.Prelude.{◌≡◌, ◌==◌, ◌⊎◌, ◌+◌, ◌<◌, ◌≤◌, true, false, Bool, ◌||◌, ℕ, List, [], ◌∷◌, length, map, slice_get, slice_set, Option, Some, None, unwrap_or, if◌then◌else◌}
 use Rattle.std.specs.Global.{Box}
 use Rattle.std.specs.Option.{option_map}
 use Rattle.ipc_hub.specs.Marking.{is_set}
 use Rattle.ipc_hub.specs.Hub.{Hub}
 use Rattle.ipc_loop.specs.Ports.{Port, open_at, port_at, has_work, stands_in, how_many_open}
+use Rattle.ipc_loop.specs.declared.ending.Ending.TheVariants.{NoMemory}
+use Rattle.ipc_loop.specs.Moves.{Moved, LinkClosed, GoOn}
 use Rattle.ipc_loop.specs.Bounds.{IsWithin}
 use Rattle.ipc_loop.specs.declared.accepting.Bounds.{Bounds}
 use Rattle.ipc_loop.specs.Serving.{IsOwedByMark, LeavesNothing, LetsGo}
@@ -67,9 +69,11 @@ pub record TakesOut (old : List (Option Port)) (number : ℕ) (port : Port) (new
   pub there : slice_get old number ≡ Some (Some port)
   pub rest : new ≡ slice_set old number None
 
--- the port that was taken out is put back; or its link is closed, its place stays empty, and its connection is let go
-abbrev pub IsSettled : Hub → List (Option Port) → ℕ → Port → Hub → List (Option Port) → Type 0
-IsSettled hub old number port hub' new = ((hub' ≡ hub) × (new ≡ slice_set old number (Some port))) ⊎ (LetsGo hub number port hub' × (new ≡ old))
+-- the port that was taken out is put back; or its link is closed and told why, its place stays empty, and its connection is let go
+abbrev pub IsSettled : Hub → Option (List Moved) → List (Option Port) → ℕ → Port → Hub → Option (List Moved) → List (Option Port) → Type 0
+IsSettled hub moves old number port hub' moves' new =
+    ((hub' ≡ hub) × (moves' ≡ moves) × (new ≡ slice_set old number (Some port))) ⊎
+    (LetsGo hub number port hub' × GoOn moves moves' (LinkClosed number (unwrap_or port.ending NoMemory) ∷ []) × (new ≡ old))
 
 -- between two rounds: nobody has a turn in this one, who is owed answers is marked, no more links are open than may be, and who
 -- is closed left nothing

@@ -3,9 +3,10 @@
 ghost use Rattle.std.specs.Prelude.{◌≡◌, ◌<◌, [], ℕ, List, Option, true, length, IfOk, OnOk};
 ghost use Rattle.ipc_hub.specs.Hub.{Hub, untaken_at};
 ghost use Rattle.ipc_loop.specs.Moves.{Moved};
-ghost use Rattle.ipc_loop.specs.Ports.{Port, new_port, open_at, Continues};
+ghost use Rattle.ipc_loop.specs.Ports.{Port, new_port, port_at, open_at, Continues};
 ghost use Rattle.ipc_loop.specs.Bounds.{are_all, IsWithin, HasRoom, AddsAtMostOne};
 ghost use Rattle.ipc_loop.specs.Serving.{Serves, ServesAndOpens, KeepsMarks};
+ghost use Rattle.ipc_loop.specs.Asking.{Asks};
 ghost use Rattle.ipc_loop.specs.Standing.{HasRoomForOne};
 
 use crate::links::Host;
@@ -66,6 +67,7 @@ fn prepare(hub: &mut Hub, ports: &mut Ports, alloc: Global) -> Result<Box<Port>,
     ensures marks { (all : ℕ → Option Port) → KeepsMarks hub.old all hub.new all }
     ensures all { ports.new.all ≡ ports.old.all }
     ensures turns { ports.new.turns ≡ ports.old.turns }
+    ensures next { ports.new.next ≡ ports.old.next }
 {
     let number = ports.len() as u64;
     open_next(hub, number, alloc)?;
@@ -82,6 +84,8 @@ fn accept<H: Host>(hub: &mut Hub, host: &mut H, ports: &mut Ports, alloc: Global
     ensures marks { KeepsMarks hub.old (open_at ports.old.all) hub.new (open_at ports.new.all) }
     ensures adds { AddsAtMostOne ports.old.all ports.new.all }
     ensures turns { ports.new.turns ≡ ports.old.turns }
+    ensures next { ports.new.next ≡ ports.old.next }
+    ensures asks { Asks [] (H.moves host.old) (H.moves host.new) (port_at ports.old.all) (port_at ports.new.all) }
 {
     let Ok(port) = prepare(hub, ports, alloc) else {
         return Err(io::Error::from(ErrorKind::OutOfMemory));
@@ -124,6 +128,8 @@ impl Accepting {
         ensures within { IsWithin self.old.bounds ports.old.all → IsWithin self.old.bounds ports.new.all }
         ensures continues { Continues ports.old.all ports.new.all }
         ensures turns { ports.new.turns ≡ ports.old.turns }
+        ensures next { ports.new.next ≡ ports.old.next }
+        ensures asks { Asks [] (H.moves host.old) (H.moves host.new) (port_at ports.old.all) (port_at ports.new.all) }
     {
         for _ in 0..MOST_ACCEPTED {
             if !self.is_open(ports) {

@@ -2,7 +2,8 @@
 
 ghost use Rattle.std.specs.Prelude.{◌≡◌};
 ghost use Rattle.std.specs.Io.{ReadsAtMost, WritesAtMost};
-ghost use Rattle.ipc_loop.specs.Moves.{Opens, Gives, Takes};
+ghost use Rattle.std.specs.Prelude.{◌∷◌, []};
+ghost use Rattle.ipc_loop.specs.Moves.{Opens, Gives, Takes, GoOn, LinkClosed};
 
 use crate::ending::Ending;
 use ipc_terms::Uid;
@@ -31,7 +32,7 @@ pub trait Host {
     ghost use Rattle.std.specs.Prelude.{Option, None, List};
     ghost use Rattle.ipc_loop.specs.Moves.{Moved};
 
-    // Which links were opened, and what they gave and took so far, in order, where that is known.
+    // What links did and what was told of them so far, in order, also what they were asked for in vain, where that is known.
     ghost moves: { Self → Option (List Moved) } = { λ _. None };
 
     /// Accepts the next connection. Its link gets this number, which no link had before. An `Err` accepts nobody, or
@@ -56,7 +57,7 @@ pub trait Host {
     /// Closes the link, if there is one: how many requests of its connection were stepped, and why it ends. The hello is one
     /// of them, also one that was refused, and so is a call that a rule refused; the hang-up is none.
     fn close(&mut self, number: u64, requests: u64, ending: Ending)
-        ensures moved { moves self.new ≡ moves self.old };
+        ensures moved { GoOn (moves self.old) (moves self.new) (LinkClosed number ending ∷ []) };
 
     /// Waits until something is ready, or the pause is over; without a pause, until something is ready.
     fn wait(&mut self, pause: Option<Duration>) -> io::Result<()>

@@ -29,12 +29,15 @@ pub struct Port {
 }
 
 impl Model for Port {
-    ghost use Rattle.std.specs.Prelude.{Some, None, if◌then◌else◌};
+    ghost use Rattle.std.specs.Prelude.{◌≡◌, ◌==◌, ◌||◌, not, true, length, Some, None, if◌then◌else◌};
     ghost use Rattle.ipc_loop.specs.Ports.{Port};
 
     ghost Value = { Port };
 
     ghost view = { λ p. record { left = if p.is_cut then None else Some p.unsent; ending = p.ending; is_over = p.is_over; may_read = p.may_read; may_write = p.may_write; is_full = p.is_full; requests = p.requests } };
+
+    // Where all that was taken is written, more may be.
+    ghost invariant = { λ p. (p.is_cut || (not (length p.unsent == 0) || p.may_write)) ≡ true };
 }
 
 impl Port {
@@ -64,7 +67,9 @@ impl Port {
     }
 
     /// Why the link isn't read any more.
-    pub fn why(&self) -> Option<Ending> {
+    pub fn why(&self) -> Option<Ending>
+        ensures { result ≡ self.now.ending }
+    {
         self.ending
     }
 

@@ -2,7 +2,7 @@
 
 ghost use Rattle.std.specs.Prelude.{◌≡◌, ◌<◌, [], ◌∷◌, ◌++◌, true, None, Some, length, slice_get, slice_set, IfOk, IfSome, IfNone, OnOk, OnSome};
 ghost use Rattle.ipc_hub.specs.Marking.{is_set};
-ghost use Rattle.ipc_loop.specs.Ports.{new_port, how_many_open};
+ghost use Rattle.ipc_loop.specs.Ports.{new_port, how_many_open, KeepsListed};
 ghost use Rattle.ipc_loop.specs.Standing.{EachIsQueued, TakesOut, IsOut, IsUnset, CanBePut, HasRoomForOne, seen};
 
 use crate::port::Port;
@@ -120,6 +120,7 @@ impl Ports {
         ensures numbers { OnOk result (0 < self.new.room_of_numbers) }
         ensures all { self.new.all ≡ self.old.all }
         ensures turns { self.new.turns ≡ self.old.turns }
+        ensures next { self.new.next ≡ self.old.next }
     {
         let port = Box::new(self.alloc, Port::new(self.alloc))?;
         self.all.reserve(1)?;
@@ -141,6 +142,7 @@ impl Ports {
         requires new { port.value ≡ new_port }
         ensures all { self.new.all ≡ self.old.all ++ Some new_port ∷ [] }
         ensures turns { self.new.turns ≡ self.old.turns }
+        ensures next { self.new.next ≡ self.old.next }
     {
         let number = self.all.len() as u64;
         self.all.push_reserved(Some(port));
@@ -159,6 +161,7 @@ impl Ports {
     pub fn forget_numbers(&mut self)
         ensures all { self.new.all ≡ self.old.all }
         ensures turns { self.new.turns ≡ self.old.turns }
+        ensures next { self.new.next ≡ self.old.next }
     {
         if self.numbers.len() / 2 <= self.open {
             return;
@@ -194,6 +197,7 @@ impl Ports {
         requires back { CanBePut self.old number }
         ensures kept { self.new.all ≡ slice_set self.old.all number (Some port.value) }
         ensures turns { self.new.turns ≡ self.old.turns }
+        ensures next { KeepsListed self.old.next self.new.next }
     {
         let has_work = port.has_work();
         self.queue(number, has_work);
@@ -209,6 +213,7 @@ impl Ports {
         ensures back { CanBePut self.new number }
         ensures all { self.new.all ≡ self.old.all }
         ensures turns { self.new.turns ≡ self.old.turns }
+        ensures next { KeepsListed self.old.next self.new.next }
     {
         let i = number as usize;
         if !has_work || self.queued[i] {
@@ -224,6 +229,9 @@ impl Ports {
         ensures back { IfSome result (λ turn. OnSome turn.1 (CanBePut self.new turn.0)) }
         ensures closed { IfSome result (λ turn. IfNone turn.1 (self.new.all ≡ self.old.all)) }
         ensures less { OnSome result (length self.new.turns < length self.old.turns) }
+        ensures first { IfSome result (λ turn. self.old.turns ≡ self.new.turns ++ turn.0 ∷ []) }
+        ensures out { IfSome result (λ turn. IsOut self.old.all turn.0 self.new.all) }
+        ensures last { IfNone result (self.old.turns ≡ []) }
         ensures none { IfNone result (self.new.all ≡ self.old.all) }
         ensures over { IfNone result (self.new.turns ≡ []) }
     {

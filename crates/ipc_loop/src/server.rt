@@ -3,9 +3,10 @@
 ghost use Rattle.std.specs.Prelude.{◌≡◌, [], None, OnOk, OnErr, IfOk, IfErr, MatchOption};
 ghost use Rattle.ipc_state.specs.Ranges.{first_bad};
 ghost use Rattle.ipc_hub.specs.Hub.{new_hub};
-ghost use Rattle.ipc_loop.specs.Ports.{open_at, NobodyIsForgotten, Continues};
+ghost use Rattle.ipc_loop.specs.Ports.{open_at, port_at, NobodyIsForgotten, Continues};
 ghost use Rattle.ipc_loop.specs.Bounds.{IsWithin};
 ghost use Rattle.ipc_loop.specs.Server.{is_over, EachClosedIsGone};
+ghost use Rattle.ipc_loop.specs.Asking.{AsksAll};
 ghost use Rattle.ipc_loop.specs.Serving.{ServesAndOpens, NobodyIsOwed};
 
 use crate::accepting::{Accepting, Bounds};
@@ -138,6 +139,7 @@ impl Server {
         ensures rests { OnOk result (NobodyIsOwed self.new.hub (open_at self.new.ports)) }
         ensures nothing { OnErr result (self.new ≡ self.old) }
         ensures nobody { OnErr result (H.moves host.new ≡ H.moves host.old) }
+        ensures asks { OnOk result (AsksAll self.old.turns (H.moves host.old) (H.moves host.new) (port_at self.old.ports) (port_at self.new.ports)) }
         ensures continues { Continues self.old.ports self.new.ports }
         ensures bounds { self.new.bounds ≡ self.old.bounds }
     {

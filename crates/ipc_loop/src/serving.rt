@@ -1,10 +1,12 @@
 //! What a turn does for a link.
 
-ghost use Rattle.std.specs.Prelude.{◌≡◌, ◌≤◌, ◌<◌, ◌||◌, ◌+◌, ◌-◌, ◌^◌, [], ℕ, List, Option, false, true, length, take, max, min, Some, None, is_some, IfOk, IfSome, IfNone, OnOk, OnErr};
+ghost use Rattle.std.specs.Prelude.{◌≡◌, ◌≤◌, ◌<◌, ◌||◌, ◌+◌, ◌-◌, ◌^◌, [], ℕ, List, Option, false, true, length, max, min, Some, None, is_some, unwrap_or, IfOk, IfSome, OnOk, OnErr};
+ghost use Rattle.ipc_loop.specs.declared.ending.Ending.TheVariants.{ReadFailed};
 ghost use Rattle.ipc_hub.specs.Hub.{Hub, Feeds, is_over_at, untaken_at};
-ghost use Rattle.ipc_loop.specs.Moves.{Moved, Adds};
+ghost use Rattle.ipc_loop.specs.Moves.{Moved, is_fault};
 ghost use Rattle.ipc_loop.specs.Ports.{is_all};
-ghost use Rattle.ipc_loop.specs.Serving.{ServesPort, KeepsPortMarks, Writes, FeedsPort, StaysReadable, Answers, kept_at, has_session_at, is_done, ends_connection};
+ghost use Rattle.ipc_loop.specs.Serving.{ServesPort, KeepsPortMarks, Offers, Writes, FeedsPort, StaysReadable, Answers, kept_at, has_session_at, is_done, ends_connection, is_fed_so};
+ghost use Rattle.ipc_loop.specs.Asking.{TakesTurn, OffersPort, Reads, Flushes, KeepsAllButLeft};
 ghost use Rattle.ipc_loop.specs.Portions.{HasAll, Collects, StepsAndCollects, StepsPortion, AddsSpelled, AddsFew, IsUnder, KeepsBound};
 ghost use Rattle.ipc_loop.specs.Requests.{requests_among, Counts};
 
@@ -104,6 +106,16 @@ impl Desk {
     }
 }
 
+/// Whether a failure says more than that the call would have waited, or that a signal came.
+fn is_fault(kind: ErrorKind) -> bool
+    ensures { result ≡ is_fault kind }
+{
+    match kind {
+        ErrorKind::WouldBlock | ErrorKind::Interrupted => false,
+        _ => true,
+    }
+}
+
 /// How many of the bytes the link took: none where it would wait, which is noted, or a signal came. `None` where the
 /// write failed.
 fn write_some<H: Host>(
@@ -113,20 +125,20 @@ fn write_some<H: Host>(
     may_write: &mut bool,
 ) -> Option<usize>
     ensures bound { IfSome result (λ n. n ≤ length bytes.now) }
-    ensures took { IfSome result (λ n. Adds (H.moves host.old) (H.moves host.new) number [] (take n bytes.now) false) }
-    ensures failed { IfNone result (Adds (H.moves host.old) (H.moves host.new) number [] [] false) }
+    ensures offers { Offers number (H.moves host.old) (H.moves host.new) bytes.now result }
+    ensures took { IfSome result (λ n. 0 < n → may_write.new ≡ may_write.old) }
 {
-    match host.write(number, bytes) {
-        Ok(count) => Some(count),
-        Err(error) => match error.kind() {
-            ErrorKind::WouldBlock => {
-                *may_write = false;
-                Some(0)
-            }
-            ErrorKind::Interrupted => Some(0),
-            _ => None,
-        },
+    let kind = match host.write(number, bytes) {
+        Ok(count) => return Some(count),
+        Err(error) => error.kind(),
+    };
+    if is_fault(kind) {
+        return None;
     }
+    if kind == ErrorKind::WouldBlock {
+        *may_write = false;
+    }
+    Some(0)
 }
 
 /// Feeds a piece, until so many answers are untaken. Want of memory is tried some times.
@@ -173,7 +185,8 @@ impl Port {
     fn end(&mut self, ending: Ending)
         ensures left { self.new.left ≡ self.old.left }
         ensures may_read { self.new.may_read ≡ self.old.may_read }
-        ensures ended { is_some self.new.ending ≡ true }
+        ensures may_write { self.new.may_write ≡ self.old.may_write }
+        ensures ended { self.new.ending ≡ Some (unwrap_or self.old.ending ending) }
         ensures requests { self.new.requests ≡ self.old.requests }
     {
         if self.ending.is_none() {
@@ -181,12 +194,13 @@ impl Port {
         }
     }
 
-    /// The link isn't written any more either.
+    /// The link isn't written any more either. Why bytes for it are dropped stands before why it wasn't read any more.
     fn cut(&mut self, alloc: Global, ending: Ending)
         ensures cut { self.new.left ≡ None }
-        ensures ended { is_some self.new.ending ≡ true }
+        ensures may_write { self.new.may_write ≡ self.old.may_write }
+        ensures ended { self.new.ending ≡ Some ending }
     {
-        self.end(ending);
+        self.ending = Some(ending);
         self.is_cut = true;
         self.unsent = Unsent::new(alloc);
     }
@@ -200,7 +214,9 @@ impl Port {
 
     /// Writes what is left, as far as the link takes it.
     fn flush<H: Host>(&mut self, alloc: Global, host: &mut H, number: u64)
-        ensures { Writes number (H.moves host.old) (H.moves host.new) self.old [] self.new }
+        ensures writes { Writes number (H.moves host.old) (H.moves host.new) self.old [] self.new }
+        ensures all { Flushes number (H.moves host.old) (H.moves host.new) self.old self.new }
+        ensures writable { self.new.left ≡ Some [] → self.new.may_write ≡ true }
     {
         if self.is_cut || self.unsent.is_empty() || !self.may_write {
             return;
@@ -231,6 +247,8 @@ impl Port {
         ensures serves { (moves : Option (List Moved)) → ServesPort number hub.old moves self.old hub.new moves self.new }
         ensures collects { Collects number hub.old hub.new self.new }
         ensures adds { AddsSpelled (untaken_at hub.old number) self.old.left self.new.left }
+        ensures kept { KeepsAllButLeft self.old self.new }
+        ensures may_write { self.new.may_write ≡ self.old.may_write }
     {
         if self.is_cut {
             return;
@@ -249,6 +267,7 @@ impl Port {
     pub fn send<H: Host>(&mut self, hub: &mut Hub, host: &mut H, number: u64, desk: &mut Desk)
         ensures serves { ServesPort number hub.old (H.moves host.old) self.old hub.new (H.moves host.new) self.new }
         ensures answers { Answers number hub.old hub.new self.new }
+        ensures offers { OffersPort number (H.moves host.old) (H.moves host.new) self.old self.new }
     {
         self.flush(desk.alloc, host, number);
         if !self.is_written() {
@@ -263,9 +282,11 @@ impl Port {
     /// What became of a piece.
     fn note_fed(&mut self, fed: Result<Fed, HubFault>)
         ensures left { self.new.left ≡ self.old.left }
+        ensures may_write { self.new.may_write ≡ self.old.may_write }
         ensures may_read { self.new.may_read ≡ self.old.may_read }
         ensures err { OnErr fed (is_some self.new.ending ≡ true) }
         ensures over { IfOk fed (λ fed. ends_connection fed ≡ true → is_some self.new.ending ≡ true) }
+        ensures why { (ending : Ending) → self.old.ending ≡ None → self.new.ending ≡ Some ending → is_fed_so fed ending ≡ true }
         ensures requests { self.new.requests ≡ self.old.requests }
     {
         self.is_full = false;
@@ -310,6 +331,7 @@ impl Port {
         ensures steps { StepsPortion number (most + 1) hub.old self.old hub.new self.new }
         ensures counted { Counts hub.old self.old hub.new self.new }
         ensures may_read { self.new.may_read ≡ self.old.may_read }
+        ensures may_write { self.new.may_write ≡ self.old.may_write }
     {
         let before = hub.recorded();
         let fed = feed_piece(hub, alloc, Conn(number), piece, most);
@@ -331,6 +353,8 @@ impl Port {
         ensures serves { ServesPort number hub.old (H.moves host.old) self.old hub.new (H.moves host.new) self.new }
         ensures steps { StepsPortion number 9 hub.old self.old hub.new self.new }
         ensures more { StaysReadable number (H.moves host.old) (H.moves host.new) self.old self.new }
+        ensures asks { Reads number (H.moves host.old) (H.moves host.new) self.old }
+        ensures may_write { self.new.may_write ≡ self.old.may_write }
     {
         match host.read(number, buffer) {
             Ok(count) => {
@@ -340,11 +364,21 @@ impl Port {
                     self.feed(hub, alloc, number, &buffer[..count], PORTION);
                 }
             }
-            Err(error) => match error.kind() {
-                ErrorKind::WouldBlock => self.may_read = false,
-                ErrorKind::Interrupted => {}
-                _ => self.end(Ending::ReadFailed),
-            },
+            Err(error) => self.note_unread(error.kind()),
+        }
+    }
+
+    /// Why a read gave nothing.
+    fn note_unread(&mut self, kind: ErrorKind)
+        ensures left { self.new.left ≡ self.old.left }
+        ensures may_write { self.new.may_write ≡ self.old.may_write }
+        ensures fault { is_fault kind ≡ true → self.new.ending ≡ Some (unwrap_or self.old.ending ReadFailed) }
+        ensures other { is_fault kind ≡ false → self.new.ending ≡ self.old.ending }
+    {
+        if is_fault(kind) {
+            self.end(Ending::ReadFailed);
+        } else if kind == ErrorKind::WouldBlock {
+            self.may_read = false;
         }
     }
 
@@ -353,6 +387,8 @@ impl Port {
         requires { self.old.ending ≡ None }
         ensures serves { ServesPort number hub.old (H.moves host.old) self.old hub.new (H.moves host.new) self.new }
         ensures steps { StepsPortion number 9 hub.old self.old hub.new self.new }
+        ensures asks { Reads number (H.moves host.old) (H.moves host.new) self.old }
+        ensures may_write { self.new.may_write ≡ self.old.may_write }
     {
         if self.is_full {
             self.feed(hub, desk.alloc, number, &[], PORTION);
@@ -377,6 +413,7 @@ impl Port {
         ensures serves { (moves : Option (List Moved)) → ServesPort number hub.old moves self.old hub.new moves self.new }
         ensures collects { StepsAndCollects number hub.old hub.new self.new }
         ensures adds { HasAll number hub.old self.old → AddsFew 9 self.old.left self.new.left }
+        ensures may_write { self.new.may_write ≡ self.old.may_write }
     {
         let before = self.unsent.len();
         let most = next_portion(is_large);
@@ -391,6 +428,7 @@ impl Port {
         ensures serves { (moves : Option (List Moved)) → ServesPort number hub.old moves self.old hub.new moves self.new }
         ensures collects { StepsAndCollects number hub.old hub.new self.new }
         ensures bound { KeepsBound self.old.left self.new.left }
+        ensures may_write { self.new.may_write ≡ self.old.may_write }
     {
         let mut is_large = is_large;
         for _ in 1..MOST_PORTIONS {
@@ -412,6 +450,9 @@ impl Port {
         ensures serves { ServesPort number hub.old (H.moves host.old) self.old hub.new (H.moves host.new) self.new }
         ensures collects { StepsAndCollects number hub.old hub.new self.new }
         ensures bound { KeepsBound self.old.left self.new.left }
+        ensures asks { Reads number (H.moves host.old) (H.moves host.new) self.old }
+        ensures idle { (left : List ℕ) → self.old.left ≡ Some left → 1048576 ≤ length left → self.new ≡ self.old }
+        ensures may_write { self.new.may_write ≡ self.old.may_write }
     {
         if !self.has_room() {
             return;
@@ -437,6 +478,7 @@ impl Port {
     fn work<H: Host>(&mut self, hub: &mut Hub, host: &mut H, number: u64, desk: &mut Desk)
         ensures serves { ServesPort number hub.old (H.moves host.old) self.old hub.new (H.moves host.new) self.new }
         ensures marks { KeepsPortMarks number hub.old self.old hub.new self.new }
+        ensures turn { TakesTurn number (H.moves host.old) (H.moves host.new) self.old self.new }
     {
         self.flush(desk.alloc, host, number);
         if !self.is_written() {
@@ -455,6 +497,7 @@ impl Port {
         ensures serves { (moves : Option (List Moved)) → ServesPort number hub.now moves self.old hub.now moves self.new }
         ensures marks { KeepsPortMarks number hub.now self.old hub.now self.new }
         ensures few { self.new.ending ≡ None → has_session_at hub.now number ≡ false → kept_at hub.now number ≤ 65542 }
+        ensures left { self.new.left ≡ self.old.left }
     {
         if !has_session(hub, number) && kept(hub, number) > MOST_OF_A_STRANGER {
             self.end(Ending::TooMuchUnfinished);
@@ -465,6 +508,8 @@ impl Port {
     fn hang_up(&mut self, hub: &mut Hub, alloc: Global, number: u64)
         ensures serves { (moves : Option (List Moved)) → ServesPort number hub.old moves self.old hub.new moves self.new }
         ensures marks { KeepsPortMarks number hub.old self.old hub.new self.new }
+        ensures left { self.new.left ≡ self.old.left }
+        ensures ending { self.new.ending ≡ self.old.ending }
     {
         if self.ending.is_none() || self.is_over {
             return;
@@ -479,6 +524,8 @@ impl Port {
     pub fn give_up(&mut self, hub: &mut Hub, alloc: Global, number: u64)
         ensures serves { (moves : Option (List Moved)) → ServesPort number hub.old moves self.old hub.new moves self.new }
         ensures marks { KeepsPortMarks number hub.old self.old hub.new self.new }
+        ensures left { self.new.left ≡ self.old.left }
+        ensures ended { is_some self.new.ending ≡ true }
     {
         self.end(Ending::TooMuchUnfinished);
         self.hang_up(hub, alloc, number);
@@ -488,6 +535,7 @@ impl Port {
     pub fn serve<H: Host>(&mut self, hub: &mut Hub, host: &mut H, number: u64, desk: &mut Desk)
         ensures serves { ServesPort number hub.old (H.moves host.old) self.old hub.new (H.moves host.new) self.new }
         ensures marks { KeepsPortMarks number hub.old self.old hub.new self.new }
+        ensures turn { TakesTurn number (H.moves host.old) (H.moves host.new) self.old self.new }
     {
         self.work(hub, host, number, desk);
         self.keep_few(hub, number);

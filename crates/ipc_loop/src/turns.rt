@@ -1,9 +1,10 @@
 //! What the loop does with its ports.
 
-ghost use Rattle.std.specs.Prelude.{◌≡◌, [], ℕ, None, Some, slice_get, slice_set};
+ghost use Rattle.std.specs.Prelude.{◌≡◌, [], ◌∷◌, ℕ, None, Some, slice_get, slice_set};
 ghost use Rattle.ipc_hub.specs.Hub.{Hub};
-ghost use Rattle.ipc_loop.specs.Ports.{port_at, open_at, with_port, OnlyCloses};
+ghost use Rattle.ipc_loop.specs.Ports.{port_at, open_at, with_port, OnlyCloses, KeepsListed};
 ghost use Rattle.ipc_loop.specs.Standing.{IsSettled, CanBePut};
+ghost use Rattle.ipc_loop.specs.Asking.{Asks, Refuses};
 ghost use Rattle.ipc_loop.specs.Serving.{Serves, IsAnswered, IsOwedByMark, KeepsMarks, NobodyIsOwed};
 
 use crate::ending::Ending;
@@ -21,10 +22,10 @@ const MOST_UNFINISHED: usize = 67_108_864;
 fn settle<H: Host>(hub: &mut Hub, host: &mut H, ports: &mut Ports, number: u64, port: Box<Port>)
     requires out { slice_get ports.old.all number ≡ Some None }
     requires back { CanBePut ports.old number }
-    ensures moved { H.moves host.new ≡ H.moves host.old }
-    ensures settled { IsSettled hub.old ports.old.all number port.value hub.new ports.new.all }
+    ensures settled { IsSettled hub.old (H.moves host.old) ports.old.all number port.value hub.new (H.moves host.new) ports.new.all }
     ensures marked { hub.new.marked ≡ hub.old.marked }
     ensures turns { ports.new.turns ≡ ports.old.turns }
+    ensures next { KeepsListed ports.old.next ports.new.next }
 {
     if !port.is_done(hub, number) {
         ports.put(number, port);
@@ -52,6 +53,7 @@ fn turn<H: Host>(
     ensures serves { Serves hub.old (H.moves host.old) (with_port (port_at ports.old.all) number (Some port.value)) hub.new (H.moves host.new) (port_at ports.new.all) }
     ensures marks { KeepsMarks hub.old (with_port (open_at ports.old.all) number (Some port.value)) hub.new (open_at ports.new.all) }
     ensures closes { OnlyCloses (slice_set ports.old.all number (Some port.value)) ports.new.all }
+    ensures asks { Asks (number ∷ []) (H.moves host.old) (H.moves host.new) (with_port (port_at ports.old.all) number (Some port.value)) (port_at ports.new.all) }
     ensures turns { ports.new.turns ≡ ports.old.turns }
 {
     let before = kept(hub, number);
@@ -80,6 +82,7 @@ fn keep_bound<H: Host>(hub: &mut Hub, host: &mut H, ports: &mut Ports, desk: &mu
     ensures marks { KeepsMarks hub.old (open_at ports.old.all) hub.new (open_at ports.new.all) }
     ensures closes { OnlyCloses ports.old.all ports.new.all }
     ensures turns { ports.new.turns ≡ ports.old.turns }
+    ensures asks { Asks [] (H.moves host.old) (H.moves host.new) (port_at ports.old.all) (port_at ports.new.all) }
 {
     if desk.unfinished <= MOST_UNFINISHED {
         return;
@@ -101,6 +104,7 @@ pub fn give_turns<H: Host>(hub: &mut Hub, host: &mut H, ports: &mut Ports, desk:
     ensures marks { KeepsMarks hub.old (open_at ports.old.all) hub.new (open_at ports.new.all) }
     ensures closes { OnlyCloses ports.old.all ports.new.all }
     ensures turns { ports.new.turns ≡ [] }
+    ensures asks { Asks ports.old.turns (H.moves host.old) (H.moves host.new) (port_at ports.old.all) (port_at ports.new.all) }
 {
     while let Some((number, port)) = ports.next_turn() {
         if let Some(port) = port {
@@ -117,6 +121,7 @@ fn answer<H: Host>(hub: &mut Hub, host: &mut H, ports: &mut Ports, number: u64, 
     ensures closes { OnlyCloses ports.old.all ports.new.all }
     ensures marked { hub.new.marked ≡ hub.old.marked }
     ensures turns { ports.new.turns ≡ ports.old.turns }
+    ensures refuses { Refuses (H.moves host.old) (H.moves host.new) (port_at ports.old.all) (port_at ports.new.all) }
 {
     if let Some(mut port) = ports.take(number) {
         port.send(hub, host, number, desk);
@@ -131,6 +136,7 @@ pub fn answer_all<H: Host>(hub: &mut Hub, host: &mut H, ports: &mut Ports, desk:
     ensures rests { NobodyIsOwed hub.new (open_at ports.new.all) }
     ensures closes { OnlyCloses ports.old.all ports.new.all }
     ensures turns { ports.new.turns ≡ ports.old.turns }
+    ensures refuses { Refuses (H.moves host.old) (H.moves host.new) (port_at ports.old.all) (port_at ports.new.all) }
 {
     while let Some(conn) = hub.next_answered() {
         answer(hub, host, ports, conn.0, desk);
@@ -143,6 +149,8 @@ fn note<H: Host>(hub: &mut Hub, host: &mut H, ports: &mut Ports, ready: Ready)
     ensures marks { KeepsMarks hub.old (open_at ports.old.all) hub.new (open_at ports.new.all) }
     ensures closes { OnlyCloses ports.old.all ports.new.all }
     ensures turns { ports.new.turns ≡ ports.old.turns }
+    ensures next { KeepsListed ports.old.next ports.new.next }
+    ensures asks { Asks [] (H.moves host.old) (H.moves host.new) (port_at ports.old.all) (port_at ports.new.all) }
 {
     let Ready::Link {
         number,
@@ -165,6 +173,8 @@ pub fn note_all<H: Host>(hub: &mut Hub, host: &mut H, ports: &mut Ports) -> bool
     ensures marks { KeepsMarks hub.old (open_at ports.old.all) hub.new (open_at ports.new.all) }
     ensures closes { OnlyCloses ports.old.all ports.new.all }
     ensures turns { ports.new.turns ≡ ports.old.turns }
+    ensures next { KeepsListed ports.old.next ports.new.next }
+    ensures asks { Asks [] (H.moves host.old) (H.moves host.new) (port_at ports.old.all) (port_at ports.new.all) }
 {
     let mut is_told = false;
     for _ in 0..u64::MAX {

@@ -1,7 +1,10 @@
 //! A host that knows its moves, so the clauses of the loop say something of it. Tests are the peers of its links: they
 //! connect, send and finish between rounds.
 
-ghost use Rattle.std.specs.Prelude.{◌≡◌, IfOk};
+ghost use Rattle.std.specs.Prelude.{◌≡◌, ◌-◌, [], ◌∷◌, ◌++◌, length, take, IfOk, OnOk, OnErr};
+ghost use Rattle.std.specs.Io.{ReadsAtMost, WritesAtMost};
+ghost use Rattle.ipc_loop.specs.Moves.{LinkOpened, LinkGave, LinkTook};
+ghost use Rattle.test_links.specs.Recording.{moved_by, moves_in};
 
 use crate::peers::{Cut, Peers};
 use ipc_loop::{Ending, Host, Ready};
@@ -9,6 +12,7 @@ use ipc_terms::Uid;
 use std::alloc::{AllocError, Global};
 use std::io;
 use std::io::ErrorKind;
+use std::snapshot::Snapshot;
 use std::time::Duration;
 
 /// What a link did, by its number.
@@ -16,7 +20,25 @@ use std::time::Duration;
 pub enum Entry {
     Opened(u64),
     Gave(u64, Vec<u8>),
-    Took(u64, Vec<u8>),
+    /// It took these of what it was offered, and left so many.
+    Took(u64, Vec<u8>, u64),
+}
+
+/// What links did and were told, and what they were asked for in vain. Proofs alone read it; nothing of it is kept at run time.
+#[derive(Drop)]
+enum Past {
+    /// Nothing yet.
+    Nothing,
+    /// After all else a link did this.
+    Did(Snapshot<Entry>, Snapshot<Snapshot<Past>>),
+    /// After all else a link was closed, and this was told.
+    Closed(u64, Ending, Snapshot<Snapshot<Past>>),
+    /// After all else nobody came.
+    NobodyCame(ErrorKind, Snapshot<Snapshot<Past>>),
+    /// After all else a link gave nothing.
+    GaveNothing(u64, ErrorKind, Snapshot<Snapshot<Past>>),
+    /// After all else a link took none of so many bytes.
+    TookNothing(u64, u64, ErrorKind, Snapshot<Snapshot<Past>>),
 }
 
 /// Remembers all. What there is no memory to remember isn't done, as where a signal came.
@@ -25,6 +47,7 @@ pub struct Recorder {
     alloc: Global,
     peers: Peers,
     log: Vec<Entry>,
+    past: Snapshot<Past>,
     moment: u64,
 }
 
@@ -47,6 +70,7 @@ impl Recorder {
             alloc,
             peers: Peers::new(alloc, cut),
             log: Vec::new(alloc),
+            past: Snapshot::of(&Past::Nothing),
             moment: 0,
         }
     }
@@ -81,7 +105,7 @@ impl Recorder {
         let mut all = Vec::new(self.alloc);
         for entry in &self.log {
             match entry {
-                Entry::Took(taker, bytes) if *taker == number => all.extend_from_slice(bytes)?,
+                Entry::Took(taker, bytes, _) if *taker == number => all.extend_from_slice(bytes)?,
                 _ => {}
             }
         }
@@ -109,42 +133,99 @@ impl Recorder {
     }
 }
 
-impl Host for Recorder {
-    ghost use Rattle.std.specs.Prelude.{Some, map};
-    ghost use Rattle.test_links.specs.Recording.{moved_by};
-
-    ghost moves = { λ h. Some (map moved_by h.log.items) };
-
-    fn accept(&mut self, number: u64) -> io::Result<()> {
-        self.peers.may_accept(number)?;
-        if self.log.push(Entry::Opened(number)).is_err() {
+impl Recorder {
+    /// Remembers what a link did. An `Err` remembers nothing.
+    fn note(&mut self, entry: Entry) -> io::Result<()>
+        ensures ok { OnOk result (moves_in self.new.past.value ≡ moves_in self.old.past.value ++ moved_by entry ∷ []) }
+        ensures err { OnErr result (self.new.past.value ≡ self.old.past.value) }
+    {
+        let noted = Snapshot::of(&entry);
+        if self.log.push(entry).is_err() {
             return Err(interrupted());
         }
+        self.past = Snapshot::of(&Past::Did(noted, Snapshot::of(&self.past)));
+        Ok(())
+    }
+
+    /// The next link is opened, if it has this number.
+    fn open(&mut self, number: u64) -> io::Result<()>
+        ensures ok { OnOk result (moves_in self.new.past.value ≡ moves_in self.old.past.value ++ LinkOpened number ∷ []) }
+        ensures err { OnErr result (self.new.past.value ≡ self.old.past.value) }
+    {
+        self.peers.may_accept(number)?;
+        self.note(Entry::Opened(number))?;
         self.peers.accept();
         Ok(())
     }
 
-    fn read(&mut self, number: u64, buffer: &mut [u8]) -> io::Result<usize> {
+    /// The link gives what it has next, as far as the buffer has room.
+    fn give(&mut self, number: u64, buffer: &mut [u8]) -> io::Result<usize>
+        ensures bound { ReadsAtMost result buffer.new }
+        ensures ok { IfOk result (λ n. moves_in self.new.past.value ≡ moves_in self.old.past.value ++ LinkGave number (take n buffer.new) ∷ []) }
+        ensures err { OnErr result (self.new.past.value ≡ self.old.past.value) }
+    {
         let count = self.peers.copy_to(number, buffer)?;
         let Ok(bytes) = copied(self.alloc, &buffer[..count]) else {
             return Err(interrupted());
         };
-        if self.log.push(Entry::Gave(number, bytes)).is_err() {
-            return Err(interrupted());
-        }
+        self.note(Entry::Gave(number, bytes))?;
         self.peers.advance(number, count);
         Ok(count)
     }
 
-    fn write(&mut self, number: u64, bytes: &[u8]) -> io::Result<usize> {
+    /// The link takes the first of the bytes.
+    fn take(&mut self, number: u64, bytes: &[u8]) -> io::Result<usize>
+        ensures bound { WritesAtMost result bytes.now }
+        ensures ok { IfOk result (λ n. moves_in self.new.past.value ≡ moves_in self.old.past.value ++ LinkTook number (take n bytes.now) (length bytes.now - n) ∷ []) }
+        ensures err { OnErr result (self.new.past.value ≡ self.old.past.value) }
+    {
         let count = self.peers.piece(number, bytes.len())?;
         let Ok(taken) = copied(self.alloc, &bytes[..count]) else {
             return Err(interrupted());
         };
-        if self.log.push(Entry::Took(number, taken)).is_err() {
-            return Err(interrupted());
-        }
+        self.note(Entry::Took(number, taken, (bytes.len() - count) as u64))?;
         Ok(count)
+    }
+}
+
+impl Host for Recorder {
+    ghost use Rattle.std.specs.Prelude.{Some};
+    ghost use Rattle.test_links.specs.Recording.{moves_in};
+
+    ghost moves = { λ h. Some (moves_in h.past.value) };
+
+    fn accept(&mut self, number: u64) -> io::Result<()> {
+        let opened = self.open(number);
+        if let Err(error) = &opened {
+            self.past = Snapshot::of(&Past::NobodyCame(error.kind(), Snapshot::of(&self.past)));
+        }
+        opened
+    }
+
+    fn read(&mut self, number: u64, buffer: &mut [u8]) -> io::Result<usize> {
+        let given = self.give(number, buffer);
+        if let Err(error) = &given {
+            self.past = Snapshot::of(&Past::GaveNothing(
+                number,
+                error.kind(),
+                Snapshot::of(&self.past),
+            ));
+        }
+        given
+    }
+
+    fn write(&mut self, number: u64, bytes: &[u8]) -> io::Result<usize> {
+        let taken = self.take(number, bytes);
+        if let Err(error) = &taken {
+            let count = bytes.len() as u64;
+            self.past = Snapshot::of(&Past::TookNothing(
+                number,
+                count,
+                error.kind(),
+                Snapshot::of(&self.past),
+            ));
+        }
+        taken
     }
 
     fn greeted(&mut self, number: u64, user: Uid) {
@@ -153,6 +234,7 @@ impl Host for Recorder {
 
     fn close(&mut self, number: u64, requests: u64, ending: Ending) {
         self.peers.close(number, requests, ending);
+        self.past = Snapshot::of(&Past::Closed(number, ending, Snapshot::of(&self.past)));
     }
 
     fn wait(&mut self, _pause: Option<Duration>) -> io::Result<()> {

@@ -228,7 +228,7 @@ impl Play {
     fn take_moves(&mut self) -> Result<Vec<u64>, AllocError> {
         let mut takers = Vec::new(self.alloc);
         for entry in self.host.moves().iter().skip(self.seen) {
-            if let Entry::Took(number, bytes) = entry {
+            if let Entry::Took(number, bytes, _) = entry {
                 if let Some(peer) = self.peers.get_mut(*number as usize) {
                     peer.kept.extend_from_slice(bytes)?;
                     takers.push(*number)?;

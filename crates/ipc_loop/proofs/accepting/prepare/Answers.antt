@@ -1,1 +1,0 @@
-use Rattle.ipc_loop.proofs.accepting.prepare.Goals as goal

@@ -3,10 +3,11 @@ use Rattle.ipc_hub.specs.Hub.{Hub, untaken_at}
 use Rattle.ipc_loop.proofs.ServingLemmas.{served_nothing, serves_both, named_serves}
 use Rattle.ipc_loop.proofs.TurnLemmas.{how_many, named_others, named_fewer}
 use Rattle.ipc_loop.proofs.OpeningLemmas.{closes_same, closes_both}
+use Rattle.ipc_loop.proofs.AskingLemmas.{refused_nothing, refuses_both}
 use Rattle.ipc_loop.proofs.turns.answer_all.Goals as goal
 
 pub loop-conn-init : goal.loop-conn-init
-loop-conn-init g c = record { serves = served_nothing _ _ _; marks = c.requires; closes = closes_same _ _ refl; turns = refl }
+loop-conn-init g c = record { serves = served_nothing _ _ _; marks = c.requires; closes = closes_same _ _ refl; turns = refl; refuses = refused_nothing _ _ }
 
 pub loop-conn-preserved : goal.loop-conn-preserved
 loop-conn-preserved g c = record {
@@ -14,6 +15,7 @@ loop-conn-preserved g c = record {
   marks = named_others c.in-Some.conn.0 c.loop-conn.hub c.next_answered.new.self c.answer.new.hub c.loop-conn.ports.all c.answer.new.ports.all c.in-Some.ensures.some (λ i is owed. c.answer.ensures.marks i owed) c.answer.ensures.answered c.loop-conn.invariant.marks;
   closes = closes_both _ _ _ c.loop-conn.invariant.closes c.answer.ensures.closes;
   turns = c.answer.ensures.turns ∙ c.loop-conn.invariant.turns;
+  refuses = refuses_both _ _ _ _ _ _ c.loop-conn.invariant.refuses c.answer.ensures.refuses;
 }
 
 pub loop-conn-smaller : goal.loop-conn-smaller

@@ -1,6 +1,7 @@
 use Rattle.std.proofs.Common.{◌≡◌, ℕ}
 use Rattle.ipc_loop.specs.Ports.{port_at, open_at, OnlyCloses}
 use Rattle.ipc_loop.specs.Serving.{Serves, IsOwedByMark}
+use Rattle.ipc_loop.specs.Asking.{Refuses}
 use Rattle.ipc_loop.proofs.TurnLemmas.{how_many}
 use Rattle.ipc_loop.proofs.turns.answer_all.Given as goal
 
@@ -10,6 +11,7 @@ invariant-loop-conn g l = record {
   marks : (i : ℕ) → IsOwedByMark l.hub (open_at l.ports.all) i;
   turns : l.ports.turns ≡ l.fn.ports.turns;
   closes : OnlyCloses l.fn.ports.all l.ports.all;
+  refuses : Refuses (g.H.Host.moves l.fn.host) (g.H.Host.moves l.host) (port_at l.fn.ports.all) (port_at l.ports.all);
 }
 
 abbrev pub decreases-loop-conn : goal.decreases-loop-conn

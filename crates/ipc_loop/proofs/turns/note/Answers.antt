@@ -1,5 +1,7 @@
-use Rattle.std.proofs.Common.{ap, refl}
-use Rattle.ipc_loop.specs.Ports.{Port}
+use Rattle.std.proofs.Common.{Some, [], inl, refl, ap, ◌∙◌}
+use Rattle.ipc_loop.specs.Ports.{Port, port_at, unfed_of}
+use Rattle.ipc_loop.specs.Asking.{may_be_read}
+use Rattle.ipc_loop.proofs.AskingLemmas.{asked_nothing, same_asks, quiet_asks, settled_asks, taken_asks, noted_may, listed_same, listed_both}
 use Rattle.ipc_loop.proofs.MoveLemmas.{go_nowhere}
 use Rattle.ipc_loop.proofs.OwingLemmas.{same_keep}
 use Rattle.ipc_loop.proofs.ServingLemmas.{served_nothing, same_serves, stays_serve}
@@ -19,12 +21,12 @@ returns-in-Some-clause-serves g c =
     taken_serves c.in-Link.number _ _ _ _ _ _ _ _ c.in-Some.ensures.port
     (turned_serves c.in-Link.number c.args.hub.now c.args.hub.now c.settle.new.hub (g.H.Host.moves c.args.host.now) (g.H.Host.moves c.args.host.now) _ c.in-Some.port.value c.deref_mut.result.now c.note.new.self _ _ c.deref_mut.ensures.value (empty_slot _ _ _ _ c.in-Some.ensures.port)
     (stays_serve c.in-Link.number c.args.hub.now (g.H.Host.moves c.args.host.now) (g.H.Host.moves c.args.host.now) c.deref_mut.result.now c.note.new.self (go_nowhere _) (ap (λ (p : Port). p.left) c.note.ensures) (ap (λ (p : Port). p.ending) c.note.ensures))
-    c.settle.ensures.moved c.settle.ensures.settled)
+    c.settle.ensures.settled)
 
 pub returns-in-Some-clause-marks : goal.returns-in-Some-clause-marks
 returns-in-Some-clause-marks g c =
     taken_keeps c.in-Link.number c.args.hub.now c.settle.new.hub c.in-Some.port.value c.args.ports.now.all c.take.new.self.all c.settle.new.ports.all c.in-Some.ensures.port
-    (turned_keeps c.in-Link.number c.args.hub.now c.args.hub.now c.settle.new.hub c.in-Some.port.value c.deref_mut.result.now c.note.new.self c.take.new.self.all c.settle.new.ports.all c.deref_mut.ensures.value (empty_slot _ _ _ _ c.in-Some.ensures.port)
+    (turned_keeps c.in-Link.number c.args.hub.now c.args.hub.now c.settle.new.hub _ _ c.in-Some.port.value c.deref_mut.result.now c.note.new.self c.take.new.self.all c.settle.new.ports.all c.deref_mut.ensures.value (empty_slot _ _ _ _ c.in-Some.ensures.port)
     (same_keep c.in-Link.number c.args.hub.now c.deref_mut.result.now c.note.new.self (ap (λ (p : Port). p.left) c.note.ensures)) c.settle.ensures.settled)
 
 pub returns-in_default-take-clause-serves : goal.returns-in_default-take-clause-serves
@@ -34,7 +36,31 @@ pub returns-in_default-clause-closes : goal.returns-in_default-clause-closes
 returns-in_default-clause-closes g c = closes_same _ _ refl
 
 pub returns-in-Some-clause-closes : goal.returns-in-Some-clause-closes
-returns-in-Some-clause-closes g c = settled_closes c.in-Link.number _ _ _ _ _ _ _ c.in-Some.ensures.port c.settle.ensures.settled
+returns-in-Some-clause-closes g c = settled_closes c.in-Link.number _ _ _ _ _ _ _ _ _ c.in-Some.ensures.port c.settle.ensures.settled
 
 pub returns-in_default-take-clause-closes : goal.returns-in_default-take-clause-closes
 returns-in_default-take-clause-closes g c = closes_same _ _ c.in_default-take.ensures.none
+
+pub returns-in_default-clause-asks : goal.returns-in_default-clause-asks
+returns-in_default-clause-asks g c = asked_nothing _ _
+
+pub returns-in-Some-clause-asks : goal.returns-in-Some-clause-asks
+returns-in-Some-clause-asks g c =
+    let was = c.deref_mut.ensures.value in
+    let same = ap (λ (p : Port). p.left) c.note.ensures ∙ ap (λ (p : Port). p.left) was in
+    let over = ap (λ (p : Port). unfed_of (Some p)) c.note.ensures ∙ ap (λ (p : Port). unfed_of (Some p)) was in
+    taken_asks c.in-Link.number [] _ _ c.in-Some.port.value c.args.ports.now.all c.take.new.self.all c.settle.new.ports.all c.in-Some.ensures.port
+    (settled_asks c.in-Link.number [] c.args.hub.now c.settle.new.hub _ _ _ c.in-Some.port.value c.note.new.self c.take.new.self.all c.settle.new.ports.all (empty_slot _ _ _ _ c.in-Some.ensures.port)
+    (quiet_asks c.in-Link.number _ c.in-Some.port.value c.note.new.self (port_at c.take.new.self.all) same (λ e. over ∙ e) (λ may. inl (noted_may c.deref_mut.result.now c.note.new.self _ _ _ c.note.ensures (ap may_be_read was ∙ may)))) c.settle.ensures.settled)
+
+pub returns-in_default-take-clause-asks : goal.returns-in_default-take-clause-asks
+returns-in_default-take-clause-asks g c = same_asks _ _ _ c.in_default-take.ensures.none
+
+pub returns-in_default-clause-next : goal.returns-in_default-clause-next
+returns-in_default-clause-next g c = listed_same _ _ refl
+
+pub returns-in-Some-clause-next : goal.returns-in-Some-clause-next
+returns-in-Some-clause-next g c = listed_both _ _ _ (listed_same _ _ c.take.ensures.next) c.settle.ensures.next
+
+pub returns-in_default-take-clause-next : goal.returns-in_default-take-clause-next
+returns-in_default-take-clause-next g c = listed_same _ _ c.take.ensures.next

@@ -1,5 +1,6 @@
-use Rattle.std.proofs.Common.{◌≡◌}
-use Rattle.ipc_loop.specs.Ports.{port_at, open_at, OnlyCloses}
+use Rattle.std.proofs.Common.{◌≡◌, []}
+use Rattle.ipc_loop.specs.Ports.{port_at, open_at, OnlyCloses, KeepsListed}
+use Rattle.ipc_loop.specs.Asking.{Asks}
 use Rattle.ipc_loop.specs.Serving.{Serves, KeepsMarks}
 use Rattle.ipc_loop.proofs.turns.note_all.Given as goal
 
@@ -9,4 +10,6 @@ invariant-loop g l = record {
   marks : KeepsMarks l.fn.hub (open_at l.fn.ports.all) l.hub (open_at l.ports.all);
   turns : l.ports.turns ≡ l.fn.ports.turns;
   closes : OnlyCloses l.fn.ports.all l.ports.all;
+  next : KeepsListed l.fn.ports.next l.ports.next;
+  asks : Asks [] (g.H.Host.moves l.fn.host) (g.H.Host.moves l.host) (port_at l.fn.ports.all) (port_at l.ports.all);
 }

@@ -1,13 +1,14 @@
-use Rattle.std.proofs.Common.{refl, sym, subst, ◌∙◌}
+use Rattle.std.proofs.Common.{[], refl, sym, subst, ◌∙◌}
 use Rattle.ipc_loop.specs.declared.accepting.Bounds.{Bounds}
 use Rattle.ipc_loop.specs.Bounds.{IsWithin}
 use Rattle.ipc_loop.proofs.ServingLemmas.{served_nothing}
 use Rattle.ipc_loop.proofs.OpeningLemmas.{goes_same, goes_both, adds_goes, adds_within}
 use Rattle.ipc_loop.proofs.AcceptingLemmas.{opens_both, opens_none}
+use Rattle.ipc_loop.proofs.AskingLemmas.{asked_nothing, asks_both}
 use Rattle.ipc_loop.proofs.accepting.Accepting.accept_some.Goals as goal
 
 pub loop-init : goal.loop-init
-loop-init g c = record { serves = opens_none _ _ _ _ _ _ refl (served_nothing _ _ _); marks = λ i owed. owed; bounds = refl; within = λ w. w; continues = goes_same _; turns = refl }
+loop-init g c = record { serves = opens_none _ _ _ _ _ _ refl (served_nothing _ _ _); marks = λ i owed. owed; bounds = refl; within = λ w. w; continues = goes_same _; turns = refl; next = refl; asks = asked_nothing _ _ }
 
 pub returns-then-not-goes_on-clause-serves : goal.returns-then-not-goes_on-clause-serves
 returns-then-not-goes_on-clause-serves g c = opens_both _ _ _ _ _ _ _ _ _ c.loop.invariant.continues (adds_goes _ _ c.accept-accepted.ensures.adds) c.loop.invariant.serves c.accept-accepted.ensures.serves
@@ -29,4 +30,9 @@ loop-preserved g c = record {
   within = λ w. subst (λ (b : Bounds). IsWithin b c.accept-accepted.new.ports.all) c.loop.invariant.bounds (adds_within c.loop.self.bounds _ _ (c.if-not-is_open.ensures.room refl) c.accept-accepted.ensures.adds (subst (λ (b : Bounds). IsWithin b c.loop.ports.all) (sym c.loop.invariant.bounds) (c.loop.invariant.within w)));
   continues = goes_both _ _ _ c.loop.invariant.continues (adds_goes _ _ c.accept-accepted.ensures.adds);
   turns = c.accept-accepted.ensures.turns ∙ c.loop.invariant.turns;
+  next = c.accept-accepted.ensures.next ∙ c.loop.invariant.next;
+  asks = asks_both [] [] _ _ _ _ _ _ c.loop.invariant.asks c.accept-accepted.ensures.asks;
 }
+
+pub returns-then-not-goes_on-clause-asks : goal.returns-then-not-goes_on-clause-asks
+returns-then-not-goes_on-clause-asks g c = asks_both [] [] _ _ _ _ _ _ c.loop.invariant.asks c.accept-accepted.ensures.asks

@@ -1,5 +1,6 @@
-use Rattle.std.proofs.Common.{◌≡◌}
-use Rattle.ipc_loop.specs.Ports.{open_at, Continues}
+use Rattle.std.proofs.Common.{◌≡◌, []}
+use Rattle.ipc_loop.specs.Ports.{open_at, port_at, Continues}
+use Rattle.ipc_loop.specs.Asking.{Asks}
 use Rattle.ipc_loop.specs.Bounds.{IsWithin}
 use Rattle.ipc_loop.specs.Serving.{ServesAndOpens, KeepsMarks}
 use Rattle.ipc_loop.proofs.accepting.Accepting.accept_some.Given as goal
@@ -12,4 +13,6 @@ invariant-loop g l = record {
   within : IsWithin l.fn.self.bounds l.fn.ports.all → IsWithin l.fn.self.bounds l.ports.all;
   continues : Continues l.fn.ports.all l.ports.all;
   turns : l.ports.turns ≡ l.fn.ports.turns;
+  next : l.ports.next ≡ l.fn.ports.next;
+  asks : Asks [] (g.H.Host.moves l.fn.host) (g.H.Host.moves l.host) (port_at l.fn.ports.all) (port_at l.ports.all);
 }

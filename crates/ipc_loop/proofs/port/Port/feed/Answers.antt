@@ -8,7 +8,7 @@ use Rattle.ipc_loop.proofs.RequestLemmas.{feed_counts}
 use Rattle.ipc_loop.proofs.port.Port.feed.Goals as goal
 
 pub returns-clause-fed : goal.returns-clause-fed
-returns-clause-fed c = fed_port _ _ _ c.args.self.now c.note_fed.new.self _ c.feed_piece-fed.result c.requires c.feed_piece-fed.ensures.ok c.feed_piece-fed.ensures.err c.note_fed.ensures.err c.note_fed.ensures.over (c.note_fed.ensures.left ∙ ap (λ (p : Port). p.left) c.count.ensures)
+returns-clause-fed c = fed_port _ _ _ c.args.self.now c.note_fed.new.self _ c.feed_piece-fed.result c.requires c.feed_piece-fed.ensures.ok c.feed_piece-fed.ensures.err c.note_fed.ensures.err c.note_fed.ensures.over (λ e is. c.note_fed.ensures.why e (ap (λ (p : Port). p.ending) c.count.ensures ∙ c.requires) is) (c.note_fed.ensures.left ∙ ap (λ (p : Port). p.left) c.count.ensures)
 
 pub returns-clause-steps : goal.returns-clause-steps
 returns-clause-steps c = fed_portion _ _ _ _ c.args.self.now c.note_fed.new.self c.args.piece.now c.feed_piece-fed.result c.feed_piece-fed.ensures.ok c.feed_piece-fed.ensures.bound c.feed_piece-fed.ensures.err (c.note_fed.ensures.left ∙ ap (λ (p : Port). p.left) c.count.ensures)

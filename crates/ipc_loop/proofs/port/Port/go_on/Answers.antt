@@ -1,5 +1,7 @@
-use Rattle.std.proofs.Common.{refl, arith}
+use Rattle.std.proofs.Common.{◌≡◌, true, false, ℕ, List, Option, refl, arith, subst}
+use Rattle.ipc_loop.specs.Portions.{IsUnder}
 use Rattle.ipc_loop.proofs.MoveLemmas.{go_nowhere}
+use Rattle.ipc_loop.proofs.OfferingLemmas.{no_reads}
 use Rattle.ipc_loop.proofs.ServingLemmas.{stays_serve, port_both}
 use Rattle.ipc_loop.proofs.PortionLemmas.{same_steps, steps_both, same_bound, adds_bound, bound_both, portion_collects, portion_adds}
 use Rattle.ipc_loop.proofs.port.Port.go_on.Goals as goal
@@ -24,3 +26,9 @@ returns-clause-collects g c = steps_both _ _ _ _ _ _ (portion_collects _ _ _ _ _
 
 pub returns-clause-bound : goal.returns-clause-bound
 returns-clause-bound g c = bound_both _ _ _ (adds_bound _ _ _ (c.if-not-has_room.ensures.under refl) (portion_adds c.args.number 9 c.args.hub.now c.start.new.hub c.args.self.now c.start.new.self c.take.new.self c.requires (omega arith) c.start.ensures.steps c.take.ensures.adds)) c.step_on.ensures.bound
+
+pub returns-then-not-has_room-clause-asks : goal.returns-then-not-has_room-clause-asks
+returns-then-not-has_room-clause-asks g c = no_reads _ _ _ (λ left heard is few readable stepped. let wrong : false ≡ true = c.if-not-has_room.ensures.room left heard is few in absurd cc)
+
+pub returns-clause-idle : goal.returns-clause-idle
+returns-clause-idle g c = λ left is le. absurd (omega (arith, subst (λ (x : Option (List ℕ)). IsUnder x) is (c.if-not-has_room.ensures.under refl), le))

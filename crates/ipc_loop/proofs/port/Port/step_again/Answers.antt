@@ -1,4 +1,4 @@
-use Rattle.std.proofs.Common.{[], ◌+◌, arith, refl}
+use Rattle.std.proofs.Common.{[], ◌+◌, arith}
 use Rattle.ipc_loop.proofs.MoveLemmas.{go_nowhere, adds_nothing}
 use Rattle.ipc_loop.proofs.ServingLemmas.{feeds_serve, port_both}
 use Rattle.ipc_loop.proofs.PortionLemmas.{portion_collects, portion_adds}

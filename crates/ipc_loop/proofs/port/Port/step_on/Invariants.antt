@@ -1,4 +1,4 @@
-use Rattle.std.proofs.Common.{Option, List}
+use Rattle.std.proofs.Common.{◌≡◌, Option, List}
 use Rattle.ipc_loop.specs.Moves.{Moved}
 use Rattle.ipc_loop.specs.Serving.{ServesPort}
 use Rattle.ipc_loop.specs.Portions.{StepsAndCollects, KeepsBound}
@@ -9,4 +9,5 @@ invariant-loop l = record {
   serves : (moves : Option (List Moved)) → ServesPort l.fn.number l.fn.hub moves l.fn.self l.hub moves l.self;
   collects : StepsAndCollects l.fn.number l.fn.hub l.hub l.self;
   bound : KeepsBound l.fn.self.left l.self.left;
+  may_write : l.self.may_write ≡ l.fn.self.may_write;
 }

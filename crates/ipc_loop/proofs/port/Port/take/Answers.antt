@@ -1,4 +1,4 @@
-use Rattle.std.proofs.Common.{inl, inr, refl, sym, ap, ◌∙◌}
+use Rattle.std.proofs.Common.{ℕ, List, ◌++◌, Option, Some, None, cond, inl, inr, refl, sym, ap, ◌∙◌}
 use Rattle.ipc_loop.specs.Ports.{Port}
 use Rattle.ipc_loop.proofs.MoveLemmas.{go_nowhere}
 use Rattle.ipc_loop.proofs.ServingLemmas.{stays_serve}
@@ -41,3 +41,8 @@ returns-in-Err-clause-collects c = cut_collects _ _ _ _ c.in-Err.ensures.hub c.c
 
 pub returns-in-Err-clause-adds : goal.returns-in-Err-clause-adds
 returns-in-Err-clause-adds c = adds_to_none _ _ _ c.cut.ensures.cut
+
+pub returns-in-Ok-clause-kept : goal.returns-in-Ok-clause-kept
+returns-in-Ok-clause-kept c =
+    let now = behind_left c.self.inside.is_cut c.self.inside.unsent c.in-Ok.ensures.ok.0 _ c.if-self.false c.in-Ok.ensures.ok.1 in
+    inr (inl (c.self.inside.unsent ++ c.in-Ok.ensures.ok.0, ap (λ (p : Port). record p { left = cond c.self.inside.is_cut None (Some c.take.new.self) }) c.self.view_is ∙ ap (λ (left : Option (List ℕ)). record c.args.self.now { left = left }) now))

@@ -1,4 +1,4 @@
-use Rattle.std.proofs.Common.{◌≡◌, ◌≤◌, length, List, Option, Some, None, set, slice_get, refl, ap, sym, subst, ◌∙◌, rules}
+use Rattle.std.proofs.Common.{◌≡◌, ◌≤◌, length, List, Option, Some, None, set, slice_get, ap, sym, subst, ◌∙◌, rules}
 use Rattle.ipc_hub.specs.Marking.{is_set}
 use Rattle.ipc_loop.specs.Ports.{Port, has_work, how_many_open}
 use Rattle.ipc_loop.specs.Standing.{Ports, CanBePut, seen}

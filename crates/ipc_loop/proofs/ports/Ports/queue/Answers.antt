@@ -1,4 +1,4 @@
-use Rattle.std.proofs.Common.{◌≡◌, ◌<◌, ℕ, Bool, List, Option, true, false, Some, None, length, set, slice_get, sym, ap, subst, ◌∙◌}
+use Rattle.std.proofs.Common.{◌≡◌, ◌<◌, ℕ, Bool, List, Option, true, false, Some, None, set, slice_get, sym, ap, subst, ◌∙◌}
 use Rattle.std.specs.Prelude.{unwrap_or}
 use Rattle.std.specs.Vec.{vec_capacity}
 use Rattle.ipc_terms.proofs.Lists.{stands_there}
@@ -6,6 +6,8 @@ use Rattle.ipc_hub.specs.Marking.{is_set}
 use Rattle.ipc_loop.specs.Standing.{Ports, AreKept, CanBePut, seen}
 use Rattle.ipc_loop.proofs.StandingLemmas.{set_here}
 use Rattle.ipc_loop.proofs.KeepingLemmas.{kept_more, within_slots, queued_back}
+use Rattle.ipc_loop.specs.Ports.{KeepsListed}
+use Rattle.ipc_loop.proofs.AskingLemmas.{listed_more}
 use Rattle.ipc_loop.proofs.ports.Ports.queue.Goals as goal
 
 pub invariant_of-self : goal.invariant_of-self
@@ -26,3 +28,6 @@ pub returns-clause-back : goal.returns-clause-back
 returns-clause-back c =
     let here : slice_get (seen c.self.inside.all.items) c.args.number ≡ Some None = subst (λ (p : Ports). slice_get p.all c.args.number ≡ Some None) (sym c.self.view_is) c.requires.out in
     λ off. queued_back _ c.args.number _ (set_here c.self.inside.queued.items c.args.number (subst (λ (n : ℕ). c.args.number < n) (sym c.self.invariant.flags) (within_slots _ c.args.number None here))) off
+
+pub returns-clause-next : goal.returns-clause-next
+returns-clause-next c = subst (λ (zs : List ℕ). KeepsListed zs c.push_reserved.new.self.items) (ap (λ (p : Ports). p.next) c.self.view_is) (listed_more _ _ c.args.number c.push_reserved.ensures.items)

@@ -1,12 +1,15 @@
-use Rattle.std.proofs.Common.{List, Option, refl, sym, subst, ◌∙◌}
+use Rattle.std.proofs.Common.{List, [], Option, refl, sym, subst, ◌∙◌}
 use Rattle.ipc_loop.specs.declared.accepting.Bounds.{Bounds}
 use Rattle.ipc_loop.specs.Ports.{Port, port_at, open_at, Continues}
+use Rattle.ipc_loop.specs.Moves.{Moved}
+use Rattle.ipc_loop.specs.Asking.{Asks, AsksAll}
 use Rattle.ipc_loop.specs.Bounds.{IsWithin}
 use Rattle.ipc_loop.specs.Server.{Server}
 use Rattle.ipc_loop.specs.Serving.{Serves, ServesAndOpens, IsOwedByMark, LeavesNothing}
 use Rattle.ipc_loop.proofs.ServingLemmas.{served_nothing, serves_both, moved_so}
 use Rattle.ipc_loop.proofs.OpeningLemmas.{closes_same, closes_both, closes_goes, closes_within, goes_same, goes_both}
 use Rattle.ipc_loop.proofs.AcceptingLemmas.{opens_both, opens_none}
+use Rattle.ipc_loop.proofs.AskingLemmas.{asks_both, asks_all, serves_stop, listed_both, listed_same}
 use Rattle.ipc_loop.proofs.server.Server.round.Goals as goal
 
 pub returns-in_err-wait-clause-serves : goal.returns-in_err-wait-clause-serves
@@ -60,3 +63,14 @@ returns-clause-continues g c =
     let closes = closes_both _ _ _ (closes_same _ _ c.start_round.ensures.all) (closes_both _ _ _ c.give_turns.ensures.closes c.answer_all.ensures.closes) in
     subst (λ (s : Server). Continues s.ports c.answer_all.new.ports.all) c.self.view_is
     (goes_both _ _ _ (goes_both _ _ _ (closes_goes _ _ c.note_all-is_told.ensures.closes) c.accept_some.ensures.continues) (closes_goes _ _ closes))
+
+pub returns-clause-asks : goal.returns-clause-asks
+returns-clause-asks g c =
+    let noted = subst (λ (w : Option (List Moved)). Asks [] w (g.H.Host.moves c.note_all-is_told.new.host) (port_at c.self.inside.ports.all) (port_at c.note_all-is_told.new.ports.all)) (c.wait.ensures.moved ∙ c.moment-now.ensures.moved) c.note_all-is_told.ensures.asks in
+    let accepted = asks_both [] [] _ _ _ _ _ _ noted c.accept_some.ensures.asks in
+    let turned = subst (λ (w : Option (List Moved)). Asks c.start_round.new.self.turns w (g.H.Host.moves c.give_turns.new.host) (port_at c.accept_some.new.ports.all) (port_at c.give_turns.new.ports.all)) c.moment-later.ensures.moved
+    (subst (λ (zs : List (Option Port)). Asks c.start_round.new.self.turns (g.H.Host.moves c.moment-later.new.self) (g.H.Host.moves c.give_turns.new.host) (port_at zs) (port_at c.give_turns.new.ports.all)) c.start_round.ensures.all c.give_turns.ensures.asks) in
+    let listed = listed_both _ _ _ c.note_all-is_told.ensures.next (listed_same _ _ (c.start_round.ensures.turns ∙ c.accept_some.ensures.next)) in
+    subst (λ (s : Server). AsksAll s.turns (g.H.Host.moves c.args.host.now) (g.H.Host.moves c.answer_all.new.host) (port_at s.ports) (port_at c.answer_all.new.ports.all)) c.self.view_is
+    (asks_all c.start_round.new.self.turns c.self.inside.ports.next _ _ _ (port_at c.self.inside.ports.all) (port_at c.give_turns.new.ports.all) (port_at c.answer_all.new.ports.all) listed (serves_stop _ _ _ _ _ _ c.answer_all.ensures.serves)
+    (asks_both [] c.start_round.new.self.turns _ _ _ _ _ _ accepted turned) c.answer_all.ensures.refuses)
