@@ -249,10 +249,20 @@ def compare_commands(it):
         it.same(f"{word} in SCRIPTS.md", scripts[word], code[word])
 
 
+# Where the clients tell their version, and how.
+CLIENT_VERSIONS = {
+    "clients/Makefile": r"(?m)^VERSION = ([\d.]+)$",
+    "clients/c/mqserve.h": r'(?m)^#define MQS_VERSION "([\d.]+)"$',
+    "clients/python/mqserve.py": r'(?m)^VERSION = "([\d.]+)"$',
+}
+
+
 def compare_versions(it):
     [program] = re.findall(r'\.version\("([\d.]+)"\)', text("crates/ipc_program/src/arguments.rt"))
     it.same("version in rows/mqserve/version.out", text("rows/mqserve/version.out"), f"mqserve {program}\n")
     it.same("newest version in CHANGELOG.md", re.findall(r"(?m)^## ([\d.]+)", text("CHANGELOG.md"))[:1], [program])
+    for path, told in CLIENT_VERSIONS.items():
+        it.same(f"version in {path}", re.findall(told, text(path)), [program])
 
 
 def measured_speeds():
