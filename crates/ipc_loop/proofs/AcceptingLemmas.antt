@@ -1,12 +1,11 @@
 -- What accepting links brings.
 use Rattle.std.proofs.Common.{◌≡◌, ℕ, zero, suc, ◌+◌, ◌-◌, ◌≤◌, List, [], ◌∷◌, ◌++◌, length, Option, Some, refl, sym, ap, subst, ◌∙◌, arith}
-use Rattle.ipc_hub.specs.Hub.{Hub, untaken_at}
+use Rattle.ipc_hub.specs.Hub.{Hub}
 use Rattle.std.specs.declared.io.ErrorKind.{ErrorKind}
 use Rattle.ipc_loop.specs.Moves.{Moved, LinkOpened, NobodyCame, GoOn}
-use Rattle.ipc_loop.specs.Ports.{new_port, port_at, open_at, Continues}
-use Rattle.ipc_loop.specs.Serving.{ServesOpening, Serves, ServesAndOpens, KeepsMarks, numbers_from}
+use Rattle.ipc_loop.specs.Ports.{new_port, port_at, Continues}
+use Rattle.ipc_loop.specs.Serving.{ServesOpening, Serves, ServesAndOpens, numbers_from}
 use Rattle.ipc_loop.proofs.PortLemmas.{Slots, pushed_port}
-use Rattle.ipc_loop.proofs.OwingLemmas.{pushed_keeps}
 use Rattle.ipc_loop.proofs.ServingLemmas.{serves_both, opening_both, opening_so, nobody_serves, link_opened}
 use Rattle.ipc_loop.proofs.OpeningLemmas.{one_longer}
 
@@ -51,7 +50,3 @@ accepted_serves h h' m m' xs ys more went s =
     (subst (λ (n : ℕ). ServesOpening (numbers_from (length xs) n) h m (port_at xs) h' m' (port_at (xs ++ Some new_port ∷ []))) one
     (opening_so (length xs ∷ []) h h' m m' (port_at xs) (port_at xs) (port_at xs) (port_at (xs ++ Some new_port ∷ [])) (λ i. refl) (λ i. pushed_port xs i)
     (opening_both [] (length xs ∷ []) h h' h' m m m' (port_at xs) (port_at xs) (port_at xs) s (link_opened (length xs) h' m m' (port_at xs) went))))
-
--- its connection was answered nothing
-pub accepted_keeps : (h h' : Hub) (xs ys : Slots) → untaken_at h' (length xs) ≡ [] → ys ≡ xs ++ Some new_port ∷ [] → KeepsMarks h (open_at xs) h' (open_at xs) → KeepsMarks h (open_at xs) h' (open_at ys)
-accepted_keeps h h' xs ys none more keeps = subst (λ (zs : Slots). KeepsMarks h (open_at xs) h' (open_at zs)) (sym more) (λ i owed. pushed_keeps h' xs none i (keeps i owed))

@@ -3,15 +3,15 @@ use Rattle.std.proofs.Common.{◌≡◌, ◌⊎◌, inl, inr, ℕ, Bool, true, f
 use Rattle.std.specs.Prelude.{is_none, unwrap_or}
 use Rattle.std.proofs.lemmas.Bool.{eqb-true, eq-eqb}
 use Rattle.std.specs.declared.io.ErrorKind.{ErrorKind}
-use Rattle.ipc_hub.specs.Hub.{Hub}
+use Rattle.ipc_hub.specs.Hub.{Hub, is_over_at, untaken_at}
 use Rattle.ipc_loop.specs.declared.ending.Ending.{Ending}
 use Rattle.ipc_loop.specs.declared.ending.Ending.TheVariants.{NoMemory}
 use Rattle.ipc_loop.specs.Moves.{Moved, LinkOpened, LinkGave, LinkTook, LinkClosed, NobodyCame, GaveNothing, TookNothing, GoOn, is_asked, is_offered, left_by}
 use Rattle.ipc_loop.specs.Ports.{Port, new_port, port_at, with_port, left_of, unfed_of, is_all, stands_in, KeepsListed}
 use Rattle.ipc_loop.specs.Standing.{TakesOut, IsOut, IsSettled}
-use Rattle.ipc_loop.specs.Serving.{ServesPort, Serves}
-use Rattle.ipc_loop.specs.Asking.{IsLeft, OffersNothing, may_be_read, IsServed, IsStillRead, TakesTurn, OffersPort, Refuses, Asks, AsksAll}
-use Rattle.ipc_loop.proofs.MoveLemmas.{go_both, go_nowhere, or_or}
+use Rattle.ipc_loop.specs.Serving.{ServesPort, Serves, is_done, has_no_more}
+use Rattle.ipc_loop.specs.Asking.{IsLeft, OffersNothing, how_many_left, has_left, may_be_read, may_be_written, IsServed, IsOffered, IsStillRead, IsStillWritten, TakesTurn, OffersPort, Refuses, Asks, AsksAll}
+use Rattle.ipc_loop.proofs.MoveLemmas.{go_both, go_nowhere, or_or, or_left, or_right}
 use Rattle.ipc_loop.proofs.PassingLemmas.{passes_stop}
 use Rattle.ipc_loop.proofs.PortLemmas.{Slots, slot_set, slot_none, taken_out, stands_both, pushed_port}
 
@@ -74,14 +74,6 @@ refuses_both m₀ m₁ m₂ p₀ p₁ p₂ a b = record {
 
 -- ---- who is served
 
-or_left : (a b c : Bool) → c ≡ (a || b) → a ≡ true → c ≡ true
-or_left true b c e on = e
-or_left false b c e on = absurd cc
-
-or_right : (a b c : Bool) → c ≡ (a || b) → b ≡ true → c ≡ true
-or_right true b c e on = e
-or_right false b c e on = e ∙ on
-
 pub served_first : (i : ℕ) (xs ys : List Moved) (p q : Option Port) → (unfed_of p ≡ None → unfed_of q ≡ None) → IsServed i xs p → IsServed i (xs ++ ys) q
 served_first i xs ys p q ended (inl asked) = inl (or_left (is_asked i xs) (is_asked i ys) (is_asked i (xs ++ ys)) (asked_both i xs ys) asked)
 served_first i xs ys p q ended (inr (inl offered)) = inr (inl (or_left (is_offered i 1048576 xs) (is_offered i 1048576 ys) (is_offered i 1048576 (xs ++ ys)) (offered_both i 1048576 xs ys) offered))
@@ -91,6 +83,12 @@ pub served_second : (i : ℕ) (xs ys : List Moved) (q : Option Port) → IsServe
 served_second i xs ys q (inl asked) = inl (or_right (is_asked i xs) (is_asked i ys) (is_asked i (xs ++ ys)) (asked_both i xs ys) asked)
 served_second i xs ys q (inr (inl offered)) = inr (inl (or_right (is_offered i 1048576 xs) (is_offered i 1048576 ys) (is_offered i 1048576 (xs ++ ys)) (offered_both i 1048576 xs ys) offered))
 served_second i xs ys q (inr (inr over)) = inr (inr over)
+
+pub offered_first : (i : ℕ) (xs ys : List Moved) (p : Port) → IsOffered i xs p → IsOffered i (xs ++ ys) p
+offered_first i xs ys p on = or_left (is_offered i (how_many_left p.left) xs) (is_offered i (how_many_left p.left) ys) (is_offered i (how_many_left p.left) (xs ++ ys)) (offered_both i (how_many_left p.left) xs ys) on
+
+pub offered_second : (i : ℕ) (xs ys : List Moved) (p q : Port) → q.left ≡ p.left → IsOffered i ys q → IsOffered i (xs ++ ys) p
+offered_second i xs ys p q same on = or_right (is_offered i (how_many_left p.left) xs) (is_offered i (how_many_left p.left) ys) (is_offered i (how_many_left p.left) (xs ++ ys)) (offered_both i (how_many_left p.left) xs ys) (ap (λ (x : Option (List ℕ)). is_offered i (how_many_left x) ys) (sym same) ∙ on)
 
 not_either : (a b c : Bool) → c ≡ (a || b) → a ≡ false → b ≡ false → c ≡ false
 not_either true b c e f g = absurd cc
@@ -102,8 +100,16 @@ asks_both s t m₀ m₁ m₂ p₀ p₁ p₂ a b = record {
   went = go_both m₀ m₁ m₂ a.moved b.moved a.went b.went;
   left = λ i. is_left_both i a.moved b.moved (left_of (p₀ i)) (left_of (p₁ i)) (left_of (p₂ i)) (a.left i) (b.left i);
   ended = λ i over. b.ended i (a.ended i over);
+  offered = λ i port there may. begun i port (a.offered i port there may);
   asked = λ i port there may. first i (a.asked i port there may);
 } where
+  begun : (i : ℕ) (p : Port) → IsOffered i a.moved p ⊎ (IsStillWritten p (p₁ i) × (stands_in i s ≡ false)) → IsOffered i (a.moved ++ b.moved) p ⊎ (IsStillWritten p (p₂ i) × (stands_in i (s ++ t) ≡ false))
+  begun i p (inl on) = inl (offered_first i a.moved b.moved p on)
+  begun i p (inr ((q, (there, (may, same))), none)) = then (b.offered i q there may) where
+    then : IsOffered i b.moved q ⊎ (IsStillWritten q (p₂ i) × (stands_in i t ≡ false)) → IsOffered i (a.moved ++ b.moved) p ⊎ (IsStillWritten p (p₂ i) × (stands_in i (s ++ t) ≡ false))
+    then (inl on) = inl (offered_second i a.moved b.moved p q same on)
+    then (inr ((r, (there', (may', same'))), none')) = inr ((r, (there', (may', same' ∙ same))), not_either (stands_in i s) (stands_in i t) (stands_in i (s ++ t)) (stands_both i s t) none none')
+
   first : (i : ℕ) → IsServed i a.moved (p₁ i) ⊎ (IsStillRead (p₁ i) × (stands_in i s ≡ false)) → IsServed i (a.moved ++ b.moved) (p₂ i) ⊎ (IsStillRead (p₂ i) × (stands_in i (s ++ t) ≡ false))
   first i (inl served) = inl (served_first i a.moved b.moved (p₁ i) (p₂ i) (b.ended i) served)
   first i (inr still) = second (b.asked i still.0.0 still.0.1.0 still.0.1.1) where
@@ -117,26 +123,41 @@ not_there a true f e = let wrong : true ≡ false = sym (f refl) ∙ e in absurd
 not_there a false f e = refl
 
 pub asks_fewer : (s t : List ℕ) (m m' : Moves) (p p' : Ports) → ((i : ℕ) → stands_in i t ≡ true → stands_in i s ≡ true) → Asks s m m' p p' → Asks t m m' p p'
-asks_fewer s t m m' p p' fewer a = record { moved = a.moved; went = a.went; left = a.left; ended = a.ended; asked = λ i port there may. at i (a.asked i port there may) } where
+asks_fewer s t m m' p p' fewer a = record { moved = a.moved; went = a.went; left = a.left; ended = a.ended; offered = λ i port there may. still i port (a.offered i port there may); asked = λ i port there may. at i (a.asked i port there may) } where
+  still : (i : ℕ) (q : Port) → IsOffered i a.moved q ⊎ (IsStillWritten q (p' i) × (stands_in i s ≡ false)) → IsOffered i a.moved q ⊎ (IsStillWritten q (p' i) × (stands_in i t ≡ false))
+  still i q (inl on) = inl on
+  still i q (inr more) = inr (more.0, not_there (stands_in i s) (stands_in i t) (fewer i) more.1)
+
   at : (i : ℕ) → IsServed i a.moved (p' i) ⊎ (IsStillRead (p' i) × (stands_in i s ≡ false)) → IsServed i a.moved (p' i) ⊎ (IsStillRead (p' i) × (stands_in i t ≡ false))
   at i (inl served) = inl served
   at i (inr still) = inr (still.0, not_there (stands_in i s) (stands_in i t) (fewer i) still.1)
 
--- who can't be read needs no turn
-pub asks_gone : (k : ℕ) (t : List ℕ) (m m' : Moves) (p p' : Ports) → ((port : Port) → p' k ≡ Some port → may_be_read port ≡ true → ⊥) → Asks t m m' p p' → Asks (t ++ k ∷ []) m m' p p'
-asks_gone k t m m' p p' gone a = record { moved = a.moved; went = a.went; left = a.left; ended = a.ended; asked = λ i port there may. at i (eqb k i) refl (a.asked i port there may) } where
+-- who can be neither read nor written needs no turn
+pub asks_gone : (k : ℕ) (t : List ℕ) (m m' : Moves) (p p' : Ports) → ((port : Port) → p' k ≡ Some port → may_be_read port ≡ true → ⊥) → ((port : Port) → p' k ≡ Some port → may_be_written port ≡ true → ⊥) → Asks t m m' p p' → Asks (t ++ k ∷ []) m m' p p'
+asks_gone k t m m' p p' gone shut a = record { moved = a.moved; went = a.went; left = a.left; ended = a.ended; offered = λ i port there may. still i port (eqb k i) refl (a.offered i port there may); asked = λ i port there may. at i (eqb k i) refl (a.asked i port there may) } where
+  still : (i : ℕ) (q : Port) (here : Bool) → eqb k i ≡ here → IsOffered i a.moved q ⊎ (IsStillWritten q (p' i) × (stands_in i t ≡ false)) → IsOffered i a.moved q ⊎ (IsStillWritten q (p' i) × (stands_in i (t ++ k ∷ []) ≡ false))
+  still i q here is (inl on) = inl on
+  still i q true is (inr more) = absurd (shut more.0.0 (ap p' (eqb-true k i is) ∙ more.0.1.0) more.0.1.1.0)
+  still i q false is (inr more) = inr (more.0, not_either (stands_in i t) (stands_in i (k ∷ [])) (stands_in i (t ++ k ∷ [])) (stands_both i t (k ∷ [])) more.1 (ap (λ (b : Bool). cond b true false) is))
+
   at : (i : ℕ) (here : Bool) → eqb k i ≡ here → IsServed i a.moved (p' i) ⊎ (IsStillRead (p' i) × (stands_in i t ≡ false)) → IsServed i a.moved (p' i) ⊎ (IsStillRead (p' i) × (stands_in i (t ++ k ∷ []) ≡ false))
   at i here is (inl served) = inl served
   at i true is (inr still) = absurd (gone still.0.0 (ap p' (eqb-true k i is) ∙ still.0.1.0) still.0.1.1)
   at i false is (inr still) = inr (still.0, not_either (stands_in i t) (stands_in i (k ∷ [])) (stands_in i (t ++ k ∷ [])) (stands_both i t (k ∷ [])) still.1 (ap (λ (b : Bool). cond b true false) is))
 
 -- nor does a link whose port is taken out, or that is still to come
-pub out_unread : (k : ℕ) (xs ys : Slots) → IsOut xs k ys → (port : Port) → port_at ys k ≡ Some port → may_be_read port ≡ true → ⊥
-out_unread k xs ys out port e may = at (slice_get ys k) refl e where
+out_quiet : (k : ℕ) (xs ys : Slots) (test : Port → Bool) → IsOut xs k ys → test new_port ≡ false → (port : Port) → port_at ys k ≡ Some port → test port ≡ true → ⊥
+out_quiet k xs ys test out quiet port e on = at (slice_get ys k) refl e where
   at : (s : Option (Option Port)) → slice_get ys k ≡ s → unwrap_or s (Some new_port) ≡ Some port → ⊥
-  at None is f = let same : new_port ≡ port = cc in let wrong : false ≡ true = ap may_be_read same ∙ may in absurd cc
+  at None is f = let same : new_port ≡ port = cc in let wrong : false ≡ true = sym quiet ∙ ap test same ∙ on in absurd cc
   at (Some None) is f = absurd cc
   at (Some (Some q)) is f = out.here q is
+
+pub out_unread : (k : ℕ) (xs ys : Slots) → IsOut xs k ys → (port : Port) → port_at ys k ≡ Some port → may_be_read port ≡ true → ⊥
+out_unread k xs ys out port e may = out_quiet k xs ys may_be_read out refl port e may
+
+pub out_unwritten : (k : ℕ) (xs ys : Slots) → IsOut xs k ys → (port : Port) → port_at ys k ≡ Some port → may_be_written port ≡ true → ⊥
+out_unwritten k xs ys out port e may = out_quiet k xs ys may_be_written out refl port e may
 
 -- the same ports, told in another way
 pub asks_so : (t : List ℕ) (m m' : Moves) (p q p' q' : Ports) → ((i : ℕ) → q i ≡ p i) → ((i : ℕ) → q' i ≡ p' i) → Asks t m m' p p' → Asks t m m' q q'
@@ -145,6 +166,7 @@ asks_so t m m' p q p' q' before later a = record {
   went = a.went;
   left = λ i. subst (λ (x : Option Port). IsLeft i a.moved (left_of x) (left_of (q' i))) (sym (before i)) (subst (λ (x : Option Port). IsLeft i a.moved (left_of (p i)) (left_of x)) (sym (later i)) (a.left i));
   ended = λ i over. ap unfed_of (later i) ∙ a.ended i (ap unfed_of (sym (before i)) ∙ over);
+  offered = λ i port there may. subst (λ (x : Option Port). IsOffered i a.moved port ⊎ (IsStillWritten port x × (stands_in i t ≡ false))) (sym (later i)) (a.offered i port (sym (before i) ∙ there) may);
   asked = λ i port there may. subst (λ (x : Option Port). IsServed i a.moved x ⊎ (IsStillRead x × (stands_in i t ≡ false))) (sym (later i)) (a.asked i port (sym (before i) ∙ there) may);
 }
 
@@ -162,6 +184,7 @@ asks_none moved m m' p went none = record {
   went = went;
   left = λ i. is_left_same i moved (left_of (p i)) (none i);
   ended = λ i over. over;
+  offered = λ i port there may. inr ((port, (there, (may, refl))), refl);
   asked = λ i port there may. inr ((port, (there, may)), refl);
 }
 
@@ -177,8 +200,13 @@ asks_all s t m₀ m₁ m₂ p₀ p₁ p₂ fewer ended a b = record {
   moved = a.moved ++ b.moved;
   went = go_both m₀ m₁ m₂ a.moved b.moved a.went b.went;
   left = λ i. is_left_both i a.moved b.moved (left_of (p₀ i)) (left_of (p₁ i)) (left_of (p₂ i)) (a.left i) (b.left i);
+  offered = λ i port turn there may. still i port (fewer i turn) (a.offered i port there may);
   asked = λ i port turn there may. at i (fewer i turn) (a.asked i port there may);
 } where
+  still : (i : ℕ) (q : Port) → stands_in i s ≡ true → IsOffered i a.moved q ⊎ (IsStillWritten q (p₁ i) × (stands_in i s ≡ false)) → IsOffered i (a.moved ++ b.moved) q
+  still i q turn (inl on) = offered_first i a.moved b.moved q on
+  still i q turn (inr more) = let wrong : true ≡ false = sym turn ∙ more.1 in absurd cc
+
   at : (i : ℕ) → stands_in i s ≡ true → IsServed i a.moved (p₁ i) ⊎ (IsStillRead (p₁ i) × (stands_in i s ≡ false)) → IsServed i (a.moved ++ b.moved) (p₂ i)
   at i turn (inl served) = served_first i a.moved b.moved (p₁ i) (p₂ i) (ended i) served
   at i turn (inr still) = let wrong : true ≡ false = sym turn ∙ still.1 in absurd cc
@@ -203,8 +231,13 @@ turn_asks k m m' p p' o stops t = record {
   went = t.went;
   left = λ i. left_at i (eqb k i) refl (o i);
   ended = λ i. ended_at (eqb k i) (o i);
+  offered = λ i port there may. offered_at i (eqb k i) refl (o i) port there may;
   asked = λ i port there may. asked_at i (eqb k i) refl (o i) port there may;
 } where
+  offered_at : (i : ℕ) (here : Bool) → eqb k i ≡ here → (x : Option Port) (port : Port) → cond here (Some p) x ≡ Some port → may_be_written port ≡ true → IsOffered i t.moved port ⊎ (IsStillWritten port (cond here (Some p') x) × (cond here true false ≡ false))
+  offered_at i true is x port there may = let same : p ≡ port = cc in inl (subst (λ (q : Port). IsOffered i t.moved q) same (subst (λ (j : ℕ). IsOffered j t.moved p) (eqb-true k i is) (t.offered (ap may_be_written same ∙ may))))
+  offered_at i false is x port there may = inr ((port, (there, (may, refl))), refl)
+
   left_at : (i : ℕ) (here : Bool) → eqb k i ≡ here → (x : Option Port) → IsLeft i t.moved (left_of (cond here (Some p) x)) (left_of (cond here (Some p') x))
   left_at i true is x = subst (λ (j : ℕ). IsLeft j t.moved p.left p'.left) (eqb-true k i is) t.left
   left_at i false is x = is_left_same i t.moved (left_of x) (t.others i is)
@@ -223,15 +256,28 @@ offer_refuses k m m' p p' o t = record { moved = t.moved; went = t.went; left = 
   left_at i true is x = subst (λ (j : ℕ). IsLeft j t.moved p.left p'.left) (eqb-true k i is) t.left
   left_at i false is x = is_left_same i t.moved (left_of x) (t.others i is)
 
+both_on : (w l w' l' : Bool) → (w && l) ≡ true → (w ≡ true → w' ≡ true) → l' ≡ l → (w' && l') ≡ true
+both_on true true w' l' on writes same = ap (λ (b : Bool). b && l') (writes refl) ∙ same
+both_on true false w' l' on writes same = absurd cc
+both_on false l w' l' on writes same = absurd cc
+
 -- nothing was asked of link k, whose port may still be read, or isn't read any more
-pub quiet_asks : (k : ℕ) (m : Moves) (p p' : Port) (o : Ports) → p'.left ≡ p.left → (unfed_of (Some p) ≡ None → unfed_of (Some p') ≡ None) → (may_be_read p ≡ true → (may_be_read p' ≡ true) ⊎ (unfed_of (Some p') ≡ None)) → Asks [] m m (with_port o k (Some p)) (with_port o k (Some p'))
-quiet_asks k m p p' o same stops may = record {
+pub quiet_asks : (k : ℕ) (m : Moves) (p p' : Port) (o : Ports) → p'.left ≡ p.left → (p.may_write ≡ true → p'.may_write ≡ true) → (unfed_of (Some p) ≡ None → unfed_of (Some p') ≡ None) → (may_be_read p ≡ true → (may_be_read p' ≡ true) ⊎ (unfed_of (Some p') ≡ None)) → Asks [] m m (with_port o k (Some p)) (with_port o k (Some p'))
+quiet_asks k m p p' o same writes stops may = record {
   moved = [];
   went = go_nowhere m;
   left = λ i. left_at i (eqb k i) (o i);
   ended = λ i. ended_at (eqb k i) (o i);
+  offered = λ i port there on. offered_at i (eqb k i) (o i) port there on;
   asked = λ i port there on. asked_at i (eqb k i) (o i) port there on;
 } where
+  written : (port : Port) → p ≡ port → may_be_written port ≡ true → may_be_written p' ≡ true
+  written port is on = both_on p.may_write (has_left p.left) p'.may_write (has_left p'.left) (ap may_be_written is ∙ on) writes (ap has_left same)
+
+  offered_at : (i : ℕ) (here : Bool) (x : Option Port) (port : Port) → cond here (Some p) x ≡ Some port → may_be_written port ≡ true → IsOffered i [] port ⊎ (IsStillWritten port (cond here (Some p') x) × (false ≡ false))
+  offered_at i true x port there on = let is : p ≡ port = cc in inr ((p', (refl, (written port is on, same ∙ ap (λ (q : Port). q.left) is))), refl)
+  offered_at i false x port there on = inr ((port, (there, (on, refl))), refl)
+
   left_at : (i : ℕ) (here : Bool) (x : Option Port) → IsLeft i [] (left_of (cond here (Some p) x)) (left_of (cond here (Some p') x))
   left_at i true x = subst (λ (y : Option (List ℕ)). IsLeft i [] p.left y) (sym same) (is_left_same i [] p.left (λ n. refl))
   left_at i false x = is_left_same i [] (left_of x) (λ n. refl)
@@ -249,15 +295,20 @@ quiet_asks k m p p' o same stops may = record {
 
 -- ---- a port that is settled
 
--- link k is closed
-closed_asks : (k : ℕ) (e : Ending) (m m' : Moves) (p : Port) (o : Ports) → GoOn m m' (LinkClosed k e ∷ []) → Asks [] m m' (with_port o k (Some p)) (with_port o k None)
-closed_asks k e m m' p o went = record {
+-- link k is closed, for which nothing is left
+closed_asks : (k : ℕ) (e : Ending) (m m' : Moves) (p : Port) (o : Ports) → (may_be_written p ≡ true → ⊥) → GoOn m m' (LinkClosed k e ∷ []) → Asks [] m m' (with_port o k (Some p)) (with_port o k None)
+closed_asks k e m m' p o none went = record {
   moved = LinkClosed k e ∷ [];
   went = went;
   left = λ i. left_at i (eqb k i) (o i);
   ended = λ i. ended_at (eqb k i) (o i);
+  offered = λ i port there on. offered_at i (eqb k i) (o i) port there on;
   asked = λ i port there on. asked_at i (eqb k i) (o i) port there on;
 } where
+  offered_at : (i : ℕ) (here : Bool) (x : Option Port) (port : Port) → cond here (Some p) x ≡ Some port → may_be_written port ≡ true → IsOffered i (LinkClosed k e ∷ []) port ⊎ (IsStillWritten port (cond here None x) × (false ≡ false))
+  offered_at i true x port there on = let is : p ≡ port = cc in absurd (none (ap may_be_written is ∙ on))
+  offered_at i false x port there on = inr ((port, (there, (on, refl))), refl)
+
   left_at : (i : ℕ) (here : Bool) (x : Option Port) → IsLeft i (LinkClosed k e ∷ []) (left_of (cond here (Some p) x)) (left_of (cond here None x))
   left_at i true x = tt
   left_at i false x = is_left_same i (LinkClosed k e ∷ []) (left_of x) (λ n. refl)
@@ -270,6 +321,19 @@ closed_asks k e m m' p o went = record {
   asked_at i true x port there on = inl (inr (inr refl))
   asked_at i false x port there on = inr ((port, (there, on)), refl)
 
+-- nothing is left for a link that is done
+pub done_unwritten : (h : Hub) (k : ℕ) (p : Port) → is_done h k p ≡ true → may_be_written p ≡ true → ⊥
+done_unwritten h k p done may = at (is_over_at h k) p.left done may where
+  none : (b : Bool) → (b && false) ≡ true → ⊥
+  none true e = absurd cc
+  none false e = absurd cc
+
+  at : (over : Bool) (left : Option (List ℕ)) → (over && has_no_more (untaken_at h k) left) ≡ true → (p.may_write && has_left left) ≡ true → ⊥
+  at true None d e = none p.may_write e
+  at true (Some []) d e = none p.may_write e
+  at true (Some (b ∷ bytes)) d e = absurd cc
+  at false left d e = absurd cc
+
 pub settled_asks : (k : ℕ) (t : List ℕ) (h' h'' : Hub) (m m' m'' : Moves) (p p' : Port) (xs ys : Slots) → slice_get xs k ≡ Some None → Asks t m m' (with_port (port_at xs) k (Some p)) (with_port (port_at xs) k (Some p')) → IsSettled h' m' xs k p' h'' m'' ys → Asks t m m'' (with_port (port_at xs) k (Some p)) (port_at ys)
 settled_asks k t h' h'' m m' m'' p p' xs ys empty asks (inl put) =
     subst (λ (w : Moves). Asks t m w (with_port (port_at xs) k (Some p)) (port_at ys)) (sym put.1)
@@ -277,14 +341,14 @@ settled_asks k t h' h'' m m' m'' p p' xs ys empty asks (inl put) =
 settled_asks k t h' h'' m m' m'' p p' xs ys empty asks (inr gone) =
     asks_fewer (t ++ []) t m m'' (with_port (port_at xs) k (Some p)) (port_at ys) (λ i on. stands_both i t [] ∙ ap (λ (b : Bool). b || false) on)
     (asks_both t [] m m' m'' (with_port (port_at xs) k (Some p)) (with_port (port_at xs) k (Some p')) (port_at ys) asks
-    (asks_so [] m' m'' (with_port (port_at xs) k (Some p')) (with_port (port_at xs) k (Some p')) (with_port (port_at xs) k None) (port_at ys) (λ i. refl) (λ i. ap (λ (zs : Slots). port_at zs i) gone.2 ∙ slot_none (Some new_port) xs k i empty) (closed_asks k (unwrap_or p'.ending NoMemory) m' m'' p' (port_at xs) gone.1)))
+    (asks_so [] m' m'' (with_port (port_at xs) k (Some p')) (with_port (port_at xs) k (Some p')) (with_port (port_at xs) k None) (port_at ys) (λ i. refl) (λ i. ap (λ (zs : Slots). port_at zs i) gone.2 ∙ slot_none (Some new_port) xs k i empty) (closed_asks k (unwrap_or p'.ending NoMemory) m' m'' p' (port_at xs) (done_unwritten h' k p' gone.0.done) gone.1)))
 
 pub settled_refuses : (k : ℕ) (h' h'' : Hub) (m m' m'' : Moves) (p p' : Port) (xs ys : Slots) → slice_get xs k ≡ Some None → Refuses m m' (with_port (port_at xs) k (Some p)) (with_port (port_at xs) k (Some p')) → IsSettled h' m' xs k p' h'' m'' ys → Refuses m m'' (with_port (port_at xs) k (Some p)) (port_at ys)
 settled_refuses k h' h'' m m' m'' p p' xs ys empty refuses (inl put) =
     subst (λ (w : Moves). Refuses m w (with_port (port_at xs) k (Some p)) (port_at ys)) (sym put.1)
     (refuses_so m m' (with_port (port_at xs) k (Some p)) (with_port (port_at xs) k (Some p)) (with_port (port_at xs) k (Some p')) (port_at ys) (λ i. refl) (λ i. ap (λ (zs : Slots). port_at zs i) put.2 ∙ slot_set (Some new_port) xs k None (Some p') i empty) refuses)
 settled_refuses k h' h'' m m' m'' p p' xs ys empty refuses (inr gone) =
-    let closed = closed_asks k (unwrap_or p'.ending NoMemory) m' m'' p' (port_at xs) gone.1 in
+    let closed = closed_asks k (unwrap_or p'.ending NoMemory) m' m'' p' (port_at xs) (done_unwritten h' k p' gone.0.done) gone.1 in
     refuses_both m m' m'' (with_port (port_at xs) k (Some p)) (with_port (port_at xs) k (Some p')) (port_at ys) refuses
     (refuses_so m' m'' (with_port (port_at xs) k (Some p')) (with_port (port_at xs) k (Some p')) (with_port (port_at xs) k None) (port_at ys) (λ i. refl) (λ i. ap (λ (zs : Slots). port_at zs i) gone.2 ∙ slot_none (Some new_port) xs k i empty) (record { moved = closed.moved; went = closed.went; left = closed.left }))
 
@@ -362,3 +426,12 @@ noted false readable full all more ended e = absurd cc
 
 pub noted_may : (p p' : Port) (more writable ended : Bool) → p' ≡ record p { may_read = p.may_read || more || ended; may_write = p.may_write || writable } → may_be_read p ≡ true → may_be_read p' ≡ true
 noted_may p p' more writable ended is may = ap may_be_read is ∙ noted (is_none p.ending) p.may_read (not p.is_full) (is_all p.left) more ended may
+
+pub noted_write : (p p' : Port) (more writable ended : Bool) → p' ≡ record p { may_read = p.may_read || more || ended; may_write = p.may_write || writable } → p.may_write ≡ true → p'.may_write ≡ true
+noted_write p p' more writable ended is on = ap (λ (q : Port). q.may_write) is ∙ ap (λ (b : Bool). b || writable) on
+
+pub noted_left : (p p' q : Port) (more writable ended : Bool) → p' ≡ record p { may_read = p.may_read || more || ended; may_write = p.may_write || writable } → p ≡ q → p'.left ≡ q.left
+noted_left p p' q more writable ended is was = ap (λ (x : Port). x.left) is ∙ ap (λ (x : Port). x.left) was
+
+pub noted_unfed : (p p' q : Port) (more writable ended : Bool) → p' ≡ record p { may_read = p.may_read || more || ended; may_write = p.may_write || writable } → p ≡ q → unfed_of (Some p') ≡ unfed_of (Some q)
+noted_unfed p p' q more writable ended is was = ap (λ (x : Port). unfed_of (Some x)) is ∙ ap (λ (x : Port). unfed_of (Some x)) was

@@ -8,10 +8,13 @@ pub mod PortLemmas
 pub mod StandingLemmas
 pub mod TakingLemmas
 pub mod TurnLemmas
+pub mod UndoneLemmas
 pub mod AskingLemmas
 pub mod OfferingLemmas
 pub mod OpeningLemmas
 pub mod KeepingLemmas
+pub mod ListeningLemmas
+pub mod HearingLemmas
 pub mod AcceptingLemmas
 pub mod RoundLemmas
 pub mod PortionLemmas

@@ -97,6 +97,14 @@ closed_both i (NobodyCame kind ∷ xs) ys = closed_both i xs ys
 closed_both i (GaveNothing j kind ∷ xs) ys = closed_both i xs ys
 closed_both i (TookNothing j count kind ∷ xs) ys = closed_both i xs ys
 
+pub or_left : (a b c : Bool) → c ≡ (a || b) → a ≡ true → c ≡ true
+or_left true b c e on = e
+or_left false b c e on = absurd cc
+
+pub or_right : (a b c : Bool) → c ≡ (a || b) → b ≡ true → c ≡ true
+or_right true b c e on = e
+or_right false b c e on = e ∙ on
+
 pub or_or : (b x y z : Bool) → z ≡ (x || y) → (b || z) ≡ ((b || x) || y)
 or_or true x y z e = refl
 or_or false x y z e = e
@@ -162,16 +170,22 @@ pub same_here : {A : Type 0} (here : Bool) (x : A) → x ≡ cond here x x
 same_here true x = refl
 same_here false x = refl
 
-abbrev pub adds_nothing : (m m' : Option (List Moved)) (k : ℕ) → GoOn m m' [] → Adds m m' k [] [] false
-adds_nothing m m' k went = record {
-  moved = [];
+-- moves by which no link gives or takes anything
+abbrev adds_quiet : (m m' : Option (List Moved)) (k : ℕ) (moved : List Moved) → GoOn m m' moved → ((i : ℕ) → read_of i moved ≡ []) → ((i : ℕ) → written_of i moved ≡ []) → ((i : ℕ) → comes_to_its_end i moved ≡ false) → opened_in moved ≡ [] → ((i : ℕ) → closed_as i moved ≡ None) → ((i : ℕ) → eqb k i ≡ false → fails_to_give i moved ≡ false) → ((i : ℕ) → eqb k i ≡ false → fails_to_take i moved ≡ false) → Adds m m' k [] [] false
+adds_quiet m m' k moved went gave took ended opened closed fails refuses = record {
+  moved = moved;
   went = went;
-  read = λ i. same_here (eqb k i) [];
-  written = λ i. same_here (eqb k i) [];
-  end = λ i. same_here (eqb k i) false;
-  opened = refl;
-  closed = λ i. refl;
+  read = λ i. gave i ∙ same_here (eqb k i) [];
+  written = λ i. took i ∙ same_here (eqb k i) [];
+  end = λ i. ended i ∙ same_here (eqb k i) false;
+  opened = opened;
+  fails = fails;
+  refuses = refuses;
+  closed = closed;
 }
+
+abbrev pub adds_nothing : (m m' : Option (List Moved)) (k : ℕ) → GoOn m m' [] → Adds m m' k [] [] false
+adds_nothing m m' k went = adds_quiet m m' k [] went (λ i. refl) (λ i. refl) (λ i. refl) refl (λ i. refl) (λ i other. refl) (λ i other. refl)
 
 pub bytes_here : (here : Bool) (bytes : List ℕ) → cond here (bytes ++ []) [] ≡ cond here bytes []
 bytes_here true bytes = append-nil bytes
@@ -185,6 +199,8 @@ adds_write m m' k bytes left went = record {
   written = λ i. bytes_here (eqb k i) bytes;
   end = λ i. same_here (eqb k i) false;
   opened = refl;
+  fails = λ i other. refl;
+  refuses = λ i other. refl;
   closed = λ i. refl;
 }
 
@@ -205,34 +221,44 @@ adds_read m m' k bytes went = record {
   written = λ i. same_here (eqb k i) [];
   end = λ i. end_here k i bytes;
   opened = refl;
+  fails = λ i other. refl;
+  refuses = λ i other. refl;
   closed = λ i. refl;
 }
+
+-- a piece isn't the end of a stream
+abbrev pub adds_piece : (m m' : Option (List Moved)) (k : ℕ) (bytes : List ℕ) → GoOn m m' (LinkGave k bytes ∷ []) → is_end bytes ≡ false → Adds m m' k bytes [] false
+adds_piece m m' k bytes went more = record {
+  moved = LinkGave k bytes ∷ [];
+  went = went;
+  read = λ i. bytes_here (eqb k i) bytes;
+  written = λ i. same_here (eqb k i) [];
+  end = λ i. end_here k i bytes ∙ ap (λ (b : Bool). cond (eqb k i) b false) more;
+  opened = refl;
+  fails = λ i other. refl;
+  refuses = λ i other. refl;
+  closed = λ i. refl;
+}
+
+-- what fails for one link doesn't for another
+pub fault_elsewhere : (here : Bool) (kind : ErrorKind) → here ≡ false → (cond here (is_fault kind) false || false) ≡ false
+fault_elsewhere here kind other = ap (λ (b : Bool). cond b (is_fault kind) false || false) other
 
 -- what was asked of link k in vain adds nothing
 abbrev pub adds_refused_read : (m m' : Option (List Moved)) (k : ℕ) (kind : ErrorKind) → GoOn m m' (GaveNothing k kind ∷ []) → Adds m m' k [] [] false
-adds_refused_read m m' k kind went = record {
-  moved = GaveNothing k kind ∷ [];
-  went = went;
-  read = λ i. same_here (eqb k i) [];
-  written = λ i. same_here (eqb k i) [];
-  end = λ i. same_here (eqb k i) false;
-  opened = refl;
-  closed = λ i. refl;
-}
+adds_refused_read m m' k kind went = adds_quiet m m' k (GaveNothing k kind ∷ []) went (λ i. refl) (λ i. refl) (λ i. refl) refl (λ i. refl) (λ i other. fault_elsewhere (eqb k i) kind other) (λ i other. refl)
 
 abbrev pub adds_refused_write : (m m' : Option (List Moved)) (k count : ℕ) (kind : ErrorKind) → GoOn m m' (TookNothing k count kind ∷ []) → Adds m m' k [] [] false
-adds_refused_write m m' k count kind went = record {
-  moved = TookNothing k count kind ∷ [];
-  went = went;
-  read = λ i. same_here (eqb k i) [];
-  written = λ i. same_here (eqb k i) [];
-  end = λ i. same_here (eqb k i) false;
-  opened = refl;
-  closed = λ i. refl;
-}
+adds_refused_write m m' k count kind went = adds_quiet m m' k (TookNothing k count kind ∷ []) went (λ i. refl) (λ i. refl) (λ i. refl) refl (λ i. refl) (λ i other. refl) (λ i other. fault_elsewhere (eqb k i) kind other)
 
 pub failed_here : (k : ℕ) (kind : ErrorKind) → is_fault kind ≡ true → fails_to_give k (GaveNothing k kind ∷ []) ≡ true
 failed_here k kind fault = ap (λ (b : Bool). cond b (is_fault kind) false || false) (eq-eqb k k refl) ∙ ap (λ (b : Bool). b || false) fault
 
 pub refused_here : (k count : ℕ) (kind : ErrorKind) → is_fault kind ≡ true → fails_to_take k (TookNothing k count kind ∷ []) ≡ true
 refused_here k count kind fault = ap (λ (b : Bool). cond b (is_fault kind) false || false) (eq-eqb k k refl) ∙ ap (λ (b : Bool). b || false) fault
+
+pub waited_here : (k : ℕ) (kind : ErrorKind) → is_fault kind ≡ false → fails_to_give k (GaveNothing k kind ∷ []) ≡ false
+waited_here k kind other = ap (λ (b : Bool). cond b (is_fault kind) false || false) (eq-eqb k k refl) ∙ ap (λ (b : Bool). b || false) other
+
+pub untaken_here : (k count : ℕ) (kind : ErrorKind) → is_fault kind ≡ false → fails_to_take k (TookNothing k count kind ∷ []) ≡ false
+untaken_here k count kind other = ap (λ (b : Bool). cond b (is_fault kind) false || false) (eq-eqb k k refl) ∙ ap (λ (b : Bool). b || false) other

@@ -8,11 +8,11 @@ use Rattle.ipc_loop.specs.declared.ending.Ending.{Ending}
 use Rattle.ipc_loop.specs.Moves.{Moved, LinkGave, LinkTook, GaveNothing, TookNothing, GoOn, is_fault, is_asked, is_offered, left_by}
 use Rattle.ipc_loop.specs.Ports.{Port, with_port, left_of, unfed_of, is_all}
 use Rattle.ipc_loop.specs.Serving.{ServesPort, Offers}
-use Rattle.ipc_loop.specs.Asking.{IsLeft, HasLeft, OffersNothing, may_be_read, IsServed, TakesTurn, OffersPort, Reads, Flushes, FlushesAll, KeepsAllButLeft}
-use Rattle.ipc_loop.proofs.MoveLemmas.{go_both, go_nowhere, adds_write, adds_refused_write, refused_here}
+use Rattle.ipc_loop.specs.Asking.{IsLeft, HasLeft, OffersNothing, how_many_left, has_left, may_be_read, may_be_written, IsServed, IsOffered, TakesTurn, OffersPort, Reads, Flushes, FlushesAll, KeepsAllButLeft}
+use Rattle.ipc_loop.proofs.MoveLemmas.{go_both, go_nowhere, adds_write, adds_refused_write, refused_here, untaken_here}
 use Rattle.ipc_loop.proofs.PassingLemmas.{passes_stop}
 use Rattle.ipc_loop.proofs.ServingLemmas.{is_ended}
-use Rattle.ipc_loop.proofs.AskingLemmas.{left_both, asked_both, offered_both, is_left_both}
+use Rattle.ipc_loop.proofs.AskingLemmas.{left_both, asked_both, offered_both, offered_first, is_left_both}
 
 abbrev Moves : Type 0
 Moves = Option (List Moved)
@@ -38,6 +38,8 @@ pub took_offers : (k : ℕ) (m m' : Moves) (bytes : List ℕ) (count : ℕ) → 
 took_offers k m m' bytes count le went = record {
   added = adds_write m m' k (take count bytes) (length bytes - count) went;
   failed = λ e. absurd cc;
+  took = λ c is. refl;
+  unasked = refl;
   offered = λ n few. here_so k (leb n (length (take count bytes) + (length bytes - count))) (le_true n (length (take count bytes) + (length bytes - count)) (omega (arith, parts bytes count le, few)));
   left = λ c n is. (let same : count ≡ c = cc in ap (λ (h : Bool). cond h (length bytes - count) n) (eq-eqb k k refl) ∙ ap (λ (x : ℕ). length bytes - x) same);
   others = λ i other n. ap (λ (h : Bool). cond h (length bytes - count) n) other;
@@ -47,15 +49,19 @@ pub refused_offers : (k : ℕ) (m m' : Moves) (bytes : List ℕ) (kind : ErrorKi
 refused_offers k m m' bytes kind went fault = record {
   added = adds_refused_write m m' k (length bytes) kind went;
   failed = λ e. refused_here k (length bytes) kind fault;
+  took = λ c is. absurd cc;
+  unasked = refl;
   offered = λ n few. here_so k (leb n (length bytes)) (le_true n (length bytes) few);
   left = λ c n is. absurd cc;
   others = λ i other n. ap (λ (h : Bool). cond h (length bytes) n) other;
 }
 
-pub waited_offers : (k : ℕ) (m m' : Moves) (bytes : List ℕ) (kind : ErrorKind) → GoOn m m' (TookNothing k (length bytes) kind ∷ []) → Offers k m m' bytes (Some 0)
-waited_offers k m m' bytes kind went = record {
+pub waited_offers : (k : ℕ) (m m' : Moves) (bytes : List ℕ) (kind : ErrorKind) → GoOn m m' (TookNothing k (length bytes) kind ∷ []) → is_fault kind ≡ false → Offers k m m' bytes (Some 0)
+waited_offers k m m' bytes kind went other = record {
   added = adds_refused_write m m' k (length bytes) kind went;
   failed = λ e. absurd cc;
+  took = λ c is. untaken_here k (length bytes) kind other;
+  unasked = refl;
   offered = λ n few. here_so k (leb n (length bytes)) (le_true n (length bytes) few);
   left = λ c n is. (let same : 0 ≡ c = cc in let none : length bytes ≡ length bytes - 0 = omega arith in ap (λ (h : Bool). cond h (length bytes) n) (eq-eqb k k refl) ∙ none ∙ ap (λ (x : ℕ). length bytes - x) same);
   others = λ i other n. ap (λ (h : Bool). cond h (length bytes) n) other;
@@ -151,6 +157,18 @@ readable_of p may = record {
 
 -- ---- a turn, and answers
 
+-- what was left is offered, where it may be
+flush_offered : (k : ℕ) (m m' : Moves) (p p' : Port) (f : Flushes k m m' p p') → may_be_written p ≡ true → IsOffered k f.moved p
+flush_offered k m m' p p' f may = at p.may_write p.left refl refl may where
+  at : (w : Bool) (x : Option (List ℕ)) → p.may_write ≡ w → p.left ≡ x → (w && has_left x) ≡ true → is_offered k (how_many_left p.left) f.moved ≡ true
+  at false x w is on = absurd cc
+  at true None w is on = absurd cc
+  at true (Some []) w is on = absurd cc
+  at true (Some (b ∷ bytes)) w is on = ap (λ (y : Option (List ℕ)). is_offered k (how_many_left y) f.moved) is ∙ more (f.offered (b ∷ bytes) is) where
+    more : FlushesAll k f.moved (b ∷ bytes) p p' → is_offered k (length (b ∷ bytes)) f.moved ≡ true
+    more (inl idle) = let wrong : true ≡ false = sym w ∙ idle.0 in absurd cc
+    more (inr all) = all.0 (length (b ∷ bytes)) (omega arith)
+
 -- bytes are left behind the first flush
 pub flush_turn : (k : ℕ) (m m' : Moves) (p p' : Port) → Flushes k m m' p p' → is_all p'.left ≡ false → TakesTurn k m m' p p'
 flush_turn k m m' p p' f unwritten = record {
@@ -158,6 +176,7 @@ flush_turn k m m' p p' f unwritten = record {
   went = f.went;
   others = f.others;
   left = flush_left k m m' p p' f;
+  offered = flush_offered k m m' p p' f;
   served = λ may. (let r = readable_of p may in let none = f.offered [] r.written in let wrong : true ≡ false = sym (ap is_all (ap (λ (q : Port). q.left) none.1 ∙ r.written)) ∙ unwritten in absurd cc);
 }
 
@@ -286,6 +305,7 @@ whole_turn k m₀ m₁ m₂ m₃ p p₁ p₂ p₃ p₄ first written writable ta
       went = go_both m₀ m₁ m₃ first.moved (reads.moved ++ last.moved) first.went (go_both m₁ m₂ m₃ reads.moved last.moved reads.went last.went);
       others = turn_others k m₀ m₁ m₂ m₃ p p₁ p₂ p₃ p₄ t;
       left = turn_left k m₀ m₁ m₂ m₃ p p₁ p₂ p₃ p₄ t;
+      offered = λ may. offered_first k first.moved (reads.moved ++ last.moved) p (flush_offered k m₀ m₁ p p₁ first may);
       served = turn_served k m₀ m₁ m₂ m₃ p p₁ p₂ p₃ p₄ t;
     }
 
@@ -312,6 +332,7 @@ turn_then k m m' p p' p'' t left stops = record {
   went = t.went;
   others = t.others;
   left = subst (λ (x : Option (List ℕ)). IsLeft k t.moved p.left x) (sym left) t.left;
+  offered = t.offered;
   served = λ may. at (t.served may);
 } where
   at : IsServed k t.moved (Some p') → IsServed k t.moved (Some p'')

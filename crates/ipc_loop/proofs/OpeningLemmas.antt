@@ -130,7 +130,9 @@ none_accepted (Some count) = omega arith
 pub rests_new : (h : Hub) (ports : Ports) (b : Bounds) → ports.all ≡ [] → ports.turns ≡ [] → IsResting h ports b
 rests_new h ports b none turns = record {
   turns = turns;
-  marked = λ i u port e. let wrong : None ≡ Some port = sym (ap (λ (zs : Slots). open_at zs i) none) ∙ e in absurd cc;
+  marked = λ i u. ((λ port e. no_port i port e), (λ port e. no_port i port e));
   within = subst (λ (zs : Slots). IsWithin b zs) (sym none) (record { opened = omega arith; accepted = none_accepted b.stop_after });
   closed = λ i e. let wrong : Some new_port ≡ None = sym (ap (λ (zs : Slots). port_at zs i) none) ∙ e in absurd cc;
-}
+} where
+  no_port : {A : Type 0} (i : ℕ) (port : Port) → open_at ports.all i ≡ Some port → A
+  no_port i port e = let wrong : None ≡ Some port = sym (ap (λ (zs : Slots). open_at zs i) none) ∙ e in absurd cc

@@ -65,13 +65,13 @@ both_keep h₀ h₁ h₂ p₀ p₁ p₂ a b i owed = b i (a i owed)
 pub hub_keeps : (h h' : Hub) (p : Ports) → Marks h h' → KeepsMarks h p h' p
 hub_keeps h h' p marks i before now port e = still _ _ port.left port.left (marks.silent i now) refl (before (unmarked_before h h' i marks now) port e)
 
-opened_untaken : (h : Hub) (i : ℕ) → untaken_at (with_connection h) i ≡ untaken_at h i
+pub opened_untaken : (h : Hub) (i : ℕ) → untaken_at (with_connection h) i ≡ untaken_at h i
 opened_untaken h i = ap (λ (s : Option Connection). unwrap_or (option_map (untaken h.core) s) []) (slice_get_push h.connections new_connection i) ∙ at (eqb (length h.connections) i) refl where
   at : (here : Bool) → eqb (length h.connections) i ≡ here → unwrap_or (option_map (untaken h.core) (option_or (cond here (Some new_connection) None) (slice_get h.connections i))) [] ≡ untaken_at h i
   at true is = sym (ap (λ (s : Option Connection). unwrap_or (option_map (untaken h.core) s) []) (slice_past h.connections i (omega (arith, eqb-true (length h.connections) i is))))
   at false is = refl
 
-opened_marked : (h : Hub) (i : ℕ) → is_marked (with_connection h) i ≡ is_marked h i
+pub opened_marked : (h : Hub) (i : ℕ) → is_marked (with_connection h) i ≡ is_marked h i
 opened_marked h i = ap (λ (s : Option Bool). unwrap_or s false) (slice_get_push h.marked false i) ∙ at (eqb (length h.marked) i) refl where
   at : (here : Bool) → eqb (length h.marked) i ≡ here → unwrap_or (option_or (cond here (Some false) None) (slice_get h.marked i)) false ≡ is_marked h i
   at true is = sym (ap (λ (s : Option Bool). unwrap_or s false) (slice_past h.marked i (omega (arith, eqb-true (length h.marked) i is))))

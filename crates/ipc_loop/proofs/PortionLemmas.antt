@@ -119,6 +119,8 @@ pub took_serve : (k : ℕ) (h h' : Hub) (m : Option (List Moved)) (p p' : Port) 
 took_serve k h h' m p p' left bytes takes before behind ending = gave_serve k h h' m m p p' bytes takes (record {
   took = [];
   added = adds_nothing m m k (go_nowhere m);
+  fails = λ e. absurd cc;
+  refuses = λ e. absurd cc;
   left = subst (λ (x : Option (List ℕ)). PassesOn x bytes [] p'.left) (sym before) (subst (λ (x : Option (List ℕ)). PassesOn (Some left) bytes [] x) (sym behind) refl);
   why = why_stays (is_shown k [] []) p.ending p'.ending ending;
   drops = λ before none. let wrong : Some (left ++ bytes) ≡ None = sym behind ∙ none in absurd cc;
@@ -132,6 +134,8 @@ pub cut_serve : (k : ℕ) (h h' : Hub) (m : Option (List Moved)) (p p' : Port) �
 cut_serve k h h' m p p' same cut is = subst (λ (x : Hub). ServesPort k h m p x m p') (sym same) (writes_serve k h m m p p' (record {
   took = [];
   added = adds_nothing m m k (go_nowhere m);
+  fails = λ e. absurd cc;
+  refuses = λ e. absurd cc;
   left = subst (λ (x : Option (List ℕ)). PassesOn p.left [] [] x) (sym cut) (passes_end p.left);
   why = why_cuts (is_shown k [] []) p.ending p'.ending NoMemory is refl refl;
   drops = drops_cut p p' NoMemory is refl;

@@ -14,10 +14,10 @@ use Rattle.ipc_hub.specs.declared.fed.Fed.{Fed}
 use Rattle.ipc_hub.specs.declared.fed.Fed.TheVariants.{Done, Short, Full, Over}
 use Rattle.ipc_hub.specs.declared.fed.End.TheVariants as end
 use Rattle.ipc_hub.specs.declared.fed.HubFault.{HubFault}
-use Rattle.ipc_loop.specs.Moves.{Moved, LinkOpened, LinkGave, LinkClosed, NobodyCame, GaveNothing, GoOn, Adds, read_of, written_of, comes_to_its_end, opened_in, closed_as, is_fault}
+use Rattle.ipc_loop.specs.Moves.{Moved, LinkOpened, LinkGave, LinkClosed, NobodyCame, GaveNothing, GoOn, Adds, read_of, written_of, comes_to_its_end, opened_in, closed_as, is_fault, fails_to_give, fails_to_take}
 use Rattle.ipc_loop.specs.Ports.{Port, port_at, with_port, left_of, unfed_of}
 use Rattle.ipc_loop.specs.Serving.{PassesOn, ServesOpening, Serves, ServesPort, Offers, Writes, FeedsPort, KeepsPortMarks, LetsGo, HasWhy, DropsForAReason, is_shown, may_drop, why_of, has_no_more, ends_at_a_feed, ends_connection, is_fed_so}
-use Rattle.ipc_loop.proofs.MoveLemmas.{stream_both, output_both, read_both, written_both, end_both, over_both, opened_both, go_both, go_nowhere, makes_both, adds_nothing, adds_read, adds_refused_read, failed_here, first_of, closed_both, is_end, same_here, bytes_here}
+use Rattle.ipc_loop.proofs.MoveLemmas.{stream_both, output_both, read_both, written_both, end_both, over_both, opened_both, go_both, go_nowhere, makes_both, adds_nothing, adds_read, adds_piece, adds_refused_read, failed_here, waited_here, give_both, take_both, first_of, closed_both, is_end, same_here, bytes_here}
 use Rattle.ipc_loop.proofs.OwingLemmas.{marks_keep, same_keep, takes_spelled}
 use Rattle.ipc_loop.proofs.ClosingLemmas.{gives_nothing}
 use Rattle.ipc_loop.proofs.WhyLemmas.{whys_both, why_same, why_closed, why_shut, why_once, why_drops, why_ends, why_cuts, why_stays, why_more, drops_same, drops_cut, first_none, first_some}
@@ -55,6 +55,8 @@ opening_both n₀ n₁ h₀ h₁ h₂ m₀ m₁ m₂ p₀ p₁ p₂ a b = record
   unread = λ i e. read_both i a.moved b.moved ∙ ap (λ (t : List ℕ). t ++ read_of i b.moved) (a.unread i e) ∙ b.unread i (passes_stop (unfed_of (p₀ i)) (unfed_of (p₁ i)) _ _ (a.read i) e);
   ended = λ i e. either i (comes_to_its_end i a.moved) refl (sym (end_both i a.moved b.moved) ∙ e);
   over = λ i e. fault i (ends_at_a_feed i a.calls) refl (sym (over_both i a.calls b.calls) ∙ e);
+  fails = λ i e. failed i (fails_to_give i a.moved) refl (sym (give_both i a.moved b.moved) ∙ e);
+  refuses = λ i e. refused i (fails_to_take i a.moved) refl (sym (take_both i a.moved b.moved) ∙ e);
   why = λ i. whys_both i a.calls b.calls a.moved b.moved (why_of (p₀ i)) (why_of (p₁ i)) (why_of (p₂ i)) (a.why i) (b.why i);
   drops = λ i d. b.drops i (a.drops i d);
   closes = λ i e left is had. closes_at i e left had (closed_as i a.moved) refl (sym (closed_both i a.moved b.moved) ∙ is);
@@ -100,6 +102,14 @@ opening_both n₀ n₁ h₀ h₁ h₂ m₀ m₁ m₂ p₀ p₁ p₂ a b = record
   fault i true f e = passes_stop (unfed_of (p₁ i)) (unfed_of (p₂ i)) _ _ (b.read i) (a.over i f)
   fault i false f e = b.over i e
 
+  failed : (i : ℕ) (x : Bool) → fails_to_give i a.moved ≡ x → (x || fails_to_give i b.moved) ≡ true → unfed_of (p₂ i) ≡ None
+  failed i true f e = passes_stop (unfed_of (p₁ i)) (unfed_of (p₂ i)) _ _ (b.read i) (a.fails i f)
+  failed i false f e = b.fails i e
+
+  refused : (i : ℕ) (x : Bool) → fails_to_take i a.moved ≡ x → (x || fails_to_take i b.moved) ≡ true → left_of (p₂ i) ≡ None
+  refused i true f e = passes_stop (left_of (p₁ i)) (left_of (p₂ i)) _ _ (b.written i) (a.refuses i f)
+  refused i false f e = b.refuses i e
+
 pub serves_both : (h₀ h₁ h₂ : Hub) (m₀ m₁ m₂ : Moves) (p₀ p₁ p₂ : Ports) → Serves h₀ m₀ p₀ h₁ m₁ p₁ → Serves h₁ m₁ p₁ h₂ m₂ p₂ → Serves h₀ m₀ p₀ h₂ m₂ p₂
 serves_both h₀ h₁ h₂ m₀ m₁ m₂ p₀ p₁ p₂ a b = opening_both [] [] h₀ h₁ h₂ m₀ m₁ m₂ p₀ p₁ p₂ a b
 
@@ -116,6 +126,8 @@ opening_so n h h' m m' p q p' q' before later a = record {
   unread = λ i e. a.unread i (ap unfed_of (sym (before i)) ∙ e);
   ended = λ i e. ap unfed_of (later i) ∙ a.ended i e;
   over = λ i e. ap unfed_of (later i) ∙ a.over i e;
+  fails = λ i e. ap unfed_of (later i) ∙ a.fails i e;
+  refuses = λ i e. ap left_of (later i) ∙ a.refuses i e;
   why = λ i. subst (λ (x : Option Port). HasWhy (is_shown i a.calls a.moved) (why_of x) (closed_as i a.moved) (why_of (q' i))) (sym (before i)) (subst (λ (x : Option Port). HasWhy (is_shown i a.calls a.moved) (why_of (p i)) (closed_as i a.moved) (why_of x)) (sym (later i)) (a.why i));
   drops = λ i d. subst (λ (x : Option Port). DropsForAReason x) (sym (later i)) (a.drops i (subst (λ (x : Option Port). DropsForAReason x) (before i) d));
   closes = λ i e left is had. a.closes i e left is (ap left_of (sym (before i)) ∙ had);
@@ -143,9 +155,10 @@ pub serve_port : (k : ℕ) (h h' : Hub) (m m' : Moves) (p p' : Port) (calls : Li
     → ((i : ℕ) → stream_of i calls ≡ cond (eqb k i) fed []) → ((i : ℕ) → output_of i calls ≡ cond (eqb k i) out []) → ((i : ℕ) → ends_at_a_feed i calls ≡ cond (eqb k i) over false)
     → PassesOn (unfed_of (Some p)) gave fed (unfed_of (Some p')) → PassesOn p.left out took p'.left
     → (unfed_of (Some p) ≡ None → gave ≡ []) → (ended ≡ true → unfed_of (Some p') ≡ None) → (over ≡ true → unfed_of (Some p') ≡ None)
+    → (fails_to_give k adds.moved ≡ true → unfed_of (Some p') ≡ None) → (fails_to_take k adds.moved ≡ true → p'.left ≡ None)
     → HasWhy (is_shown k calls adds.moved) (Some p.ending) None (Some p'.ending) → (DropsForAReason (Some p) → DropsForAReason (Some p'))
     → ServesPort k h m p h' m' p'
-serve_port k h h' m m' p p' calls gave fed out took ended over made adds stream output ends passes writes quiet stops faults why drops others = record {
+serve_port k h h' m m' p p' calls gave fed out took ended over made adds stream output ends passes writes quiet stops faults fails refuses why drops others = record {
   calls = calls;
   moved = adds.moved;
   made = made;
@@ -156,6 +169,8 @@ serve_port k h h' m m' p p' calls gave fed out took ended over made adds stream 
   unread = λ i e. adds.read i ∙ unread_at (eqb k i) (others i) e;
   ended = λ i e. ended_at (eqb k i) (others i) (sym (adds.end i) ∙ e);
   over = λ i e. over_at (eqb k i) (others i) (sym (ends i) ∙ e);
+  fails = λ i e. fails_at i (eqb k i) refl (others i) e;
+  refuses = λ i e. refuses_at i (eqb k i) refl (others i) e;
   why = λ i. why_at i (eqb k i) refl (others i);
   drops = λ i. drops_at (eqb k i) (others i);
   closes = λ i e left is had. let wrong : None ≡ Some e = sym (adds.closed i) ∙ is in absurd cc;
@@ -189,6 +204,14 @@ serve_port k h h' m m' p p' calls gave fed out took ended over made adds stream 
   ended_at true o e = stops e
   ended_at false o e = absurd cc
 
+  fails_at : (i : ℕ) (here : Bool) → eqb k i ≡ here → (o : Option Port) → fails_to_give i adds.moved ≡ true → unfed_of (cond here (Some p') o) ≡ None
+  fails_at i true is o e = fails (ap (λ (j : ℕ). fails_to_give j adds.moved) (eqb-true k i is) ∙ e)
+  fails_at i false is o e = let wrong : false ≡ true = sym (adds.fails i is) ∙ e in absurd cc
+
+  refuses_at : (i : ℕ) (here : Bool) → eqb k i ≡ here → (o : Option Port) → fails_to_take i adds.moved ≡ true → left_of (cond here (Some p') o) ≡ None
+  refuses_at i true is o e = refuses (ap (λ (j : ℕ). fails_to_take j adds.moved) (eqb-true k i is) ∙ e)
+  refuses_at i false is o e = let wrong : false ≡ true = sym (adds.refuses i is) ∙ e in absurd cc
+
   over_at : (here : Bool) (o : Option Port) → cond here over false ≡ true → unfed_of (cond here (Some p') o) ≡ None
   over_at true o e = faults e
   over_at false o e = absurd cc
@@ -203,7 +226,7 @@ why_unfed shown (Some e) (Some f) why = (refl, refl)
 
 -- the hub did nothing, and the port wrote
 pub writes_serve : (k : ℕ) (h : Hub) (m m' : Moves) (p p' : Port) → Writes k m m' p [] p' → ServesPort k h m p h m' p'
-writes_serve k h m m' p p' w = serve_port k h h m m' p p' [] [] [] [] w.took false false refl w.added (λ i. same_here (eqb k i) []) (λ i. same_here (eqb k i) []) (λ i. same_here (eqb k i) false) (why_unfed _ p.ending p'.ending w.why) w.left (λ e. refl) (λ e. absurd cc) (λ e. absurd cc) w.why w.drops
+writes_serve k h m m' p p' w = serve_port k h h m m' p p' [] [] [] [] w.took false false refl w.added (λ i. same_here (eqb k i) []) (λ i. same_here (eqb k i) []) (λ i. same_here (eqb k i) false) (why_unfed _ p.ending p'.ending w.why) w.left (λ e. refl) (λ e. absurd cc) (λ e. absurd cc) w.fails w.refuses w.why w.drops
 
 -- the link was offered what was left, and took so much; or the write failed
 pub offered_writes : (k : ℕ) (m m' : Moves) (p p' : Port) (left : List ℕ) (n : ℕ) → Offers k m m' left (Some n) → p.left ≡ Some left → p'.left ≡ Some (drop n left) → p'.ending ≡ p.ending → Writes k m m' p [] p'
@@ -211,6 +234,8 @@ offered_writes k m m' p p' left n offers was now is = record {
   took = take n left;
   added = offers.added;
   left = subst (λ (x : Option (List ℕ)). PassesOn x [] (take n left) p'.left) (sym was) (subst (λ (x : Option (List ℕ)). PassesOn (Some left) [] (take n left) x) (sym now) (passes_part left n));
+  fails = λ e. (let wrong : false ≡ true = sym offers.unasked ∙ e in absurd cc);
+  refuses = λ e. (let wrong : false ≡ true = sym (offers.took n refl) ∙ e in absurd cc);
   why = why_stays (is_shown k [] offers.added.moved) p.ending p'.ending is;
   drops = λ d none. let wrong : Some (drop n left) ≡ None = sym now ∙ none in absurd cc;
 }
@@ -220,13 +245,15 @@ cut_writes k m m' p p' left offers now is = record {
   took = [];
   added = offers.added;
   left = subst (λ (x : Option (List ℕ)). PassesOn p.left [] [] x) (sym now) (passes_end p.left);
+  fails = λ e. (let wrong : false ≡ true = sym offers.unasked ∙ e in absurd cc);
+  refuses = λ e. now;
   why = why_cuts (is_shown k [] offers.added.moved) p.ending p'.ending ending.WriteFailed is refl (offers.failed refl);
   drops = drops_cut p p' ending.WriteFailed is refl;
 }
 
 -- nothing was written either
-pub rests_serve : (k : ℕ) (h : Hub) (m m' : Moves) (p p' : Port) → (adds : Adds m m' k [] [] false) → p'.left ≡ p.left → HasWhy (is_shown k [] adds.moved) (Some p.ending) None (Some p'.ending) → ServesPort k h m p h m' p'
-rests_serve k h m m' p p' adds same why = writes_serve k h m m' p p' (record { took = []; added = adds; left = subst (λ (x : Option (List ℕ)). PassesOn p.left [] [] x) (sym same) (passes_nothing p.left); why = why; drops = drops_same (is_shown k [] adds.moved) p p' same why })
+pub rests_serve : (k : ℕ) (h : Hub) (m m' : Moves) (p p' : Port) → (adds : Adds m m' k [] [] false) → p'.left ≡ p.left → (fails_to_give k adds.moved ≡ true → unfed_of (Some p') ≡ None) → fails_to_take k adds.moved ≡ false → HasWhy (is_shown k [] adds.moved) (Some p.ending) None (Some p'.ending) → ServesPort k h m p h m' p'
+rests_serve k h m m' p p' adds same fails takes why = writes_serve k h m m' p p' (record { took = []; added = adds; fails = fails; refuses = λ e. (let wrong : false ≡ true = sym takes ∙ e in absurd cc); left = subst (λ (x : Option (List ℕ)). PassesOn p.left [] [] x) (sym same) (passes_nothing p.left); why = why; drops = drops_same (is_shown k [] adds.moved) p p' same why })
 
 -- what shows without the call that gave bytes shows with it
 shown_gave : (k : ℕ) (bytes : List ℕ) (moved : List Moved) (e : Ending) → is_shown k [] moved e ≡ true → is_shown k (Gave k bytes ∷ []) moved e ≡ true
@@ -240,7 +267,7 @@ shown_gave k bytes moved ending.TooMuchUnfinished on = on
 
 -- the hub gave what the port was to write
 pub gave_serve : (k : ℕ) (h h' : Hub) (m m' : Moves) (p p' : Port) (bytes : List ℕ) → Takes h k bytes h' → Writes k m m' p bytes p' → ServesPort k h m p h' m' p'
-gave_serve k h h' m m' p p' bytes takes w = serve_port k h h' m m' p p' (Gave k bytes ∷ []) [] [] bytes w.took false false (h', (takes, refl)) w.added (λ i. same_here (eqb k i) []) (λ i. bytes_here (eqb k i) bytes) (λ i. same_here (eqb k i) false) (why_unfed _ p.ending p'.ending w.why) w.left (λ e. refl) (λ e. absurd cc) (λ e. absurd cc)
+gave_serve k h h' m m' p p' bytes takes w = serve_port k h h' m m' p p' (Gave k bytes ∷ []) [] [] bytes w.took false false (h', (takes, refl)) w.added (λ i. same_here (eqb k i) []) (λ i. bytes_here (eqb k i) bytes) (λ i. same_here (eqb k i) false) (why_unfed _ p.ending p'.ending w.why) w.left (λ e. refl) (λ e. absurd cc) (λ e. absurd cc) w.fails w.refuses
     (why_more (is_shown k [] w.added.moved) (is_shown k (Gave k bytes ∷ []) w.added.moved) (Some p.ending) (Some p'.ending) None (shown_gave k bytes w.added.moved) w.why) w.drops
 
 pub is_heard : (p : Port) → p.ending ≡ None → unfed_of (Some p) ≡ Some []
@@ -257,11 +284,11 @@ shown_moved k calls moved ending.NoMemory on = on
 shown_moved k calls moved ending.TooMuchUnfinished on = on
 
 -- a piece that the link gave, if any, was fed
-pub feeds_serve : (k : ℕ) (h h' : Hub) (m m' : Moves) (p p' : Port) (piece : List ℕ) → p.ending ≡ None → Adds m m' k piece [] false → FeedsPort k h p piece h' p' → ServesPort k h m p h' m' p'
-feeds_serve k h h' m m' p p' piece on adds f =
+pub feeds_serve : (k : ℕ) (h h' : Hub) (m m' : Moves) (p p' : Port) (piece : List ℕ) → p.ending ≡ None → (adds : Adds m m' k piece [] false) → fails_to_give k adds.moved ≡ false → fails_to_take k adds.moved ≡ false → FeedsPort k h p piece h' p' → ServesPort k h m p h' m' p'
+feeds_serve k h h' m m' p p' piece on adds gives takes f =
     serve_port k h h' m m' p p' f.calls piece f.fed [] [] false f.over f.made adds f.stream (λ i. f.output i ∙ same_here (eqb k i) []) f.ends f.passes
     (subst (λ (x : Option (List ℕ)). PassesOn p.left [] [] x) (sym f.left) (passes_nothing p.left))
-    (λ e. let wrong : Some [] ≡ None = sym (is_heard p on) ∙ e in absurd cc) (λ e. absurd cc) f.stops
+    (λ e. let wrong : Some [] ≡ None = sym (is_heard p on) ∙ e in absurd cc) (λ e. absurd cc) f.stops (λ e. let wrong : false ≡ true = sym gives ∙ e in absurd cc) (λ e. let wrong : false ≡ true = sym takes ∙ e in absurd cc)
     (why_more (is_shown k f.calls []) (is_shown k f.calls adds.moved) (Some p.ending) (Some p'.ending) None (shown_moved k f.calls adds.moved) f.why)
     (drops_same (is_shown k f.calls []) p p' f.left f.why)
 
@@ -271,7 +298,7 @@ hung_serve k h h' m p p' hung left is =
     let why = why_stays (is_shown k (HungUp k ∷ []) []) p.ending p'.ending is in
     serve_port k h h' m m p p' (HungUp k ∷ []) [] [] [] [] false false (h', (hung, refl)) (adds_nothing m m k (go_nowhere m)) (λ i. same_here (eqb k i) []) (λ i. same_here (eqb k i) []) (λ i. same_here (eqb k i) false)
     (why_unfed _ p.ending p'.ending why)
-    (subst (λ (x : Option (List ℕ)). PassesOn p.left [] [] x) (sym left) (passes_nothing p.left)) (λ e. refl) (λ e. absurd cc) (λ e. absurd cc) why (drops_same (is_shown k (HungUp k ∷ []) []) p p' left why)
+    (subst (λ (x : Option (List ℕ)). PassesOn p.left [] [] x) (sym left) (passes_nothing p.left)) (λ e. refl) (λ e. absurd cc) (λ e. absurd cc) (λ e. absurd cc) (λ e. absurd cc) why (drops_same (is_shown k (HungUp k ∷ []) []) p p' left why)
 
 -- what is left of the stream of a link that is read is nothing
 only_nothing : (p : Port) (left : List ℕ) → unfed_of (Some p) ≡ Some left → left ≡ []
@@ -351,33 +378,33 @@ ends_serve k h m m' p p' went left is =
     let why = why_ends (is_shown k [] (LinkGave k [] ∷ [])) p.ending p'.ending ending.Closed is (ap (λ (b : Bool). cond b true false) (eq-eqb k k refl)) in
     serve_port k h h m m' p p' [] [] [] [] [] true false refl (adds_read m m' k [] went) (λ i. same_here (eqb k i) []) (λ i. same_here (eqb k i) []) (λ i. same_here (eqb k i) false)
     (subst (λ (x : Option (List ℕ)). PassesOn (unfed_of (Some p)) [] [] x) (sym (is_ended p' end)) (passes_end (unfed_of (Some p))))
-    (subst (λ (x : Option (List ℕ)). PassesOn p.left [] [] x) (sym left) (passes_nothing p.left)) (λ e. refl) (λ e. is_ended p' end) (λ e. absurd cc) why (drops_same (is_shown k [] (LinkGave k [] ∷ [])) p p' left why)
+    (subst (λ (x : Option (List ℕ)). PassesOn p.left [] [] x) (sym left) (passes_nothing p.left)) (λ e. refl) (λ e. is_ended p' end) (λ e. absurd cc) (λ e. absurd cc) (λ e. absurd cc) why (drops_same (is_shown k [] (LinkGave k [] ∷ [])) p p' left why)
 
 -- a read failed
 pub fails_serve : (k : ℕ) (h : Hub) (m m' : Moves) (p p' : Port) (kind : ErrorKind) → GoOn m m' (GaveNothing k kind ∷ []) → is_fault kind ≡ true → p'.left ≡ p.left → p'.ending ≡ Some (unwrap_or p.ending ending.ReadFailed) → ServesPort k h m p h m' p'
-fails_serve k h m m' p p' kind went fault left is = rests_serve k h m m' p p' (adds_refused_read m m' k kind went) left (why_ends (is_shown k [] (GaveNothing k kind ∷ [])) p.ending p'.ending ending.ReadFailed is (failed_here k kind fault))
+fails_serve k h m m' p p' kind went fault left is = rests_serve k h m m' p p' (adds_refused_read m m' k kind went) left (λ e. is_ended p' (ap (λ (x : Option Ending). is_some x) is)) refl (why_ends (is_shown k [] (GaveNothing k kind ∷ [])) p.ending p'.ending ending.ReadFailed is (failed_here k kind fault))
 
 -- a read would have waited, or a signal came
-pub waits_serve : (k : ℕ) (h : Hub) (m m' : Moves) (p p' : Port) (kind : ErrorKind) → GoOn m m' (GaveNothing k kind ∷ []) → p'.left ≡ p.left → p'.ending ≡ p.ending → ServesPort k h m p h m' p'
-waits_serve k h m m' p p' kind went left is = rests_serve k h m m' p p' (adds_refused_read m m' k kind went) left (why_stays (is_shown k [] (GaveNothing k kind ∷ [])) p.ending p'.ending is)
+pub waits_serve : (k : ℕ) (h : Hub) (m m' : Moves) (p p' : Port) (kind : ErrorKind) → GoOn m m' (GaveNothing k kind ∷ []) → is_fault kind ≡ false → p'.left ≡ p.left → p'.ending ≡ p.ending → ServesPort k h m p h m' p'
+waits_serve k h m m' p p' kind went other left is = rests_serve k h m m' p p' (adds_refused_read m m' k kind went) left (λ e. let wrong : false ≡ true = sym (waited_here k kind other) ∙ e in absurd cc) refl (why_stays (is_shown k [] (GaveNothing k kind ∷ [])) p.ending p'.ending is)
 
 -- a read gave nothing
 pub unread_serve : (k : ℕ) (h : Hub) (m m' : Moves) (p p' : Port) (kind : ErrorKind) → GoOn m m' (GaveNothing k kind ∷ []) → p'.left ≡ p.left → (is_fault kind ≡ true → p'.ending ≡ Some (unwrap_or p.ending ending.ReadFailed)) → (is_fault kind ≡ false → p'.ending ≡ p.ending) → ServesPort k h m p h m' p'
 unread_serve k h m m' p p' kind went left fault other = at (is_fault kind) refl where
   at : (b : Bool) → is_fault kind ≡ b → ServesPort k h m p h m' p'
   at true e = fails_serve k h m m' p p' kind went e left (fault e)
-  at false e = waits_serve k h m m' p p' kind went left (other e)
+  at false e = waits_serve k h m m' p p' kind went e left (other e)
 
 -- nothing was asked of the link, which isn't read any more for a bound or for want of memory
 pub bound_serve : (k : ℕ) (h : Hub) (m m' : Moves) (p p' : Port) (e : Ending) → GoOn m m' [] → is_shown k [] [] e ≡ true → p'.left ≡ p.left → p'.ending ≡ Some (unwrap_or p.ending e) → ServesPort k h m p h m' p'
-bound_serve k h m m' p p' e went on left is = rests_serve k h m m' p p' (adds_nothing m m' k went) left (why_ends (is_shown k [] []) p.ending p'.ending e is on)
+bound_serve k h m m' p p' e went on left is = rests_serve k h m m' p p' (adds_nothing m m' k went) left (λ f. absurd cc) refl (why_ends (is_shown k [] []) p.ending p'.ending e is on)
 
 pub stays_serve : (k : ℕ) (h : Hub) (m m' : Moves) (p p' : Port) → GoOn m m' [] → p'.left ≡ p.left → p'.ending ≡ p.ending → ServesPort k h m p h m' p'
-stays_serve k h m m' p p' went left is = rests_serve k h m m' p p' (adds_nothing m m' k went) left (why_stays (is_shown k [] []) p.ending p'.ending is)
+stays_serve k h m m' p p' went left is = rests_serve k h m m' p p' (adds_nothing m m' k went) left (λ f. absurd cc) refl (why_stays (is_shown k [] []) p.ending p'.ending is)
 
 -- the link gave a piece, which was fed
 pub piece_serve : (k : ℕ) (h h' : Hub) (m m' : Moves) (p p' : Port) (piece : List ℕ) → GoOn m m' (LinkGave k piece ∷ []) → is_end piece ≡ false → p.ending ≡ None → FeedsPort k h p piece h' p' → ServesPort k h m p h' m' p'
-piece_serve k h h' m m' p p' piece went more on fed = feeds_serve k h h' m m' p p' piece on (subst (λ (b : Bool). Adds m m' k piece [] b) more (adds_read m m' k piece went)) fed
+piece_serve k h h' m m' p p' piece went more on fed = feeds_serve k h h' m m' p p' piece on (adds_piece m m' k piece went more) refl refl fed
 
 same_last : (xs : List Moved) (x y : Moved) → xs ++ x ∷ [] ≡ xs ++ y ∷ [] → x ≡ y
 same_last [] x y e = cc
@@ -416,49 +443,45 @@ call_serves call h h' m p made stream output goes_on = record {
   unread = λ i e. refl;
   ended = λ i e. absurd cc;
   over = λ i e. let wrong : false ≡ true = sym (goes_on i) ∙ e in absurd cc;
+  fails = λ i e. absurd cc;
+  refuses = λ i e. absurd cc;
   why = λ i. why_same _ (why_of (p i)) None refl;
   drops = λ i d. d;
   closes = λ i e left is had. absurd cc;
   closed = λ i left none. stays_gone (call ∷ []) h h' i (h', (made, refl)) (left none);
 }
 
--- nothing was done, and links did nothing
-pub went_nowhere : (h : Hub) (m m' : Moves) (p : Ports) → GoOn m m' [] → Serves h m p h m' p
-went_nowhere h m m' p went = record {
+-- the hub did nothing, and links neither gave nor took anything
+nothing_passed : (opened : List ℕ) (moved : List Moved) (h : Hub) (m m' : Moves) (p : Ports) → GoOn m m' moved → opened_in moved ≡ opened → ((i : ℕ) → read_of i moved ≡ []) → ((i : ℕ) → written_of i moved ≡ []) → ((i : ℕ) → comes_to_its_end i moved ≡ false) → ((i : ℕ) → closed_as i moved ≡ None) → ((i : ℕ) → fails_to_give i moved ≡ false) → ((i : ℕ) → fails_to_take i moved ≡ false) → ServesOpening opened h m p h m' p
+nothing_passed opened moved h m m' p went opens gave took ended closed gives takes = record {
   calls = [];
-  moved = [];
+  moved = moved;
   made = refl;
   went = went;
-  opens = refl;
-  read = λ i. passes_nothing (unfed_of (p i));
-  written = λ i. passes_nothing (left_of (p i));
-  unread = λ i e. refl;
-  ended = λ i e. absurd cc;
+  opens = opens;
+  read = λ i. subst (λ (came : List ℕ). PassesOn (unfed_of (p i)) came [] (unfed_of (p i))) (sym (gave i)) (passes_nothing (unfed_of (p i)));
+  written = λ i. subst (λ (passed : List ℕ). PassesOn (left_of (p i)) [] passed (left_of (p i))) (sym (took i)) (passes_nothing (left_of (p i)));
+  unread = λ i e. gave i;
+  ended = λ i e. (let wrong : false ≡ true = sym (ended i) ∙ e in absurd cc);
   over = λ i e. absurd cc;
-  why = λ i. why_same _ (why_of (p i)) None refl;
+  fails = λ i e. (let wrong : false ≡ true = sym (gives i) ∙ e in absurd cc);
+  refuses = λ i e. (let wrong : false ≡ true = sym (takes i) ∙ e in absurd cc);
+  why = λ i. why_same _ (why_of (p i)) (closed_as i moved) (closed i);
   drops = λ i d. d;
-  closes = λ i e left is had. absurd cc;
+  closes = λ i e left is had. (let wrong : None ≡ Some e = sym (closed i) ∙ is in absurd cc);
   closed = λ i left. left;
 }
 
+pub went_nowhere : (h : Hub) (m m' : Moves) (p : Ports) → GoOn m m' [] → Serves h m p h m' p
+went_nowhere h m m' p went = nothing_passed [] [] h m m' p went refl (λ i. refl) (λ i. refl) (λ i. refl) (λ i. refl) (λ i. refl) (λ i. refl)
+
 -- nobody came
 pub nobody_serves : (h : Hub) (m m' : Moves) (p : Ports) (kind : ErrorKind) → GoOn m m' (NobodyCame kind ∷ []) → Serves h m p h m' p
-nobody_serves h m m' p kind went = record {
-  calls = [];
-  moved = NobodyCame kind ∷ [];
-  made = refl;
-  went = went;
-  opens = refl;
-  read = λ i. passes_nothing (unfed_of (p i));
-  written = λ i. passes_nothing (left_of (p i));
-  unread = λ i e. refl;
-  ended = λ i e. absurd cc;
-  over = λ i e. absurd cc;
-  why = λ i. why_same _ (why_of (p i)) None refl;
-  drops = λ i d. d;
-  closes = λ i e left is had. absurd cc;
-  closed = λ i left. left;
-}
+nobody_serves h m m' p kind went = nothing_passed [] (NobodyCame kind ∷ []) h m m' p went refl (λ i. refl) (λ i. refl) (λ i. refl) (λ i. refl) (λ i. refl) (λ i. refl)
+
+-- link k is opened
+pub link_opened : (k : ℕ) (h : Hub) (m m' : Moves) (p : Ports) → GoOn m m' (LinkOpened k ∷ []) → ServesOpening (k ∷ []) h m p h m' p
+link_opened k h m m' p went = nothing_passed (k ∷ []) (LinkOpened k ∷ []) h m m' p went refl (λ i. refl) (λ i. refl) (λ i. refl) (λ i. refl) (λ i. refl) (λ i. refl)
 
 pub served_nothing : (h : Hub) (m : Moves) (p : Ports) → Serves h m p h m p
 served_nothing h m p = went_nowhere h m m p (go_nowhere m)
@@ -471,25 +494,6 @@ opened_serves h h' m p made = call_serves Opened h h' m p made (λ i. refl) (λ 
 
 pub named_serves : (k : ℕ) (h h' : Hub) (m : Moves) (p : Ports) → Names h k h' → Serves h m p h' m p
 named_serves k h h' m p made = call_serves (Named k) h h' m p made (λ i. refl) (λ i. refl) (λ i. refl)
-
--- link k is opened
-pub link_opened : (k : ℕ) (h : Hub) (m m' : Moves) (p : Ports) → GoOn m m' (LinkOpened k ∷ []) → ServesOpening (k ∷ []) h m p h m' p
-link_opened k h m m' p went = record {
-  calls = [];
-  moved = LinkOpened k ∷ [];
-  made = refl;
-  went = went;
-  opens = refl;
-  read = λ i. passes_nothing (unfed_of (p i));
-  written = λ i. passes_nothing (left_of (p i));
-  unread = λ i e. refl;
-  ended = λ i e. absurd cc;
-  over = λ i e. absurd cc;
-  why = λ i. why_same _ (why_of (p i)) None refl;
-  drops = λ i d. d;
-  closes = λ i e left is had. absurd cc;
-  closed = λ i left. left;
-}
 
 -- what is done has nothing left, and nothing untaken, unless it is cut
 and_second : (x y : Bool) → (x && y) ≡ true → y ≡ true
@@ -517,6 +521,8 @@ closed_serves k h h' m m' o p lets went = record {
   unread = λ i e. refl;
   ended = λ i e. absurd cc;
   over = λ i e. absurd cc;
+  fails = λ i e. absurd cc;
+  refuses = λ i e. absurd cc;
   why = λ i. why_at i (eqb k i) (o i);
   drops = λ i. drops_at (eqb k i) (o i);
   closes = λ i e left is had. closes_at (eqb k i) (o i) e left is had;

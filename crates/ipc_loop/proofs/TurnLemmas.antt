@@ -1,15 +1,15 @@
 -- Ports that are taken out and put back.
 use Rattle.std.proofs.Common.{◌≡◌, ◌≢◌, ◌⊎◌, inl, inr, ℕ, zero, suc, ◌+◌, ◌<◌, Bool, true, false, ◌&&◌, eqb, cond, List, [], ◌∷◌, set, slice_get, Option, Some, None, refl, sym, ap, subst, ◌∙◌, arith}
 use Rattle.std.specs.Prelude.{unwrap_or}
-use Rattle.std.proofs.lemmas.Bool.{eq-eqb, eqb-true}
+use Rattle.std.proofs.lemmas.Bool.{eq-eqb}
 use Rattle.ipc_hub.specs.Marking.{is_set}
 use Rattle.std.specs.Option.{option_map}
-use Rattle.ipc_hub.specs.Hub.{Connection, Hub, Names, is_marked, untaken_at, fault_of_take}
+use Rattle.ipc_hub.specs.Hub.{Connection, Hub, Names, untaken_at, fault_of_take}
 use Rattle.ipc_hub.specs.declared.fed.HubFault.{HubFault}
 use Rattle.ipc_loop.specs.Moves.{Moved}
 use Rattle.ipc_loop.specs.Ports.{Port, new_port, port_at, open_at, with_port}
 use Rattle.ipc_loop.specs.Standing.{TakesOut, IsOut, IsSettled}
-use Rattle.ipc_loop.specs.Serving.{Serves, ServesPort, KeepsMarks, KeepsPortMarks, Answers, IsAnswered, IsOwedByMark, has_no_more, is_done}
+use Rattle.ipc_loop.specs.Serving.{Serves, ServesPort, KeepsMarks, KeepsPortMarks, Answers, IsAnswered, has_no_more, is_done}
 use Rattle.ipc_loop.proofs.ServingLemmas.{serves_both, serves_so, closed_serves}
 use Rattle.ipc_loop.proofs.OwingLemmas.{keeps_so, both_keep, closed_keeps}
 use Rattle.ipc_loop.proofs.PortLemmas.{Slots, get_set, slot_set, slot_none, taken_out}
@@ -42,10 +42,6 @@ pub turned_serves : (k : ℕ) (h h' h'' : Hub) (m m' m'' : Moves) (p q p' : Port
     → Serves h m (with_port (port_at xs) k (Some p)) h'' m'' (port_at ys)
 turned_serves k h h' h'' m m' m'' p q p' xs ys is empty serves settled = settled_serves k h h' h'' m m' m'' p p' xs ys empty (subst (λ (x : Port). ServesPort k h m x h' m' p') is serves) settled
 
-pub turned_keeps : (k : ℕ) (h h' h'' : Hub) (m' m'' : Moves) (p q p' : Port) (xs ys : Slots) → q ≡ p → slice_get xs k ≡ Some None → KeepsPortMarks k h q h' p' → IsSettled h' m' xs k p' h'' m'' ys
-    → KeepsMarks h (with_port (open_at xs) k (Some p)) h'' (open_at ys)
-turned_keeps k h h' h'' m' m'' p q p' xs ys is empty keeps settled = settled_keeps k h h' h'' m' m'' p p' xs ys empty (subst (λ (x : Port). KeepsPortMarks k h x h' p') is keeps) settled
-
 -- what is known of the hub's connection once its port is settled
 pub settled_there : (h : Hub) (k : ℕ) (fault : HubFault) (p : Port) → is_done h k p ≡ true → fault_of_take (slice_get h.connections k) ≡ Some fault → ⊥
 settled_there h k fault p done none = at (slice_get h.connections k) done none where
@@ -56,9 +52,6 @@ settled_there h k fault p done none = at (slice_get h.connections k) done none w
 -- the same, of a port that stood among the others
 pub taken_serves : (k : ℕ) (h h' : Hub) (m m' : Moves) (p : Port) (xs ys zs : Slots) → TakesOut xs k p ys → Serves h m (with_port (port_at ys) k (Some p)) h' m' (port_at zs) → Serves h m (port_at xs) h' m' (port_at zs)
 taken_serves k h h' m m' p xs ys zs out serves = serves_so h h' m m' (with_port (port_at ys) k (Some p)) (port_at xs) (port_at zs) (port_at zs) (λ i. sym (taken_out (Some new_port) xs ys k p out i)) (λ i. refl) serves
-
-pub taken_keeps : (k : ℕ) (h h' : Hub) (p : Port) (xs ys zs : Slots) → TakesOut xs k p ys → KeepsMarks h (with_port (open_at ys) k (Some p)) h' (open_at zs) → KeepsMarks h (open_at xs) h' (open_at zs)
-taken_keeps k h h' p xs ys zs out keeps = keeps_so h h' (with_port (open_at ys) k (Some p)) (open_at xs) (open_at zs) (open_at zs) (λ i. sym (taken_out None xs ys k p out i)) (λ i. refl) keeps
 
 -- ---- connections that were answered
 
@@ -78,7 +71,7 @@ flag_there flags k e = at (slice_get flags k) e where
   at None f = absurd cc
   at (Some b) f = ap (λ (x : Bool). Some x) f
 
-marked_elsewhere : (flags : List Bool) (k i : ℕ) → is_set flags k ≡ true → eqb k i ≡ false → is_set (set flags k false) i ≡ is_set flags i
+pub marked_elsewhere : (flags : List Bool) (k i : ℕ) → is_set flags k ≡ true → eqb k i ≡ false → is_set (set flags k false) i ≡ is_set flags i
 marked_elsewhere flags k i on other = ap (λ (s : Option Bool). unwrap_or s false) (get_set flags k true false i (flag_there flags k on) ∙ ap (λ (b : Bool). cond b (Some false) (slice_get flags i)) other)
 
 -- how many flags are set
@@ -105,13 +98,3 @@ out_answered k h xs ys out port e = absurd (out.here port (at (slice_get ys k) e
   at : (s : Option (Option Port)) → unwrap_or s None ≡ Some port → s ≡ Some (Some port)
   at None f = absurd cc
   at (Some x) f = ap (λ (y : Option Port). Some y) f
-
--- who else is owed answers is marked, once connection k was named and answered
-pub named_others : (k : ℕ) (h n h' : Hub) (p p' : Slots) → Names h k n → ((i : ℕ) → eqb k i ≡ false → IsOwedByMark n (open_at p) i → IsOwedByMark h' (open_at p') i) → IsAnswered h' (open_at p') k
-    → ((i : ℕ) → IsOwedByMark h (open_at p) i) → (i : ℕ) → IsOwedByMark h' (open_at p') i
-named_others k h n h' p p' names others answered before i = at (eqb k i) refl where
-  at : (here : Bool) → eqb k i ≡ here → IsOwedByMark h' (open_at p') i
-  at true is = subst (λ (j : ℕ). IsOwedByMark h' (open_at p') j) (eqb-true k i is) (λ (u : is_marked h' k ≡ false). answered)
-  at false is = others i is (λ (u : is_marked n i ≡ false) port e.
-      subst (λ (x : Hub). (untaken_at x i ≡ []) ⊎ (port.left ≢ Some [])) (sym names.now)
-      (before i (sym (marked_elsewhere h.marked k i names.was is) ∙ ap (λ (x : Hub). is_marked x i) (sym names.now) ∙ u) port e))

@@ -7,7 +7,7 @@ use Rattle.ipc_loop.specs.declared.ending.Ending.TheVariants.{NoMemory}
 use Rattle.ipc_loop.specs.Moves.{Moved, closed_as}
 use Rattle.ipc_loop.specs.Ports.{Port}
 use Rattle.ipc_loop.specs.Serving.{is_shown, may_drop, IsTold, HasWhy, DropsForAReason}
-use Rattle.ipc_loop.proofs.MoveLemmas.{first_of, closed_both, shown_both}
+use Rattle.ipc_loop.proofs.MoveLemmas.{first_of, closed_both, shown_both, or_left, or_right}
 
 abbrev pub Why : Type 0
 Why = Option (Option Ending)
@@ -17,14 +17,6 @@ pub why_same : (shown : Ending → Bool) (w : Why) (closed : Option Ending) → 
 why_same shown None closed none = (refl, none)
 why_same shown (Some None) closed none = inl (refl, none)
 why_same shown (Some (Some e)) closed none = (e, (inl refl, inl (refl, none)))
-
-or_left : (a b c : Bool) → c ≡ (a || b) → a ≡ true → c ≡ true
-or_left true b c e on = e
-or_left false b c e on = absurd cc
-
-or_right : (a b c : Bool) → c ≡ (a || b) → b ≡ true → c ≡ true
-or_right true b c e on = e
-or_right false b c e on = e ∙ on
 
 and_or_left : (d a b c : Bool) → c ≡ (a || b) → (d && a) ≡ true → (d && c) ≡ true
 and_or_left true a b c e on = or_left a b c e on

@@ -18,10 +18,29 @@ HasLeft k n moved (Some left) = length left ≡ left_by k n moved
 abbrev pub OffersNothing : ℕ → List Moved → Type 0
 OffersNothing i moved = (n : ℕ) → left_by i n moved ≡ n
 
+-- how many bytes are left for a link
+abbrev pub how_many_left : Option (List ℕ) → ℕ
+how_many_left None = 0
+how_many_left (Some left) = length left
+
+-- whether some are
+abbrev pub has_left : Option (List ℕ) → Bool
+has_left None = false
+has_left (Some []) = false
+has_left (Some (byte ∷ bytes)) = true
+
 -- whether a link gave more if it were asked: it is read, all that was taken for it is written, no requests of it wait to be stepped, and it is not
 -- known to give nothing
 abbrev pub may_be_read : Port → Bool
 may_be_read port = is_none port.ending && (port.may_read && (not port.is_full && is_all port.left))
+
+-- whether bytes are left for a link, and it may be written
+abbrev pub may_be_written : Port → Bool
+may_be_written port = port.may_write && has_left port.left
+
+-- link i was offered all that was left for it, at once
+abbrev pub IsOffered : ℕ → List Moved → Port → Type 0
+IsOffered i moved port = is_offered i (how_many_left port.left) moved ≡ true
 
 -- link i was asked for more; or it was offered as much as is written in a turn; or it isn't read any more
 abbrev pub IsServed : ℕ → List Moved → Option Port → Type 0
@@ -33,6 +52,7 @@ pub record TakesTurn (k : ℕ) (moves moves' : Option (List Moved)) (port port' 
   pub went : GoOn moves moves' moved
   pub others : (i : ℕ) → (k == i) ≡ false → OffersNothing i moved
   pub left : IsLeft k moved port.left port'.left
+  pub offered : may_be_written port ≡ true → IsOffered k moved port
   pub served : may_be_read port ≡ true → IsServed k moved (Some port')
 
 -- the same, where it was offered alone
@@ -75,20 +95,27 @@ pub record Refuses (moves moves' : Option (List Moved)) (ports ports' : ℕ → 
 abbrev pub IsStillRead : Option Port → Type 0
 IsStillRead port = (port' : Port) × ((port ≡ Some port') × (may_be_read port' ≡ true))
 
--- the same, where these links had a turn: who may be read was asked for more, or had none
+-- as many bytes are left as before, and it may still be written
+abbrev pub IsStillWritten : Port → Option Port → Type 0
+IsStillWritten before port = (port' : Port) × ((port ≡ Some port') × ((may_be_written port' ≡ true) × (port'.left ≡ before.left)))
+
+-- the same, where these links had a turn: who may be read was asked for more, and who may be written was offered what was left, or had none
 pub record Asks (turns : List ℕ) (moves moves' : Option (List Moved)) (ports ports' : ℕ → Option Port) : Type 0 where
   pub moved : List Moved
   pub went : GoOn moves moves' moved
   pub left : (i : ℕ) → IsLeft i moved (left_of (ports i)) (left_of (ports' i))
   pub ended : (i : ℕ) → unfed_of (ports i) ≡ None → unfed_of (ports' i) ≡ None
+  pub offered : (i : ℕ) (port : Port) → ports i ≡ Some port → may_be_written port ≡ true → IsOffered i moved port ⊎ (IsStillWritten port (ports' i) × (stands_in i turns ≡ false))
   pub asked : (i : ℕ) (port : Port) → ports i ≡ Some port → may_be_read port ≡ true → IsServed i moved (ports' i) ⊎ (IsStillRead (ports' i) × (stands_in i turns ≡ false))
 
--- over a round: what is left for each link is what it left when it was offered it; and each link that has a turn and may be read was asked
--- for more, or was offered as much as is written in a turn, or isn't read any more
+-- over a round: what is left for each link is what it left when it was offered it. Each link that has a turn and may be written was offered what
+-- was left from before; and each that has one and may be read was asked for more, or was offered as much as is written in a turn, or isn't
+-- read any more
 pub record AsksAll (turns : List ℕ) (moves moves' : Option (List Moved)) (ports ports' : ℕ → Option Port) : Type 0 where
   pub moved : List Moved
   pub went : GoOn moves moves' moved
   pub left : (i : ℕ) → IsLeft i moved (left_of (ports i)) (left_of (ports' i))
+  pub offered : (i : ℕ) (port : Port) → stands_in i turns ≡ true → ports i ≡ Some port → may_be_written port ≡ true → IsOffered i moved port
   pub asked : (i : ℕ) (port : Port) → stands_in i turns ≡ true → ports i ≡ Some port → may_be_read port ≡ true → IsServed i moved (ports' i)
 
 -- nothing of the port changes but what is left for its link; or bytes for it are dropped, and it isn't read any more

@@ -103,7 +103,7 @@ Gives old new i r buffer = MatchResult r (λ n. GoOn old new (LinkGave i (take n
 abbrev pub Takes : Option (List Moved) → Option (List Moved) → ℕ → Result ℕ Error → List ℕ → Type 0
 Takes old new i r bytes = MatchResult r (λ n. GoOn old new (LinkTook i (take n bytes) (length bytes - n) ∷ [])) (λ e. GoOn old new (TookNothing i (length bytes) (error_kind e) ∷ []))
 
--- moves go on with link k giving and taking these bytes, and coming to its end or not
+-- moves go on with link k giving and taking these bytes, and coming to its end or not; no read of another failed, and no write to one
 pub record Adds (moves moves' : Option (List Moved)) (k : ℕ) (gave took : List ℕ) (ended : Bool) : Type 0 where
   pub moved : List Moved
   pub went : GoOn moves moves' moved
@@ -111,4 +111,6 @@ pub record Adds (moves moves' : Option (List Moved)) (k : ℕ) (gave took : List
   pub written : (i : ℕ) → written_of i moved ≡ (if k == i then took else [])
   pub end : (i : ℕ) → comes_to_its_end i moved ≡ (if k == i then ended else false)
   pub opened : opened_in moved ≡ []
+  pub fails : (i : ℕ) → (k == i) ≡ false → fails_to_give i moved ≡ false
+  pub refuses : (i : ℕ) → (k == i) ≡ false → fails_to_take i moved ≡ false
   pub closed : (i : ℕ) → closed_as i moved ≡ None

@@ -1,5 +1,5 @@
 -- What follows from the rounds of a server, over any number of them: from the bytes that a link gives to those that it takes.
-use Rattle.std.specs.Prelude.{◌≡◌, ℕ, List, [], ◌∷◌, ◌++◌, slice_get, Option, Some, None}
+use Rattle.std.specs.Prelude.{◌≡◌, true, ℕ, List, [], ◌∷◌, ◌++◌, slice_get, Option, Some, None}
 use Rattle.ipc_terms.specs.declared.ids.Sid.{Sid}
 use Rattle.ipc_policy.specs.declared.config.Config.{Config}
 use Rattle.ipc_policy.specs.Verdict.{outbox}
@@ -28,7 +28,7 @@ MakesRounds (next ∷ later) old moves new moves' = MakesRound old moves next.se
 
 -- a server that has done nothing
 abbrev pub new_server : Config → Bounds → Server
-new_server c bounds = record { hub = new_hub c; ports = []; turns = []; bounds = bounds }
+new_server c bounds = record { hub = new_hub c; ports = []; turns = []; bounds = bounds; may_accept = true; pausing = None }
 
 -- of what a link gave, a beginning was fed, each byte once and in order. It is a hello, then the calls of the session in the
 -- trail, and then what was not stepped

@@ -1,6 +1,7 @@
 -- What is seen of a server: its hub, the ports of all links that it accepted by their numbers, none where a link is closed, who
--- gets a turn in the next round, and how many links it opens.
+-- gets a turn in the next round, how many links it opens, whether somebody may be waiting to be accepted, and why accepting failed, if it did.
 use Rattle.std.specs.Prelude.{◌≡◌, Bool, ◌&&◌, ◌==◌, ℕ, List, length, slice_get, Option, Some, None}
+use Rattle.std.specs.declared.io.ErrorKind.{ErrorKind}
 use Rattle.ipc_hub.specs.Hub.{Hub, IsGone}
 use Rattle.ipc_loop.specs.Ports.{Port, how_many_open}
 use Rattle.ipc_loop.specs.Bounds.{are_all}
@@ -11,6 +12,8 @@ pub record Server : Type 0 where
   pub ports : List (Option Port)
   pub turns : List ℕ
   pub bounds : Bounds
+  pub may_accept : Bool
+  pub pausing : Option ErrorKind
 
 -- whether as many links were accepted as are to be, and none is open
 abbrev pub is_over : Server → Bool

@@ -70,8 +70,8 @@ abbrev pub LeavesNothing : Hub → (ℕ → Option Port) → ℕ → Type 0
 LeavesNothing hub ports i = ports i ≡ None → IsGone hub i
 
 -- from one moment to another: these links were opened, what each gave passed on to the hub, and what the hub gave passed on
--- to the link. Nothing else happened to the hub or to links. A link that is not read any more gave nothing, and one whose stream ended,
--- is at fault or began with a hello that was refused is not read any more. A link that isn't read any more, or is closed, is so for a reason
+-- to the link. Nothing else happened to the hub or to links. A link that is not read any more gave nothing, and one of which a read failed, or
+-- whose stream ended, is at fault or began with a hello that was refused is not read any more. One to which a write failed takes nothing any more. A link that isn't read any more, or is closed, is so for a reason
 -- that shows. A link that is closed leaves nothing, and took all that came for it, unless it is told that bytes were dropped
 pub record ServesOpening (opened : List ℕ) (hub : Hub) (moves : Option (List Moved)) (ports : ℕ → Option Port) (hub' : Hub) (moves' : Option (List Moved)) (ports' : ℕ → Option Port) : Type 0 where
   pub calls : List Call
@@ -84,6 +84,8 @@ pub record ServesOpening (opened : List ℕ) (hub : Hub) (moves : Option (List M
   pub unread : (i : ℕ) → unfed_of (ports i) ≡ None → read_of i moved ≡ []
   pub ended : (i : ℕ) → comes_to_its_end i moved ≡ true → unfed_of (ports' i) ≡ None
   pub over : (i : ℕ) → ends_at_a_feed i calls ≡ true → unfed_of (ports' i) ≡ None
+  pub fails : (i : ℕ) → fails_to_give i moved ≡ true → unfed_of (ports' i) ≡ None
+  pub refuses : (i : ℕ) → fails_to_take i moved ≡ true → left_of (ports' i) ≡ None
   pub why : (i : ℕ) → HasWhy (is_shown i calls moved) (why_of (ports i)) (closed_as i moved) (why_of (ports' i))
   pub drops : (i : ℕ) → DropsForAReason (ports i) → DropsForAReason (ports' i)
   pub closes : (i : ℕ) (ending : Ending) (left : List ℕ) → closed_as i moved ≡ Some ending → left_of (ports i) ≡ Some left → (may_drop ending ≡ true) ⊎ (written_of i moved ≡ left ++ output_of i calls)
@@ -132,6 +134,8 @@ took_of (Some count) bytes = take count bytes
 pub record Offers (k : ℕ) (moves moves' : Option (List Moved)) (bytes : List ℕ) (taken : Option ℕ) : Type 0 where
   pub added : Adds moves moves' k [] (took_of taken bytes) false
   pub failed : taken ≡ None → fails_to_take k added.moved ≡ true
+  pub took : (count : ℕ) → taken ≡ Some count → fails_to_take k added.moved ≡ false
+  pub unasked : fails_to_give k added.moved ≡ false
   pub offered : (n : ℕ) → n ≤ length bytes → is_offered k n added.moved ≡ true
   pub left : (count n : ℕ) → taken ≡ Some count → left_by k n added.moved ≡ length bytes - count
   pub others : (i : ℕ) → (k == i) ≡ false → OffersNothing i added.moved
@@ -141,6 +145,8 @@ pub record Writes (k : ℕ) (moves moves' : Option (List Moved)) (port : Port) (
   pub took : List ℕ
   pub added : Adds moves moves' k [] took false
   pub left : PassesOn port.left more took port'.left
+  pub fails : fails_to_give k added.moved ≡ true → unfed_of (Some port') ≡ None
+  pub refuses : fails_to_take k added.moved ≡ true → port'.left ≡ None
   pub why : HasWhy (is_shown k [] added.moved) (Some port.ending) None (Some port'.ending)
   pub drops : DropsForAReason (Some port) → DropsForAReason (Some port')
 
@@ -188,6 +194,29 @@ has_no_more untaken (Some (byte ∷ bytes)) = false
 -- whether nothing is left to do for link i but to close it: its connection is over, and nothing is still to be written
 abbrev pub is_done : Hub → ℕ → Port → Bool
 is_done hub i port = is_over_at hub i && has_no_more (untaken_at hub i) port.left
+
+-- link i, if it is open, isn't done
+abbrev pub IsUndone : Hub → (ℕ → Option Port) → ℕ → Type 0
+IsUndone hub ports i = (port : Port) → ports i ≡ Some port → is_done hub i port ≡ false
+
+abbrev pub NobodyIsDone : Hub → (ℕ → Option Port) → Type 0
+NobodyIsDone hub ports = (i : ℕ) → IsUndone hub ports i
+
+-- all that connection i was answered is taken, as above, and its link isn't left open for nothing
+abbrev pub IsUpToDate : Hub → (ℕ → Option Port) → ℕ → Type 0
+IsUpToDate hub ports i = IsAnswered hub ports i × IsUndone hub ports i
+
+-- the same, or it is marked
+abbrev pub IsUpToDateByMark : Hub → (ℕ → Option Port) → ℕ → Type 0
+IsUpToDateByMark hub ports i = is_marked hub i ≡ false → IsUpToDate hub ports i
+
+-- who isn't up to date is marked, if it was so before
+abbrev pub KeepsUpToDate : Hub → (ℕ → Option Port) → Hub → (ℕ → Option Port) → Type 0
+KeepsUpToDate hub ports hub' ports' = (i : ℕ) → IsUpToDateByMark hub ports i → IsUpToDateByMark hub' ports' i
+
+-- of each connection but k, whatever its port is: where that is done it is marked, if it was so before
+abbrev pub OthersStayUndone : ℕ → Hub → Hub → Type 0
+OthersStayUndone k hub hub' = (i : ℕ) (port : Port) → (k == i) ≡ false → (is_marked hub i ≡ false → is_done hub i port ≡ false) → is_marked hub' i ≡ false → is_done hub' i port ≡ false
 
 -- link k is done, and what its connection still had is dropped: it is gone, and all others are as they were
 pub record LetsGo (hub : Hub) (k : ℕ) (port : Port) (hub' : Hub) : Type 0 where

@@ -9,7 +9,7 @@ use Rattle.ipc_loop.specs.declared.ending.Ending.TheVariants.{NoMemory}
 use Rattle.ipc_loop.specs.Moves.{Moved, LinkClosed, GoOn}
 use Rattle.ipc_loop.specs.Bounds.{IsWithin}
 use Rattle.ipc_loop.specs.declared.accepting.Bounds.{Bounds}
-use Rattle.ipc_loop.specs.Serving.{IsOwedByMark, LeavesNothing, LetsGo}
+use Rattle.ipc_loop.specs.Serving.{IsUpToDateByMark, LeavesNothing, LetsGo, is_done}
 
 -- the ports by their numbers, none where a link is closed; whether each number is queued; the numbers that get a turn in
 -- this round and in the next; for how many more ports, flags and numbers there is room; and for how many numbers each of
@@ -69,17 +69,17 @@ pub record TakesOut (old : List (Option Port)) (number : ℕ) (port : Port) (new
   pub there : slice_get old number ≡ Some (Some port)
   pub rest : new ≡ slice_set old number None
 
--- the port that was taken out is put back; or its link is closed and told why, its place stays empty, and its connection is let go
+-- the port that was taken out, and isn't done, is put back; or its link is closed and told why, its place stays empty, and its connection is let go
 abbrev pub IsSettled : Hub → Option (List Moved) → List (Option Port) → ℕ → Port → Hub → Option (List Moved) → List (Option Port) → Type 0
 IsSettled hub moves old number port hub' moves' new =
-    ((hub' ≡ hub) × (moves' ≡ moves) × (new ≡ slice_set old number (Some port))) ⊎
+    ((hub' ≡ hub) × (moves' ≡ moves) × (new ≡ slice_set old number (Some port)) × (is_done hub number port ≡ false)) ⊎
     (LetsGo hub number port hub' × GoOn moves moves' (LinkClosed number (unwrap_or port.ending NoMemory) ∷ []) × (new ≡ old))
 
--- between two rounds: nobody has a turn in this one, who is owed answers is marked, no more links are open than may be, and who
+-- between two rounds: nobody has a turn in this one, who is owed answers, or whose link is done, is marked, no more links are open than may be, and who
 -- is closed left nothing
 pub record IsResting (hub : Hub) (ports : Ports) (bounds : Bounds) : Type 0 where
   pub turns : ports.turns ≡ []
-  pub marked : (i : ℕ) → IsOwedByMark hub (open_at ports.all) i
+  pub marked : (i : ℕ) → IsUpToDateByMark hub (open_at ports.all) i
   pub within : IsWithin bounds ports.all
   pub closed : (i : ℕ) → LeavesNothing hub (port_at ports.all) i
 

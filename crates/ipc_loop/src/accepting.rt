@@ -1,17 +1,20 @@
 //! Accepting connections.
 
-ghost use Rattle.std.specs.Prelude.{◌≡◌, ◌<◌, [], ℕ, List, Option, true, length, IfOk, OnOk};
-ghost use Rattle.ipc_hub.specs.Hub.{Hub, untaken_at};
+ghost use Rattle.std.specs.Prelude.{◌≡◌, ◌<◌, [], ℕ, List, Option, true, false, length, IfOk, IfErr, OnOk};
+ghost use Rattle.std.specs.IoError.{error_kind};
+ghost use Rattle.ipc_hub.specs.Hub.{Hub, untaken_at, is_over_at};
 ghost use Rattle.ipc_loop.specs.Moves.{Moved};
 ghost use Rattle.ipc_loop.specs.Ports.{Port, new_port, port_at, open_at, Continues};
 ghost use Rattle.ipc_loop.specs.Bounds.{are_all, IsWithin, HasRoom, AddsAtMostOne};
-ghost use Rattle.ipc_loop.specs.Serving.{Serves, ServesAndOpens, KeepsMarks};
+ghost use Rattle.ipc_loop.specs.Serving.{Serves, ServesAndOpens, KeepsUpToDate};
 ghost use Rattle.ipc_loop.specs.Asking.{Asks};
+ghost use Rattle.ipc_loop.specs.Listening.{Listens, HasNoRoom, Comes, behind_refusal, refusal_of, is_again};
 ghost use Rattle.ipc_loop.specs.Standing.{HasRoomForOne};
 
 use crate::links::Host;
 use crate::port::Port;
 use crate::ports::Ports;
+use crate::serving::is_over;
 use ipc_hub::{Conn, Hub};
 use ipc_terms::NoMemory;
 use std::alloc::Global;
@@ -36,14 +39,14 @@ pub struct Accepting {
     pub bounds: Bounds,
     /// Somebody may be waiting to be accepted.
     pub may_accept: bool,
-    /// Accepting failed, and is tried again after a pause.
-    pub is_pausing: bool,
+    /// Why accepting failed, if it did in the last round. It is tried again after a pause.
+    pub pausing: Option<ErrorKind>,
 }
 
 /// Opens the hub's connection of this number, which is the next, if it isn't open.
 fn open_next(hub: &mut Hub, number: u64, alloc: Global) -> Result<(), NoMemory>
     ensures serves { (moves : Option (List Moved)) (ports : ℕ → Option Port) → Serves hub.old moves ports hub.new moves ports }
-    ensures marks { (ports : ℕ → Option Port) → KeepsMarks hub.old ports hub.new ports }
+    ensures marks { (ports : ℕ → Option Port) → KeepsUpToDate hub.old ports hub.new ports }
 {
     if hub.untaken(Conn(number)).is_ok() {
         return Ok(());
@@ -54,17 +57,18 @@ fn open_next(hub: &mut Hub, number: u64, alloc: Global) -> Result<(), NoMemory>
     Ok(())
 }
 
-/// Makes all for the next link but the link: its connection, which was answered nothing, and its port. So nobody is
+/// Makes all for the next link but the link: its connection, which goes on and was answered nothing, and its port. So nobody is
 /// accepted for whom there is no memory.
 fn prepare(hub: &mut Hub, ports: &mut Ports, alloc: Global) -> Result<Box<Port>, NoMemory>
     ensures port { IfOk result (λ port. port.value ≡ new_port) }
     ensures untaken { OnOk result (untaken_at hub.new (length ports.new.all) ≡ []) }
+    ensures going { OnOk result (is_over_at hub.new (length ports.new.all) ≡ false) }
     ensures room { OnOk result (0 < ports.new.room) }
     ensures flags { OnOk result (0 < ports.new.room_of_flags) }
     ensures lists { OnOk result (HasRoomForOne ports.new) }
     ensures numbers { OnOk result (0 < ports.new.room_of_numbers) }
     ensures serves { (moves : Option (List Moved)) (all : ℕ → Option Port) → Serves hub.old moves all hub.new moves all }
-    ensures marks { (all : ℕ → Option Port) → KeepsMarks hub.old all hub.new all }
+    ensures marks { (all : ℕ → Option Port) → KeepsUpToDate hub.old all hub.new all }
     ensures all { ports.new.all ≡ ports.old.all }
     ensures turns { ports.new.turns ≡ ports.old.turns }
     ensures next { ports.new.next ≡ ports.old.next }
@@ -74,6 +78,9 @@ fn prepare(hub: &mut Hub, ports: &mut Ports, alloc: Global) -> Result<Box<Port>,
     let Ok(0) = hub.untaken(Conn(number)) else {
         return Err(NoMemory);
     };
+    if is_over(hub, number) {
+        return Err(NoMemory);
+    }
     ports.forget_numbers();
     ports.prepare()
 }
@@ -81,11 +88,13 @@ fn prepare(hub: &mut Hub, ports: &mut Ports, alloc: Global) -> Result<Box<Port>,
 /// Accepts the next link, whose number is how many were accepted before.
 fn accept<H: Host>(hub: &mut Hub, host: &mut H, ports: &mut Ports, alloc: Global) -> io::Result<()>
     ensures serves { ServesAndOpens hub.old (H.moves host.old) ports.old.all hub.new (H.moves host.new) ports.new.all }
-    ensures marks { KeepsMarks hub.old (open_at ports.old.all) hub.new (open_at ports.new.all) }
+    ensures marks { KeepsUpToDate hub.old (open_at ports.old.all) hub.new (open_at ports.new.all) }
     ensures adds { AddsAtMostOne ports.old.all ports.new.all }
     ensures turns { ports.new.turns ≡ ports.old.turns }
     ensures next { ports.new.next ≡ ports.old.next }
     ensures asks { Asks [] (H.moves host.old) (H.moves host.new) (port_at ports.old.all) (port_at ports.new.all) }
+    ensures comes { Comes (H.moves host.old) (H.moves host.new) ports.old.all ports.new.all result }
+    ensures silent { H.told host.new ≡ H.told host.old }
 {
     let Ok(port) = prepare(hub, ports, alloc) else {
         return Err(io::Error::from(ErrorKind::OutOfMemory));
@@ -110,6 +119,7 @@ impl Accepting {
     pub fn is_open(&self, ports: &Ports) -> bool
         ensures room { result ≡ true → HasRoom self.now.bounds ports.now.all }
         ensures asked { self.now.may_accept ≡ true → HasRoom self.now.bounds ports.now.all → result ≡ true }
+        ensures full { self.now.may_accept ≡ true → result ≡ false → HasNoRoom self.now.bounds ports.now.all }
     {
         self.may_accept && !self.has_all(ports) && ports.open() < self.bounds.most
     }
@@ -123,14 +133,17 @@ impl Accepting {
         alloc: Global,
     )
         ensures serves { ServesAndOpens hub.old (H.moves host.old) ports.old.all hub.new (H.moves host.new) ports.new.all }
-        ensures marks { KeepsMarks hub.old (open_at ports.old.all) hub.new (open_at ports.new.all) }
+        ensures marks { KeepsUpToDate hub.old (open_at ports.old.all) hub.new (open_at ports.new.all) }
         ensures bounds { self.new.bounds ≡ self.old.bounds }
         ensures within { IsWithin self.old.bounds ports.old.all → IsWithin self.old.bounds ports.new.all }
         ensures continues { Continues ports.old.all ports.new.all }
         ensures turns { ports.new.turns ≡ ports.old.turns }
         ensures next { ports.new.next ≡ ports.old.next }
         ensures asks { Asks [] (H.moves host.old) (H.moves host.new) (port_at ports.old.all) (port_at ports.new.all) }
+        ensures listens { Listens self.old.bounds self.old.may_accept (H.moves host.old) (H.moves host.new) ports.old.all ports.new.all self.new.may_accept self.new.pausing }
+        ensures silent { H.told host.new ≡ H.told host.old }
     {
+        self.pausing = None;
         for _ in 0..MOST_ACCEPTED {
             if !self.is_open(ports) {
                 return;
@@ -144,9 +157,12 @@ impl Accepting {
 
     /// Whether another is accepted at once.
     fn goes_on(&mut self, accepted: io::Result<()>) -> bool
-        ensures { self.new.bounds ≡ self.old.bounds }
+        ensures bounds { self.new.bounds ≡ self.old.bounds }
+        ensures ok { OnOk accepted (self.new ≡ self.old) }
+        ensures more { OnOk accepted (result ≡ true) }
+        ensures err { IfErr accepted (λ e. self.new ≡ behind_refusal (refusal_of (error_kind e)) (error_kind e) self.old) }
+        ensures again { IfErr accepted (λ e. result ≡ is_again (refusal_of (error_kind e))) }
     {
-        self.is_pausing = false;
         let Err(error) = accepted else {
             return true;
         };
@@ -157,8 +173,8 @@ impl Accepting {
                 false
             }
             // As with too many open files. It is tried again in each round, and after a pause.
-            _ => {
-                self.is_pausing = true;
+            kind => {
+                self.pausing = Some(kind);
                 false
             }
         }

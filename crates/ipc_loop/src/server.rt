@@ -1,13 +1,15 @@
 //! The loop.
 
-ghost use Rattle.std.specs.Prelude.{◌≡◌, [], None, OnOk, OnErr, IfOk, IfErr, MatchOption};
+ghost use Rattle.std.specs.Prelude.{◌≡◌, [], true, None, OnOk, OnErr, IfOk, IfErr, MatchOption};
 ghost use Rattle.ipc_state.specs.Ranges.{first_bad};
 ghost use Rattle.ipc_hub.specs.Hub.{new_hub};
 ghost use Rattle.ipc_loop.specs.Ports.{open_at, port_at, NobodyIsForgotten, Continues};
 ghost use Rattle.ipc_loop.specs.Bounds.{IsWithin};
 ghost use Rattle.ipc_loop.specs.Server.{is_over, EachClosedIsGone};
 ghost use Rattle.ipc_loop.specs.Asking.{AsksAll};
-ghost use Rattle.ipc_loop.specs.Serving.{ServesAndOpens, NobodyIsOwed};
+ghost use Rattle.ipc_loop.specs.Listening.{Listens};
+ghost use Rattle.ipc_loop.specs.Hearing.{HearsAll};
+ghost use Rattle.ipc_loop.specs.Serving.{ServesAndOpens, NobodyIsOwed, NobodyIsDone};
 
 use crate::accepting::{Accepting, Bounds};
 use crate::links::Host;
@@ -45,7 +47,7 @@ impl Model for Server {
 
     ghost Value = { Server };
 
-    ghost view = { λ s. record { hub = s.hub; ports = s.ports.all; turns = s.ports.next; bounds = s.accepting.bounds } };
+    ghost view = { λ s. record { hub = s.hub; ports = s.ports.all; turns = s.ports.next; bounds = s.accepting.bounds; may_accept = s.accepting.may_accept; pausing = s.accepting.pausing } };
 
     ghost invariant = { λ s. IsResting s.hub s.ports s.accepting.bounds };
 }
@@ -60,7 +62,7 @@ impl Server {
         connections: usize,
         stop_after: Option<u64>,
     ) -> Result<Server, CoreFault>
-        ensures ok { IfOk result (λ server. server ≡ record { hub = new_hub config; ports = []; turns = []; bounds = record { most = connections; stop_after = stop_after } }) }
+        ensures ok { IfOk result (λ server. server ≡ record { hub = new_hub config; ports = []; turns = []; bounds = record { most = connections; stop_after = stop_after }; may_accept = true; pausing = None }) }
         ensures in_range { OnOk result (first_bad config.limits ≡ None) }
         ensures bad { IfErr result (λ fault. MatchOption (first_bad config.limits) (fault ≡ CoreFault.NoMemory) (λ field. fault ≡ CoreFault.BadConfig field)) }
     {
@@ -80,7 +82,7 @@ impl Server {
                     stop_after,
                 },
                 may_accept: true,
-                is_pausing: false,
+                pausing: None,
             },
             desk: Desk {
                 alloc,
@@ -137,9 +139,12 @@ impl Server {
     pub fn round<H: Host>(&mut self, host: &mut H) -> io::Result<()>
         ensures serves { ServesAndOpens self.old.hub (H.moves host.old) self.old.ports self.new.hub (H.moves host.new) self.new.ports }
         ensures rests { OnOk result (NobodyIsOwed self.new.hub (open_at self.new.ports)) }
+        ensures closes { OnOk result (NobodyIsDone self.new.hub (open_at self.new.ports)) }
         ensures nothing { OnErr result (self.new ≡ self.old) }
         ensures nobody { OnErr result (H.moves host.new ≡ H.moves host.old) }
         ensures asks { OnOk result (AsksAll self.old.turns (H.moves host.old) (H.moves host.new) (port_at self.old.ports) (port_at self.new.ports)) }
+        ensures listens { OnOk result (Listens self.old.bounds self.old.may_accept (H.moves host.old) (H.moves host.new) self.old.ports self.new.ports self.new.may_accept self.new.pausing) }
+        ensures hears { OnOk result (HearsAll (H.told host.old) (H.told host.new) (H.moves host.old) (H.moves host.new) self.old.ports self.new.ports self.new.may_accept) }
         ensures continues { Continues self.old.ports self.new.ports }
         ensures bounds { self.new.bounds ≡ self.old.bounds }
     {
@@ -153,6 +158,7 @@ impl Server {
         self.accepting.may_accept |= is_told;
         self.accepting
             .accept_some(&mut self.hub, host, &mut self.ports, alloc);
+        self.ports.are_queued();
         let later = host.moment();
         self.desk.is_waiting = make_ticks(&mut self.hub, alloc, later).is_err();
         self.ports.start_round();
@@ -166,7 +172,7 @@ impl Server {
 
     /// How long to wait at this moment.
     fn pause(&self, now: u64) -> Option<Duration> {
-        let is_pausing = self.accepting.is_pausing;
+        let is_pausing = self.accepting.pausing.is_some();
         let until_due = match self.deadline {
             Some(moment) => Some(moment.saturating_sub(now)),
             None => None,

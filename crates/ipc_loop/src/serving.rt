@@ -5,7 +5,7 @@ ghost use Rattle.ipc_loop.specs.declared.ending.Ending.TheVariants.{ReadFailed};
 ghost use Rattle.ipc_hub.specs.Hub.{Hub, Feeds, is_over_at, untaken_at};
 ghost use Rattle.ipc_loop.specs.Moves.{Moved, is_fault};
 ghost use Rattle.ipc_loop.specs.Ports.{is_all};
-ghost use Rattle.ipc_loop.specs.Serving.{ServesPort, KeepsPortMarks, Offers, Writes, FeedsPort, StaysReadable, Answers, kept_at, has_session_at, is_done, ends_connection, is_fed_so};
+ghost use Rattle.ipc_loop.specs.Serving.{ServesPort, KeepsPortMarks, Offers, Writes, FeedsPort, StaysReadable, Answers, kept_at, has_session_at, is_done, ends_connection, is_fed_so, OthersStayUndone};
 ghost use Rattle.ipc_loop.specs.Asking.{TakesTurn, OffersPort, Reads, Flushes, KeepsAllButLeft};
 ghost use Rattle.ipc_loop.specs.Portions.{HasAll, Collects, StepsAndCollects, StepsPortion, AddsSpelled, AddsFew, IsUnder, KeepsBound};
 ghost use Rattle.ipc_loop.specs.Requests.{requests_among, Counts};
@@ -53,7 +53,7 @@ pub struct Desk {
 }
 
 /// Whether the connection is over.
-fn is_over(hub: &Hub, number: u64) -> bool
+pub fn is_over(hub: &Hub, number: u64) -> bool
     ensures { result ≡ is_over_at hub.now number }
 {
     match hub.is_over(Conn(number)) {
@@ -127,6 +127,7 @@ fn write_some<H: Host>(
     ensures bound { IfSome result (λ n. n ≤ length bytes.now) }
     ensures offers { Offers number (H.moves host.old) (H.moves host.new) bytes.now result }
     ensures took { IfSome result (λ n. 0 < n → may_write.new ≡ may_write.old) }
+    ensures silent { H.told host.new ≡ H.told host.old }
 {
     let kind = match host.write(number, bytes) {
         Ok(count) => return Some(count),
@@ -217,6 +218,7 @@ impl Port {
         ensures writes { Writes number (H.moves host.old) (H.moves host.new) self.old [] self.new }
         ensures all { Flushes number (H.moves host.old) (H.moves host.new) self.old self.new }
         ensures writable { self.new.left ≡ Some [] → self.new.may_write ≡ true }
+        ensures silent { H.told host.new ≡ H.told host.old }
     {
         if self.is_cut || self.unsent.is_empty() || !self.may_write {
             return;
@@ -249,6 +251,7 @@ impl Port {
         ensures adds { AddsSpelled (untaken_at hub.old number) self.old.left self.new.left }
         ensures kept { KeepsAllButLeft self.old self.new }
         ensures may_write { self.new.may_write ≡ self.old.may_write }
+        ensures undone { OthersStayUndone number hub.old hub.new }
     {
         if self.is_cut {
             return;
@@ -268,6 +271,8 @@ impl Port {
         ensures serves { ServesPort number hub.old (H.moves host.old) self.old hub.new (H.moves host.new) self.new }
         ensures answers { Answers number hub.old hub.new self.new }
         ensures offers { OffersPort number (H.moves host.old) (H.moves host.new) self.old self.new }
+        ensures undone { OthersStayUndone number hub.old hub.new }
+        ensures silent { H.told host.new ≡ H.told host.old }
     {
         self.flush(desk.alloc, host, number);
         if !self.is_written() {
@@ -332,6 +337,7 @@ impl Port {
         ensures counted { Counts hub.old self.old hub.new self.new }
         ensures may_read { self.new.may_read ≡ self.old.may_read }
         ensures may_write { self.new.may_write ≡ self.old.may_write }
+        ensures undone { OthersStayUndone number hub.old hub.new }
     {
         let before = hub.recorded();
         let fed = feed_piece(hub, alloc, Conn(number), piece, most);
@@ -355,6 +361,8 @@ impl Port {
         ensures more { StaysReadable number (H.moves host.old) (H.moves host.new) self.old self.new }
         ensures asks { Reads number (H.moves host.old) (H.moves host.new) self.old }
         ensures may_write { self.new.may_write ≡ self.old.may_write }
+        ensures undone { OthersStayUndone number hub.old hub.new }
+        ensures silent { H.told host.new ≡ H.told host.old }
     {
         match host.read(number, buffer) {
             Ok(count) => {
@@ -389,6 +397,8 @@ impl Port {
         ensures steps { StepsPortion number 9 hub.old self.old hub.new self.new }
         ensures asks { Reads number (H.moves host.old) (H.moves host.new) self.old }
         ensures may_write { self.new.may_write ≡ self.old.may_write }
+        ensures undone { OthersStayUndone number hub.old hub.new }
+        ensures silent { H.told host.new ≡ H.told host.old }
     {
         if self.is_full {
             self.feed(hub, desk.alloc, number, &[], PORTION);
@@ -414,6 +424,7 @@ impl Port {
         ensures collects { StepsAndCollects number hub.old hub.new self.new }
         ensures adds { HasAll number hub.old self.old → AddsFew 9 self.old.left self.new.left }
         ensures may_write { self.new.may_write ≡ self.old.may_write }
+        ensures undone { OthersStayUndone number hub.old hub.new }
     {
         let before = self.unsent.len();
         let most = next_portion(is_large);
@@ -429,6 +440,7 @@ impl Port {
         ensures collects { StepsAndCollects number hub.old hub.new self.new }
         ensures bound { KeepsBound self.old.left self.new.left }
         ensures may_write { self.new.may_write ≡ self.old.may_write }
+        ensures undone { OthersStayUndone number hub.old hub.new }
     {
         let mut is_large = is_large;
         for _ in 1..MOST_PORTIONS {
@@ -453,6 +465,8 @@ impl Port {
         ensures asks { Reads number (H.moves host.old) (H.moves host.new) self.old }
         ensures idle { (left : List ℕ) → self.old.left ≡ Some left → 1048576 ≤ length left → self.new ≡ self.old }
         ensures may_write { self.new.may_write ≡ self.old.may_write }
+        ensures undone { OthersStayUndone number hub.old hub.new }
+        ensures silent { H.told host.new ≡ H.told host.old }
     {
         if !self.has_room() {
             return;
@@ -468,6 +482,7 @@ impl Port {
     fn greet<H: Host>(&mut self, host: &mut H, number: u64)
         ensures moved { H.moves host.new ≡ H.moves host.old }
         ensures same { self.new ≡ self.old }
+        ensures silent { H.told host.new ≡ H.told host.old }
     {
         if let Some(user) = self.newcomer.take() {
             host.greeted(number, user);
@@ -479,6 +494,8 @@ impl Port {
         ensures serves { ServesPort number hub.old (H.moves host.old) self.old hub.new (H.moves host.new) self.new }
         ensures marks { KeepsPortMarks number hub.old self.old hub.new self.new }
         ensures turn { TakesTurn number (H.moves host.old) (H.moves host.new) self.old self.new }
+        ensures undone { OthersStayUndone number hub.old hub.new }
+        ensures silent { H.told host.new ≡ H.told host.old }
     {
         self.flush(desk.alloc, host, number);
         if !self.is_written() {
@@ -509,7 +526,9 @@ impl Port {
         ensures serves { (moves : Option (List Moved)) → ServesPort number hub.old moves self.old hub.new moves self.new }
         ensures marks { KeepsPortMarks number hub.old self.old hub.new self.new }
         ensures left { self.new.left ≡ self.old.left }
+        ensures may_write { self.new.may_write ≡ self.old.may_write }
         ensures ending { self.new.ending ≡ self.old.ending }
+        ensures undone { OthersStayUndone number hub.old hub.new }
     {
         if self.ending.is_none() || self.is_over {
             return;
@@ -525,7 +544,9 @@ impl Port {
         ensures serves { (moves : Option (List Moved)) → ServesPort number hub.old moves self.old hub.new moves self.new }
         ensures marks { KeepsPortMarks number hub.old self.old hub.new self.new }
         ensures left { self.new.left ≡ self.old.left }
+        ensures may_write { self.new.may_write ≡ self.old.may_write }
         ensures ended { is_some self.new.ending ≡ true }
+        ensures undone { OthersStayUndone number hub.old hub.new }
     {
         self.end(Ending::TooMuchUnfinished);
         self.hang_up(hub, alloc, number);
@@ -536,6 +557,8 @@ impl Port {
         ensures serves { ServesPort number hub.old (H.moves host.old) self.old hub.new (H.moves host.new) self.new }
         ensures marks { KeepsPortMarks number hub.old self.old hub.new self.new }
         ensures turn { TakesTurn number (H.moves host.old) (H.moves host.new) self.old self.new }
+        ensures undone { OthersStayUndone number hub.old hub.new }
+        ensures silent { H.told host.new ≡ H.told host.old }
     {
         self.work(hub, host, number, desk);
         self.keep_few(hub, number);

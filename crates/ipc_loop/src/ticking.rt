@@ -5,7 +5,7 @@ ghost use Rattle.ipc_hub.specs.Hub.{Hub, would_end};
 ghost use Rattle.ipc_loop.specs.Moves.{Moved};
 ghost use Rattle.ipc_loop.specs.Ports.{Port};
 ghost use Rattle.ipc_loop.specs.NextTick.{IsNextTick, NoTick, MakesTicks};
-ghost use Rattle.ipc_loop.specs.Serving.{Serves, KeepsMarks};
+ghost use Rattle.ipc_loop.specs.Serving.{Serves, KeepsUpToDate};
 
 use ipc_hub::Hub;
 use ipc_terms::NoMemory;
@@ -20,7 +20,7 @@ pub fn make_ticks(hub: &mut Hub, alloc: Global, moment: u64) -> Result<(), NoMem
     ensures due { (count : ℕ) × MakesTicks count moment hub.old hub.new }
     ensures all { OnOk result ((would_end hub.new moment ≡ false) ⊎ MakesTicks 1024 moment hub.old hub.new) }
     ensures serves { (moves : Option (List Moved)) (ports : ℕ → Option Port) → Serves hub.old moves ports hub.new moves ports }
-    ensures marks { (ports : ℕ → Option Port) → KeepsMarks hub.old ports hub.new ports }
+    ensures marks { (ports : ℕ → Option Port) → KeepsUpToDate hub.old ports hub.new ports }
 {
     let mut made = 0;
     while made < MOST_TICKS {

@@ -5,7 +5,8 @@ ghost use Rattle.ipc_hub.specs.Hub.{Hub};
 ghost use Rattle.ipc_loop.specs.Ports.{port_at, open_at, with_port, OnlyCloses, KeepsListed};
 ghost use Rattle.ipc_loop.specs.Standing.{IsSettled, CanBePut};
 ghost use Rattle.ipc_loop.specs.Asking.{Asks, Refuses};
-ghost use Rattle.ipc_loop.specs.Serving.{Serves, IsAnswered, IsOwedByMark, KeepsMarks, NobodyIsOwed};
+ghost use Rattle.ipc_loop.specs.Hearing.{NotesAll, Hears};
+ghost use Rattle.ipc_loop.specs.Serving.{Serves, IsUpToDate, IsUpToDateByMark, KeepsUpToDate, NobodyIsOwed, NobodyIsDone};
 
 use crate::ending::Ending;
 use crate::links::{Host, Ready};
@@ -26,6 +27,7 @@ fn settle<H: Host>(hub: &mut Hub, host: &mut H, ports: &mut Ports, number: u64, 
     ensures marked { hub.new.marked ≡ hub.old.marked }
     ensures turns { ports.new.turns ≡ ports.old.turns }
     ensures next { KeepsListed ports.old.next ports.new.next }
+    ensures silent { H.told host.new ≡ H.told host.old }
 {
     if !port.is_done(hub, number) {
         ports.put(number, port);
@@ -51,10 +53,11 @@ fn turn<H: Host>(
     requires out { slice_get ports.old.all number ≡ Some None }
     requires back { CanBePut ports.old number }
     ensures serves { Serves hub.old (H.moves host.old) (with_port (port_at ports.old.all) number (Some port.value)) hub.new (H.moves host.new) (port_at ports.new.all) }
-    ensures marks { KeepsMarks hub.old (with_port (open_at ports.old.all) number (Some port.value)) hub.new (open_at ports.new.all) }
+    ensures marks { KeepsUpToDate hub.old (with_port (open_at ports.old.all) number (Some port.value)) hub.new (open_at ports.new.all) }
     ensures closes { OnlyCloses (slice_set ports.old.all number (Some port.value)) ports.new.all }
     ensures asks { Asks (number ∷ []) (H.moves host.old) (H.moves host.new) (with_port (port_at ports.old.all) number (Some port.value)) (port_at ports.new.all) }
     ensures turns { ports.new.turns ≡ ports.old.turns }
+    ensures silent { H.told host.new ≡ H.told host.old }
 {
     let before = kept(hub, number);
     port.serve(hub, host, number, desk);
@@ -79,10 +82,11 @@ fn largest(hub: &Hub, ports: &Ports) -> Option<u64> {
 /// Ends the link with the largest unfinished frame, where all unfinished frames together have too many bytes.
 fn keep_bound<H: Host>(hub: &mut Hub, host: &mut H, ports: &mut Ports, desk: &mut Desk)
     ensures serves { Serves hub.old (H.moves host.old) (port_at ports.old.all) hub.new (H.moves host.new) (port_at ports.new.all) }
-    ensures marks { KeepsMarks hub.old (open_at ports.old.all) hub.new (open_at ports.new.all) }
+    ensures marks { KeepsUpToDate hub.old (open_at ports.old.all) hub.new (open_at ports.new.all) }
     ensures closes { OnlyCloses ports.old.all ports.new.all }
     ensures turns { ports.new.turns ≡ ports.old.turns }
     ensures asks { Asks [] (H.moves host.old) (H.moves host.new) (port_at ports.old.all) (port_at ports.new.all) }
+    ensures silent { H.told host.new ≡ H.told host.old }
 {
     if desk.unfinished <= MOST_UNFINISHED {
         return;
@@ -101,10 +105,11 @@ fn keep_bound<H: Host>(hub: &mut Hub, host: &mut H, ports: &mut Ports, desk: &mu
 /// Gives each that is queued for this round a turn.
 pub fn give_turns<H: Host>(hub: &mut Hub, host: &mut H, ports: &mut Ports, desk: &mut Desk)
     ensures serves { Serves hub.old (H.moves host.old) (port_at ports.old.all) hub.new (H.moves host.new) (port_at ports.new.all) }
-    ensures marks { KeepsMarks hub.old (open_at ports.old.all) hub.new (open_at ports.new.all) }
+    ensures marks { KeepsUpToDate hub.old (open_at ports.old.all) hub.new (open_at ports.new.all) }
     ensures closes { OnlyCloses ports.old.all ports.new.all }
     ensures turns { ports.new.turns ≡ [] }
     ensures asks { Asks ports.old.turns (H.moves host.old) (H.moves host.new) (port_at ports.old.all) (port_at ports.new.all) }
+    ensures silent { H.told host.new ≡ H.told host.old }
 {
     while let Some((number, port)) = ports.next_turn() {
         if let Some(port) = port {
@@ -116,12 +121,13 @@ pub fn give_turns<H: Host>(hub: &mut Hub, host: &mut H, ports: &mut Ports, desk:
 /// Writes what a connection was answered.
 fn answer<H: Host>(hub: &mut Hub, host: &mut H, ports: &mut Ports, number: u64, desk: &mut Desk)
     ensures serves { Serves hub.old (H.moves host.old) (port_at ports.old.all) hub.new (H.moves host.new) (port_at ports.new.all) }
-    ensures answered { IsAnswered hub.new (open_at ports.new.all) number }
-    ensures marks { KeepsMarks hub.old (open_at ports.old.all) hub.new (open_at ports.new.all) }
+    ensures answered { IsUpToDate hub.new (open_at ports.new.all) number }
+    ensures marks { KeepsUpToDate hub.old (open_at ports.old.all) hub.new (open_at ports.new.all) }
     ensures closes { OnlyCloses ports.old.all ports.new.all }
     ensures marked { hub.new.marked ≡ hub.old.marked }
     ensures turns { ports.new.turns ≡ ports.old.turns }
     ensures refuses { Refuses (H.moves host.old) (H.moves host.new) (port_at ports.old.all) (port_at ports.new.all) }
+    ensures silent { H.told host.new ≡ H.told host.old }
 {
     if let Some(mut port) = ports.take(number) {
         port.send(hub, host, number, desk);
@@ -131,12 +137,14 @@ fn answer<H: Host>(hub: &mut Hub, host: &mut H, ports: &mut Ports, number: u64, 
 
 /// Writes what was answered to anybody since.
 pub fn answer_all<H: Host>(hub: &mut Hub, host: &mut H, ports: &mut Ports, desk: &mut Desk)
-    requires { (i : ℕ) → IsOwedByMark hub.old (open_at ports.old.all) i }
+    requires { (i : ℕ) → IsUpToDateByMark hub.old (open_at ports.old.all) i }
     ensures serves { Serves hub.old (H.moves host.old) (port_at ports.old.all) hub.new (H.moves host.new) (port_at ports.new.all) }
     ensures rests { NobodyIsOwed hub.new (open_at ports.new.all) }
+    ensures undone { NobodyIsDone hub.new (open_at ports.new.all) }
     ensures closes { OnlyCloses ports.old.all ports.new.all }
     ensures turns { ports.new.turns ≡ ports.old.turns }
     ensures refuses { Refuses (H.moves host.old) (H.moves host.new) (port_at ports.old.all) (port_at ports.new.all) }
+    ensures silent { H.told host.new ≡ H.told host.old }
 {
     while let Some(conn) = hub.next_answered() {
         answer(hub, host, ports, conn.0, desk);
@@ -146,11 +154,13 @@ pub fn answer_all<H: Host>(hub: &mut Hub, host: &mut H, ports: &mut Ports, desk:
 /// Notes what became ready of a link.
 fn note<H: Host>(hub: &mut Hub, host: &mut H, ports: &mut Ports, ready: Ready)
     ensures serves { Serves hub.old (H.moves host.old) (port_at ports.old.all) hub.new (H.moves host.new) (port_at ports.new.all) }
-    ensures marks { KeepsMarks hub.old (open_at ports.old.all) hub.new (open_at ports.new.all) }
+    ensures marks { KeepsUpToDate hub.old (open_at ports.old.all) hub.new (open_at ports.new.all) }
     ensures closes { OnlyCloses ports.old.all ports.new.all }
     ensures turns { ports.new.turns ≡ ports.old.turns }
     ensures next { KeepsListed ports.old.next ports.new.next }
     ensures asks { Asks [] (H.moves host.old) (H.moves host.new) (port_at ports.old.all) (port_at ports.new.all) }
+    ensures silent { H.told host.new ≡ H.told host.old }
+    ensures notes { NotesAll (ready ∷ []) ports.old.all ports.new.all }
 {
     let Ready::Link {
         number,
@@ -170,11 +180,12 @@ fn note<H: Host>(hub: &mut Hub, host: &mut H, ports: &mut Ports, ready: Ready)
 /// Notes all that is ready. Says whether somebody connects.
 pub fn note_all<H: Host>(hub: &mut Hub, host: &mut H, ports: &mut Ports) -> bool
     ensures serves { Serves hub.old (H.moves host.old) (port_at ports.old.all) hub.new (H.moves host.new) (port_at ports.new.all) }
-    ensures marks { KeepsMarks hub.old (open_at ports.old.all) hub.new (open_at ports.new.all) }
+    ensures marks { KeepsUpToDate hub.old (open_at ports.old.all) hub.new (open_at ports.new.all) }
     ensures closes { OnlyCloses ports.old.all ports.new.all }
     ensures turns { ports.new.turns ≡ ports.old.turns }
     ensures next { KeepsListed ports.old.next ports.new.next }
     ensures asks { Asks [] (H.moves host.old) (H.moves host.new) (port_at ports.old.all) (port_at ports.new.all) }
+    ensures hears { Hears (H.told host.old) (H.told host.new) ports.old.all ports.new.all result }
 {
     let mut is_told = false;
     for _ in 0..u64::MAX {

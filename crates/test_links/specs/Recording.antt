@@ -5,6 +5,9 @@ use Rattle.test_links.specs.declared.recorder.Entry.{Entry}
 use Rattle.test_links.specs.declared.recorder.Entry.TheVariants.{Opened, Gave, Took}
 use Rattle.test_links.specs.declared.recorder.Past.{Past}
 use Rattle.test_links.specs.declared.recorder.Past.TheVariants.{Nothing, Did', Closed', NobodyCame', GaveNothing', TookNothing'}
+use Rattle.test_links.specs.declared.recorder.Told.{Told}
+use Rattle.test_links.specs.declared.recorder.Told.TheVariants as told
+use Rattle.ipc_loop.specs.declared.links.Ready.{Ready}
 
 abbrev pub moved_by : Entry → Moved
 moved_by (Opened link) = LinkOpened link
@@ -19,3 +22,8 @@ moves_in (Closed' link ending _ _ past) = moves_in past ++ LinkClosed link endin
 moves_in (NobodyCame' kind _ _ past) = moves_in past ++ NobodyCame kind ∷ []
 moves_in (GaveNothing' link kind _ _ past) = moves_in past ++ GaveNothing link kind ∷ []
 moves_in (TookNothing' link count kind _ _ past) = moves_in past ++ TookNothing link count kind ∷ []
+
+-- what was told to be ready, in order
+abbrev pub told_in : Told → List Ready
+told_in told.Nothing = []
+told_in (told.Also' ready _ _ before) = told_in before ++ ready ∷ []

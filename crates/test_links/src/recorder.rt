@@ -4,7 +4,7 @@
 ghost use Rattle.std.specs.Prelude.{◌≡◌, ◌-◌, [], ◌∷◌, ◌++◌, length, take, IfOk, OnOk, OnErr};
 ghost use Rattle.std.specs.Io.{ReadsAtMost, WritesAtMost};
 ghost use Rattle.ipc_loop.specs.Moves.{LinkOpened, LinkGave, LinkTook};
-ghost use Rattle.test_links.specs.Recording.{moved_by, moves_in};
+ghost use Rattle.test_links.specs.Recording.{moved_by, moves_in, told_in};
 
 use crate::peers::{Cut, Peers};
 use ipc_loop::{Ending, Host, Ready};
@@ -41,6 +41,15 @@ enum Past {
     TookNothing(u64, u64, ErrorKind, Snapshot<Snapshot<Past>>),
 }
 
+/// What was told to be ready. Proofs alone read it; nothing of it is kept at run time.
+#[derive(Drop)]
+enum Told {
+    /// Nothing yet.
+    Nothing,
+    /// After all else this.
+    Also(Ready, Snapshot<Snapshot<Told>>),
+}
+
 /// Remembers all. What there is no memory to remember isn't done, as where a signal came.
 #[derive(Drop)]
 pub struct Recorder {
@@ -48,6 +57,7 @@ pub struct Recorder {
     peers: Peers,
     log: Vec<Entry>,
     past: Snapshot<Past>,
+    told: Snapshot<Told>,
     moment: u64,
 }
 
@@ -71,6 +81,7 @@ impl Recorder {
             peers: Peers::new(alloc, cut),
             log: Vec::new(alloc),
             past: Snapshot::of(&Past::Nothing),
+            told: Snapshot::of(&Told::Nothing),
             moment: 0,
         }
     }
@@ -138,6 +149,7 @@ impl Recorder {
     fn note(&mut self, entry: Entry) -> io::Result<()>
         ensures ok { OnOk result (moves_in self.new.past.value ≡ moves_in self.old.past.value ++ moved_by entry ∷ []) }
         ensures err { OnErr result (self.new.past.value ≡ self.old.past.value) }
+        ensures silent { told_in self.new.told.value ≡ told_in self.old.told.value }
     {
         let noted = Snapshot::of(&entry);
         if self.log.push(entry).is_err() {
@@ -151,6 +163,7 @@ impl Recorder {
     fn open(&mut self, number: u64) -> io::Result<()>
         ensures ok { OnOk result (moves_in self.new.past.value ≡ moves_in self.old.past.value ++ LinkOpened number ∷ []) }
         ensures err { OnErr result (self.new.past.value ≡ self.old.past.value) }
+        ensures silent { told_in self.new.told.value ≡ told_in self.old.told.value }
     {
         self.peers.may_accept(number)?;
         self.note(Entry::Opened(number))?;
@@ -163,6 +176,7 @@ impl Recorder {
         ensures bound { ReadsAtMost result buffer.new }
         ensures ok { IfOk result (λ n. moves_in self.new.past.value ≡ moves_in self.old.past.value ++ LinkGave number (take n buffer.new) ∷ []) }
         ensures err { OnErr result (self.new.past.value ≡ self.old.past.value) }
+        ensures silent { told_in self.new.told.value ≡ told_in self.old.told.value }
     {
         let count = self.peers.copy_to(number, buffer)?;
         let Ok(bytes) = copied(self.alloc, &buffer[..count]) else {
@@ -178,6 +192,7 @@ impl Recorder {
         ensures bound { WritesAtMost result bytes.now }
         ensures ok { IfOk result (λ n. moves_in self.new.past.value ≡ moves_in self.old.past.value ++ LinkTook number (take n bytes.now) (length bytes.now - n) ∷ []) }
         ensures err { OnErr result (self.new.past.value ≡ self.old.past.value) }
+        ensures silent { told_in self.new.told.value ≡ told_in self.old.told.value }
     {
         let count = self.peers.piece(number, bytes.len())?;
         let Ok(taken) = copied(self.alloc, &bytes[..count]) else {
@@ -190,9 +205,11 @@ impl Recorder {
 
 impl Host for Recorder {
     ghost use Rattle.std.specs.Prelude.{Some};
-    ghost use Rattle.test_links.specs.Recording.{moves_in};
+    ghost use Rattle.test_links.specs.Recording.{moves_in, told_in};
 
     ghost moves = { λ h. Some (moves_in h.past.value) };
+
+    ghost told = { λ h. Some (told_in h.told.value) };
 
     fn accept(&mut self, number: u64) -> io::Result<()> {
         let opened = self.open(number);
@@ -243,7 +260,11 @@ impl Host for Recorder {
     }
 
     fn next_ready(&mut self) -> Option<Ready> {
-        self.peers.next_ready()
+        let ready = self.peers.next_ready();
+        if let Some(found) = ready {
+            self.told = Snapshot::of(&Told::Also(found, Snapshot::of(&self.told)));
+        }
+        ready
     }
 
     fn moment(&mut self) -> u64 {

@@ -1,7 +1,7 @@
 use Rattle.std.proofs.Common.{sym, subst}
 use Rattle.ipc_hub.specs.Hub.{Hub}
 use Rattle.ipc_loop.specs.Serving.{Serves}
-use Rattle.ipc_loop.proofs.OwingLemmas.{opened_keeps}
+use Rattle.ipc_loop.proofs.UndoneLemmas.{opened_up}
 use Rattle.ipc_loop.proofs.ServingLemmas.{served_nothing, opened_serves}
 use Rattle.ipc_loop.proofs.accepting.open_next.Goals as goal
 
@@ -15,4 +15,4 @@ pub returns-clause-serves : goal.returns-clause-serves
 returns-clause-serves c = λ m p. opened_serves _ _ m p c.in-Ok.ensures.ok
 
 pub returns-clause-marks : goal.returns-clause-marks
-returns-clause-marks c = λ p. opened_keeps c.args.hub.now c.open.new.self p c.in-Ok.ensures.ok
+returns-clause-marks c = λ p. opened_up c.args.hub.now c.open.new.self p c.in-Ok.ensures.ok

@@ -3,7 +3,8 @@ use Rattle.ipc_loop.specs.Ports.{Port, port_at}
 use Rattle.ipc_loop.proofs.AskingLemmas.{asked_nothing, same_asks, quiet_asks, settled_asks, taken_asks}
 use Rattle.ipc_loop.proofs.ServingLemmas.{served_nothing, same_serves, is_ended}
 use Rattle.ipc_loop.proofs.PortLemmas.{empty_slot}
-use Rattle.ipc_loop.proofs.TurnLemmas.{turned_serves, turned_keeps, taken_serves, taken_keeps}
+use Rattle.ipc_loop.proofs.TurnLemmas.{turned_serves, taken_serves}
+use Rattle.ipc_loop.proofs.UndoneLemmas.{turned_up, taken_up}
 use Rattle.ipc_loop.proofs.OpeningLemmas.{closes_same, settled_closes}
 use Rattle.ipc_loop.proofs.turns.keep_bound.Goals as goal
 
@@ -20,8 +21,8 @@ returns-in-Some-take-clause-serves g c =
 
 pub returns-in-Some-take-clause-marks : goal.returns-in-Some-take-clause-marks
 returns-in-Some-take-clause-marks g c =
-    taken_keeps c.in-Some.number c.args.hub.now c.settle.new.hub c.in-Some-take.port.value c.args.ports.now.all c.take.new.self.all c.settle.new.ports.all c.in-Some-take.ensures.port
-    (turned_keeps c.in-Some.number c.args.hub.now c.give_up.new.hub c.settle.new.hub _ _ c.in-Some-take.port.value c.deref_mut.result.now c.give_up.new.self c.take.new.self.all c.settle.new.ports.all c.deref_mut.ensures.value (empty_slot _ _ _ _ c.in-Some-take.ensures.port) c.give_up.ensures.marks c.settle.ensures.settled)
+    taken_up c.in-Some.number c.args.hub.now c.settle.new.hub c.in-Some-take.port.value c.args.ports.now.all c.take.new.self.all c.settle.new.ports.all c.in-Some-take.ensures.port
+    (turned_up c.in-Some.number c.args.hub.now c.give_up.new.hub c.settle.new.hub _ _ c.in-Some-take.port.value c.deref_mut.result.now c.give_up.new.self c.take.new.self.all c.settle.new.ports.all c.deref_mut.ensures.value (empty_slot _ _ _ _ c.in-Some-take.ensures.port) c.give_up.ensures.marks c.give_up.ensures.undone c.settle.ensures.settled)
 
 pub returns-in_default-take-clause-serves : goal.returns-in_default-take-clause-serves
 returns-in_default-take-clause-serves g c = same_serves _ _ _ _ c.in_default-take.ensures.none
@@ -50,7 +51,7 @@ returns-in-Some-take-clause-asks g c =
     let same = c.give_up.ensures.left ∙ ap (λ (p : Port). p.left) c.deref_mut.ensures.value in
     taken_asks c.in-Some.number [] _ _ c.in-Some-take.port.value c.args.ports.now.all c.take.new.self.all c.settle.new.ports.all c.in-Some-take.ensures.port
     (settled_asks c.in-Some.number [] c.give_up.new.hub c.settle.new.hub _ _ _ c.in-Some-take.port.value c.give_up.new.self c.take.new.self.all c.settle.new.ports.all (empty_slot _ _ _ _ c.in-Some-take.ensures.port)
-    (quiet_asks c.in-Some.number _ c.in-Some-take.port.value c.give_up.new.self (port_at c.take.new.self.all) same (λ e. over) (λ may. inr over)) c.settle.ensures.settled)
+    (quiet_asks c.in-Some.number _ c.in-Some-take.port.value c.give_up.new.self (port_at c.take.new.self.all) same (λ on. c.give_up.ensures.may_write ∙ ap (λ (p : Port). p.may_write) c.deref_mut.ensures.value ∙ on) (λ e. over) (λ may. inr over)) c.settle.ensures.settled)
 
 pub returns-in_default-take-clause-asks : goal.returns-in_default-take-clause-asks
 returns-in_default-take-clause-asks g c = same_asks _ _ _ c.in_default-take.ensures.none

@@ -1,5 +1,6 @@
 use Rattle.ipc_loop.proofs.ServingLemmas.{serves_both}
-use Rattle.ipc_loop.proofs.TurnLemmas.{turned_serves, turned_keeps}
+use Rattle.ipc_loop.proofs.TurnLemmas.{turned_serves}
+use Rattle.ipc_loop.proofs.UndoneLemmas.{turned_up}
 use Rattle.ipc_loop.proofs.OpeningLemmas.{turned_closes, closes_both}
 use Rattle.std.proofs.Common.{[], ◌∷◌, subst}
 use Rattle.ipc_loop.specs.Ports.{Port, port_at}
@@ -12,7 +13,7 @@ pub returns-clause-serves : goal.returns-clause-serves
 returns-clause-serves g c = serves_both _ _ _ _ _ _ _ _ _ (turned_serves c.args.number _ _ _ _ _ _ _ _ _ c.args.ports.now.all _ c.deref_mut.ensures.value c.requires.out c.serve.ensures.serves c.settle.ensures.settled) c.keep_bound.ensures.serves
 
 pub returns-clause-marks : goal.returns-clause-marks
-returns-clause-marks g c = λ i owed. c.keep_bound.ensures.marks i (turned_keeps c.args.number c.args.hub.now c.serve.new.hub c.settle.new.hub _ _ c.args.port.value c.deref_mut.result.now c.serve.new.self c.args.ports.now.all c.settle.new.ports.all c.deref_mut.ensures.value c.requires.out c.serve.ensures.marks c.settle.ensures.settled i owed)
+returns-clause-marks g c = λ i owed. c.keep_bound.ensures.marks i (turned_up c.args.number c.args.hub.now c.serve.new.hub c.settle.new.hub _ _ c.args.port.value c.deref_mut.result.now c.serve.new.self c.args.ports.now.all c.settle.new.ports.all c.deref_mut.ensures.value c.requires.out c.serve.ensures.marks c.serve.ensures.undone c.settle.ensures.settled i owed)
 
 pub returns-clause-closes : goal.returns-clause-closes
 returns-clause-closes g c = closes_both _ _ _ (turned_closes c.args.number _ _ _ _ c.args.port.value _ c.args.ports.now.all _ c.requires.out c.settle.ensures.settled) c.keep_bound.ensures.closes

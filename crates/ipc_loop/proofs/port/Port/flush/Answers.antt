@@ -15,7 +15,7 @@ invariant_of-self g c =
     rest_writable c.self.inside.is_cut c.self.inside.unsent c.advance.new.self c.in-Some.count c.self.inside.may_write c.write_some.new.may_write c.advance.ensures (sym c.is_empty.ensures ∙ c.if-is_empty.false) c.if-not-self.false c.in-Some.ensures.took
 
 pub returns-then-self-clause-writes : goal.returns-then-self-clause-writes
-returns-then-self-clause-writes g c = record { took = []; added = adds_nothing _ _ _ (go_nowhere _); left = passes_nothing _; why = why_stays _ _ _ refl; drops = λ d. d }
+returns-then-self-clause-writes g c = record { took = []; added = adds_nothing _ _ _ (go_nowhere _); left = passes_nothing _; fails = λ e. absurd cc; refuses = λ e. absurd cc; why = why_stays _ _ _ refl; drops = λ d. d }
 
 pub returns-then-self-clause-all : goal.returns-then-self-clause-all
 returns-then-self-clause-all g c = flushes_none c.args.number _ c.args.self.now (λ b bytes is. elim c.then-self.branch [

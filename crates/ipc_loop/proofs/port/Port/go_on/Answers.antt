@@ -4,6 +4,7 @@ use Rattle.ipc_loop.proofs.MoveLemmas.{go_nowhere}
 use Rattle.ipc_loop.proofs.OfferingLemmas.{no_reads}
 use Rattle.ipc_loop.proofs.ServingLemmas.{stays_serve, port_both}
 use Rattle.ipc_loop.proofs.PortionLemmas.{same_steps, steps_both, same_bound, adds_bound, bound_both, portion_collects, portion_adds}
+use Rattle.ipc_loop.proofs.UndoneLemmas.{same_undone, both_undone}
 use Rattle.ipc_loop.proofs.port.Port.go_on.Goals as goal
 
 pub returns-then-not-has_room-clause-serves : goal.returns-then-not-has_room-clause-serves
@@ -32,3 +33,9 @@ returns-then-not-has_room-clause-asks g c = no_reads _ _ _ (λ left heard is few
 
 pub returns-clause-idle : goal.returns-clause-idle
 returns-clause-idle g c = λ left is le. absurd (omega (arith, subst (λ (x : Option (List ℕ)). IsUnder x) is (c.if-not-has_room.ensures.under refl), le))
+
+pub returns-then-not-has_room-clause-undone : goal.returns-then-not-has_room-clause-undone
+returns-then-not-has_room-clause-undone g c = same_undone c.args.number c.args.hub.now
+
+pub returns-clause-undone : goal.returns-clause-undone
+returns-clause-undone g c = both_undone c.args.number c.args.hub.now c.start.new.hub c.step_on.new.hub c.start.ensures.undone (both_undone c.args.number c.start.new.hub c.take.new.hub c.step_on.new.hub c.take.ensures.undone c.step_on.ensures.undone)

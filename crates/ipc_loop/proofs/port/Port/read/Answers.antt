@@ -4,6 +4,7 @@ use Rattle.ipc_loop.specs.Moves.{GoOn, LinkGave, GaveNothing}
 use Rattle.ipc_loop.proofs.ServingLemmas.{ends_serve, unread_serve, piece_serve, not_end, waits_gave_none}
 use Rattle.ipc_loop.proofs.PortionLemmas.{same_portion}
 use Rattle.ipc_loop.proofs.OfferingLemmas.{gave_reads, refused_reads}
+use Rattle.ipc_loop.proofs.UndoneLemmas.{same_undone}
 use Rattle.ipc_loop.proofs.port.Port.read.Goals as goal
 
 pub returns-then-count-eq0-clause-serves : goal.returns-then-count-eq0-clause-serves
@@ -36,3 +37,9 @@ returns-else-count-eq0-clause-asks g c = gave_reads c.args.number _ _ _ _ c.in-O
 
 pub returns-in-Err-clause-asks : goal.returns-in-Err-clause-asks
 returns-in-Err-clause-asks g c = refused_reads c.args.number _ _ _ _ c.in-Err.ensures.moved
+
+pub returns-then-count-eq0-clause-undone : goal.returns-then-count-eq0-clause-undone
+returns-then-count-eq0-clause-undone g c = same_undone c.args.number c.args.hub.now
+
+pub returns-in-Err-clause-undone : goal.returns-in-Err-clause-undone
+returns-in-Err-clause-undone g c = same_undone c.args.number c.args.hub.now

@@ -5,6 +5,7 @@ use Rattle.ipc_loop.specs.Asking.{OffersPort}
 use Rattle.ipc_loop.proofs.ServingLemmas.{writes_serve, port_both, port_so}
 use Rattle.ipc_loop.proofs.PortionLemmas.{wrote_answers, left_answers}
 use Rattle.ipc_loop.proofs.OfferingLemmas.{flush_offers, whole_offer}
+use Rattle.ipc_loop.proofs.UndoneLemmas.{same_undone}
 use Rattle.ipc_loop.proofs.port.Port.send.Goals as goal
 
 pub returns-then-not-is_written-clause-serves : goal.returns-then-not-is_written-clause-serves
@@ -28,3 +29,6 @@ pub returns-clause-offers : goal.returns-clause-offers
 returns-clause-offers g c =
     subst (λ (p : Port). OffersPort c.args.number (g.H.Host.moves c.args.host.now) (g.H.Host.moves c.flush-2.new.host) c.args.self.now p) (sym c.give_back.ensures)
     (whole_offer c.args.number _ _ _ c.args.self.now c.flush.new.self c.take.new.self c.flush-2.new.self c.flush.ensures.all (sym c.if-not-is_written.ensures) c.flush.ensures.writable (c.take.ensures.may_write ∙ ap (λ (p : Port). p.may_write) c.lend.ensures) c.flush-2.ensures.all)
+
+pub returns-then-not-is_written-clause-undone : goal.returns-then-not-is_written-clause-undone
+returns-then-not-is_written-clause-undone g c = same_undone c.args.number c.args.hub.now

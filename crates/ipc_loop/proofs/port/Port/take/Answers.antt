@@ -1,7 +1,10 @@
-use Rattle.std.proofs.Common.{ℕ, List, ◌++◌, Option, Some, None, cond, inl, inr, refl, sym, ap, ◌∙◌}
+use Rattle.std.proofs.Common.{ℕ, List, ◌++◌, Option, Some, None, cond, inl, inr, refl, sym, ap, subst, ◌∙◌}
 use Rattle.ipc_loop.specs.Ports.{Port}
 use Rattle.ipc_loop.proofs.MoveLemmas.{go_nowhere}
 use Rattle.ipc_loop.proofs.ServingLemmas.{stays_serve}
+use Rattle.ipc_hub.specs.Hub.{Hub}
+use Rattle.ipc_loop.specs.Serving.{OthersStayUndone}
+use Rattle.ipc_loop.proofs.UndoneLemmas.{same_undone, takes_undone}
 use Rattle.ipc_loop.proofs.TakingLemmas.{takes_collects}
 use Rattle.ipc_loop.proofs.PortionLemmas.{same_collects, none_untaken, adds_none, adds_to_none, took_serve, took_spelled, cut_serve, cut_collects, cut_left, uncut_left, behind_left}
 use Rattle.ipc_loop.proofs.port.Port.take.Goals as goal
@@ -41,6 +44,18 @@ returns-in-Err-clause-collects c = cut_collects _ _ _ _ c.in-Err.ensures.hub c.c
 
 pub returns-in-Err-clause-adds : goal.returns-in-Err-clause-adds
 returns-in-Err-clause-adds c = adds_to_none _ _ _ c.cut.ensures.cut
+
+pub returns-then-self-clause-undone : goal.returns-then-self-clause-undone
+returns-then-self-clause-undone c = same_undone c.args.number c.args.hub.now
+
+pub returns-then-untaken-eq0-clause-undone : goal.returns-then-untaken-eq0-clause-undone
+returns-then-untaken-eq0-clause-undone c = same_undone c.args.number c.args.hub.now
+
+pub returns-in-Ok-clause-undone : goal.returns-in-Ok-clause-undone
+returns-in-Ok-clause-undone c = takes_undone c.args.number c.args.hub.now c.take.new.hub c.in-Ok.ensures.ok.0 c.args.self.now c.is_sound.ensures.sessions c.in-Ok.ensures.ok.2
+
+pub returns-in-Err-clause-undone : goal.returns-in-Err-clause-undone
+returns-in-Err-clause-undone c = subst (λ (x : Hub). OthersStayUndone c.args.number c.args.hub.now x) (sym c.in-Err.ensures.hub) (same_undone c.args.number c.args.hub.now)
 
 pub returns-in-Ok-clause-kept : goal.returns-in-Ok-clause-kept
 returns-in-Ok-clause-kept c =

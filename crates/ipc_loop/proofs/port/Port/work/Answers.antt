@@ -8,6 +8,7 @@ use Rattle.ipc_loop.proofs.ServingLemmas.{writes_serve, port_both, port_so}
 use Rattle.ipc_loop.proofs.PortionLemmas.{collects_steps, steps_both, steps_keep, wrote_all, left_answers}
 use Rattle.ipc_loop.proofs.AskingLemmas.{port_stops}
 use Rattle.ipc_loop.proofs.OfferingLemmas.{flush_turn, whole_turn, port_cuts}
+use Rattle.ipc_loop.proofs.UndoneLemmas.{same_undone, both_undone}
 use Rattle.ipc_loop.proofs.port.Port.work.Goals as goal
 
 pub returns-then-not-is_written-clause-serves : goal.returns-then-not-is_written-clause-serves
@@ -50,3 +51,9 @@ returns-clause-turn g c =
     (λ over. port_stops _ _ _ _ _ _ _ written (port_stops _ _ _ _ _ _ _ greeted over))
     (ap (λ (p : Port). p.may_write) c.greet.ensures.same ∙ c.go_on.ensures.may_write)
     c.flush-2.ensures.all)
+
+pub returns-then-not-is_written-clause-undone : goal.returns-then-not-is_written-clause-undone
+returns-then-not-is_written-clause-undone g c = same_undone c.args.number c.args.hub.now
+
+pub returns-clause-undone : goal.returns-clause-undone
+returns-clause-undone g c = both_undone c.args.number c.args.hub.now c.take.new.hub c.go_on.new.hub c.take.ensures.undone c.go_on.ensures.undone
