@@ -4,7 +4,7 @@ the frame's length and by the pieces in which it comes.
 
 Proves and builds the crate bench_calls, or takes the program that is named, and prints medians of five runs. A run whose outcome
 is wrong ends it, with status 1 and without a figure. It ends with status 1 too where a byte of a long frame costs over twice what
-a byte of a shorter one does in the same pieces.
+a byte of a shorter one does in the same pieces. With --instructions it counts by callgrind what a byte costs, and times nothing.
 """
 
 import argparse
@@ -13,6 +13,7 @@ import subprocess
 import sys
 
 from building import bench_calls
+from counting import collected
 
 # How often each kind of piece is fed.
 RUNS = 5
@@ -56,15 +57,26 @@ def show_rates(program, count):
         print(f"{kind}: {statistics.median(rates):.0f} frames a second, the median of {shown}")
 
 
-def costs_of(program, word, wanted, piece, total):
-    """The nanoseconds of a byte by the length of its frame, where that is fed in such pieces."""
+def nanoseconds(program, word, wanted, message, piece, count):
+    """Those of so many frames, the median of some runs."""
+    return statistics.median(seconds(program, word, wanted, message, piece, count) for _ in range(RUNS)) * 1e9
+
+
+def instructions(program, word, wanted, message, piece, count):
+    """Those of so many frames. What starting takes is taken off by a second run of twice as many."""
+    seconds(program, word, wanted, message, piece, count)
+    once, twice = (collected([program, word, message, piece, it]) for it in (count, 2 * count))
+    return twice - once
+
+
+def costs_of(cost, program, word, wanted, piece, total):
+    """What a byte costs by the length of its frame, where that is fed in such pieces."""
     costs = {}
     for name, length in LENGTHS:
         if piece == 1 and length > MOST_BY_BYTE:
             continue
         count = max(total // length, 1)
-        runs = [seconds(program, word, wanted, length - HEAD, piece, count) for _ in range(RUNS)]
-        costs[name] = statistics.median(runs) * 1e9 / (count * length)
+        costs[name] = cost(program, word, wanted, length - HEAD, piece, count) / (count * length)
     return costs
 
 
@@ -74,14 +86,14 @@ def growth(costs):
     return max(later / earlier for i, earlier in enumerate(found) for later in found[i:])
 
 
-def show_costs(program, total):
+def show_costs(cost, program, total):
     """A table of what a byte costs. Gives how much a byte costs more in a longer frame, at most."""
     print("\n| | Pieces of | " + " | ".join(name for name, _ in LENGTHS) + " |")
     print("|---|--:|" + "--:|" * len(LENGTHS))
     most = 0
     for reader, word, wanted in READERS:
         for piece in PIECES_OF_LONG:
-            costs = costs_of(program, word, wanted, piece, total)
+            costs = costs_of(cost, program, word, wanted, piece, total)
             shown = " | ".join(f"{costs[name]:.2f}" if name in costs else "" for name, _ in LENGTHS)
             print(f"| {reader} | {piece:,} | {shown} |")
             most = max(most, growth(costs))
@@ -93,10 +105,12 @@ def main():
     parser.add_argument("frames", nargs="?", type=int, default=1_000_000, help="1,000,000 where none are given")
     parser.add_argument("--bytes", type=int, default=16_777_216, help="how many bytes of long frames a run feeds, 16 MiB at least")
     parser.add_argument("--program", help="a program that was built before")
+    parser.add_argument("--instructions", action="store_true", help="count, and time nothing")
     words = parser.parse_args()
     program = words.program or bench_calls()
-    show_rates(program, words.frames)
-    most = show_costs(program, words.bytes)
+    if not words.instructions:
+        show_rates(program, words.frames)
+    most = show_costs(instructions if words.instructions else nanoseconds, program, words.bytes)
     if most > MOST_TIMES:
         sys.exit(f"a byte costs up to {most:.1f} times as much in a longer frame")
 

@@ -7,12 +7,10 @@ for each program: by a call, two calls and sixteen calls a piece.
 """
 
 import argparse
-import re
-import subprocess
-import sys
 from pathlib import Path
 
 from building import bench_calls
+from counting import collected
 
 KINDS = {"mask": "umask", "message": "send and receive of 64 bytes", "semaphore": "post and wait", "stat": "stat of a name"}
 
@@ -22,20 +20,10 @@ SESSIONS = [1, 64]
 PIECES = [0, 1, 8]
 
 
-def collected(program, kind, sessions, piece, rounds):
-    """The instructions of a whole run."""
-    words = ["valgrind", "--tool=callgrind", "--callgrind-out-file=/dev/null", program, "hub", kind, sessions, piece, rounds]
-    run = subprocess.run([str(it) for it in words], check=True, capture_output=True, text=True)
-    found = re.search(r"Collected\s*:\s*(\d+)", run.stderr)
-    if not found:
-        sys.exit("valgrind counts nothing")
-    return int(found.group(1))
-
-
 def of_a_call(program, kind, sessions, piece):
     """The instructions of one call."""
     rounds = max(2048 // (sessions * max(piece, 1)), 8)
-    once, twice = (collected(program, kind, sessions, piece, it) for it in (rounds, 2 * rounds))
+    once, twice = (collected([program, "hub", kind, sessions, piece, it]) for it in (rounds, 2 * rounds))
     return (twice - once) / (2 * rounds * sessions * max(piece, 1))
 
 

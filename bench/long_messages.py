@@ -7,12 +7,13 @@ hello and the open, are taken off by a second script of twice as many pairs.
 """
 
 import argparse
-import re
 import subprocess
 import sys
 import tempfile
 from pathlib import Path
 from resource import RUSAGE_CHILDREN, getrusage
+
+from counting import collected
 
 PROGRAM = Path(__file__).resolve().parent.parent / "crates" / "mqserve" / "out" / "mqserve"
 
@@ -37,12 +38,7 @@ def script(length, pairs):
 
 def instructions(program, file):
     file.seek(0)
-    words = ["valgrind", "--tool=callgrind", "--callgrind-out-file=/dev/null", program]
-    run = subprocess.run(words, stdin=file, stdout=subprocess.DEVNULL, stderr=subprocess.PIPE, check=True, text=True)
-    found = re.search(r"Collected\s*:\s*(\d+)", run.stderr)
-    if not found:
-        sys.exit("valgrind counts nothing")
-    return int(found.group(1))
+    return collected([program], file)
 
 
 def nanoseconds(program, file):
