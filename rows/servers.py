@@ -27,6 +27,8 @@ USERS = TOP / "rows" / "mqserve" / "two.users"
 SECONDS = 60
 SECONDS_OF_AN_ANSWER = 4
 LITTLE_MEMORY, FEW_CALLS = 64 << 20, 100_000
+# More than little memory has room for, if all are kept.
+MANY_CALLS, FEW_RECORDS = 2_000_000, 1_000
 MANY = 200
 AT_ONCE, ROUNDS = 8, 5
 MUCH, MANY_REFUSED = 300_000, 40
@@ -287,6 +289,24 @@ def without_memory(programs, address, *words):
         is_same("faults and status", (err, server.returncode), (b"mqserve: memory\n", 5))
         if calls < FEW_CALLS:
             raise Wrong(f"{calls} calls were answered in {LITTLE_MEMORY} bytes of memory")
+
+
+def keeps_the_newest(programs, address, *words):
+    """A server that keeps few records answers more calls than there is room for; an audit begins at the oldest that is kept."""
+    keeping = ["--keep-records", str(FEW_RECORDS), "--stop-after", "2"]
+    with serving(programs, address, *keeping, *words, memory=LITTLE_MEMORY) as server:
+        with connect(address) as stream:
+            stream.sendall(frame(HELLO, b"\0\3ka1"))
+            is_answer(stream, STARTED)
+            for _ in range(0, MANY_CALLS, FEW_RECORDS):
+                stream.sendall(frame(UMASK, b"\0\0") * FEW_RECORDS)
+                exactly(stream, len(frame(MASK, b"\0\0")) * FEW_RECORDS)
+        shown = told(programs, address, "r00t", "audit", "0", "1")
+        found = re.match(rb"records 1 (\d+):0:umask:0:", shown)
+        # Beside the calls two hellos and a hang-up are recorded.
+        if not found or not 0 <= int(found[1]) - (MANY_CALLS - FEW_RECORDS) <= 3:
+            raise Wrong(f"the audit begins at {shown!r}")
+        ends(server, 2)
 
 
 def call_without_end(address):
@@ -573,6 +593,7 @@ ANYWHERE = {
     "a receive until a moment": (timed, KINDS),
     "no memory": (without_memory, {"one thread": ONE_THREAD}),
     "a stream in two parts": (in_two_parts, {"workers": ["--workers", "2"], "one thread": ONE_THREAD}),
+    "few records are kept": (keeps_the_newest, {"one thread": ONE_THREAD}),
     "a log at the end of a file": (log, KINDS),
     "a log in a FIFO": (log_in_a_fifo, KINDS),
     "much behind a bad key": (much_behind, {"one thread": ONE_THREAD}),

@@ -30,6 +30,7 @@ use Rattle.ipc_waiters.proofs.waiters.Waiters.TheSendSync as waiters
 use Rattle.ipc_queue.specs.contracts.contents.Contents as contents
 use Rattle.ipc_queue.specs.contracts.queue.Queue as queue
 use Rattle.ipc_queue.specs.contracts.queue.Queue.TheInside as queue_inside
+use Rattle.ipc_queue.proofs.queue.Ticket.TheSendSync as ticket
 use Rattle.ipc_queue.proofs.queue.ParkedSend.TheSendSync as parked
 use Rattle.ipc_sem.proofs.semaphore.Sem.TheSendSync as sem
 use Rattle.ipc_names.proofs.directory.NameDir.TheSendSync as dir
@@ -41,7 +42,10 @@ use Rattle.ipc_tables.specs.contracts.objects.Objects as objects
 use Rattle.ipc_tables.specs.contracts.tables.Tables as tables
 use Rattle.ipc_tables.specs.contracts.tables.Tables.TheInside as tables_inside
 use Rattle.ipc_tables.proofs.sessions.Sessions.TheSendSync as sessions
-use Rattle.ipc_trail.proofs.trail.Trail.TheSendSync as trail
+use Rattle.ipc_trail.specs.contracts.trail.Trail as trail
+use Rattle.ipc_trail.specs.contracts.trail.Trail.TheInside as trail_inside
+use Rattle.ipc_terms.proofs.record.Record.TheSendSync as record'
+use Rattle.std.proofs.collections.VecDeque.TheSendSync as deque
 use Rattle.ipc_policy.proofs.config.Config.TheSendSync as config
 use Rattle.ipc_state.specs.contracts.clock.Clock as clock
 use Rattle.ipc_state.specs.contracts.states.State as state
@@ -57,8 +61,14 @@ use Rattle.ipc_core.proofs.outboxes.Outboxes.TheSendSync as outboxes
 pub snapshot_send : (Y : RattleType) → IsSend (snapshot.the_row Y)
 snapshot_send Y = record { owned = λ d vs. ((λ vss. (tt, ((λ uss. (tt, tt)), tt))), tt); leaving = λ k f vs. tt }
 
+pub trail_inside_send : IsSend trail_inside.the_row
+trail_inside_send = search (sendable, deque.the_send, record'.the_send, snapshot_send, global.the_send, globals.the_frees) depth 20
+
+pub trail_send : IsSend trail.the_row
+trail_send = search (sendable, trail_inside_send) depth 20
+
 pub contents_send : IsSend contents.the_row
-contents_send = search (sendable, buckets.the_field_send, snapshot_send) depth 20
+contents_send = search (sendable, buckets.the_field_send, ticket.the_send, snapshot_send) depth 20
 
 pub queue_inside_send : IsSend queue_inside.the_row
 queue_inside_send = search (sendable, contents_send, waiters.the_send, parked.the_send, sid.the_send, desc.the_send, option.the_field_send) depth 20
@@ -85,7 +95,7 @@ pub clock_send : IsSend (clock.the_field).row
 clock_send = search (sendable, timed_calls_send) depth 20
 
 pub state_inside_send : IsSend state_inside.the_row
-state_inside_send = search (sendable, tables_send, clock_send, trail.the_send, config.the_field_send) depth 20
+state_inside_send = search (sendable, tables_send, clock_send, trail_send, config.the_field_send) depth 20
 
 pub state_send : IsSend state.the_row
 state_send = search (sendable, state_inside_send) depth 20

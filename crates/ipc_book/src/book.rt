@@ -45,7 +45,7 @@ impl<L: Ledger> Model for Book<L> {
 
     ghost view = { λ b. record { core = b.core; seats = length b.places.items; total = b.total.total } };
 
-    ghost invariant = { λ b. (b.total.total ≡ length b.core.history) × (2 ^ 63 ≤ b.home.parts + length b.places.items) };
+    ghost invariant = { λ b. (b.total.total ≡ length b.core.history) × (2 ^ 63 ≤ b.home.parts + length b.places.items) × (b.core.first ≡ 0) };
 }
 
 impl<L: Ledger> Book<L> {
@@ -55,7 +55,7 @@ impl<L: Ledger> Book<L> {
         requires name { blank.name ≡ L.name }
         requires parts { blank.parts ≡ L.parts }
         requires many { blank.parts ≡ 2 ^ 63 }
-        ensures ok { IfOk result (λ b. b ≡ record { core = record { config = config; history = []; untaken = [] }; seats = 0; total = 0 }) }
+        ensures ok { IfOk result (λ b. b ≡ record { core = record { config = config; history = []; untaken = []; first = 0 }; seats = 0; total = 0 }) }
         ensures in_range { OnOk result (first_bad config.limits ≡ None) }
         ensures bad { IfErr result (λ fault. MatchOption (first_bad config.limits) (fault ≡ CoreFault.NoMemory) (λ field. fault ≡ CoreFault.BadConfig field)) }
     {
@@ -77,13 +77,15 @@ impl<L: Ledger> Book<L> {
     }
 
     /// The trail is legal, the limits are in their ranges, what each session has not taken yet is the
-    /// last of what it was answered while it was live, and the ledger's total is the trail's length.
+    /// last of what it was answered while it was live, and the ledger's total is the trail's length. No
+    /// record was forgotten, so each receipt can be compared with its own.
     /// Does nothing; facts of every book, and so of what is behind a lock whenever that is free.
     pub fn holds(&self)
         ensures legal { Legal self.now.core.config self.now.core.history }
         ensures in_range { first_bad self.now.core.config.limits ≡ None }
         ensures boxes { BoxesAgree self.now.core.config self.now.core.history self.now.core.untaken }
         ensures total { self.now.total ≡ length self.now.core.history }
+        ensures whole { self.now.core.first ≡ 0 }
     {
         self.core.is_legal();
         self.core.keeps_the_last();

@@ -16,6 +16,7 @@ use std::sync::ledger::{Ledger, Share};
 
 /// Whether the receipt and its event stand in the trail at the receipt's place.
 fn stands(core: &Core, entry: &Entry) -> bool
+    requires whole { core.now.first ≡ 0 }
     ensures { IsTrue result ↔ IsInTrail core.now.history entry.now }
 {
     let place = entry.receipt.place as usize;
@@ -34,7 +35,8 @@ fn up(n: u8) -> u8
 
 /// Counts an entry that stands.
 fn note(core: &Core, entry: &Entry, counts: &mut [u8]) -> bool
-    requires { length counts.old ≡ length core.now.history }
+    requires whole { core.now.first ≡ 0 }
+    requires counts { length counts.old ≡ length core.now.history }
     ensures stands { IsTrue result ↔ IsInTrail core.now.history entry.now }
     ensures counted { (xs : List Listed) → Counted core.now.history counts.old xs → Counted core.now.history counts.new (xs ++ entry.now ∷ []) }
 {
@@ -48,7 +50,8 @@ fn note(core: &Core, entry: &Entry, counts: &mut [u8]) -> bool
 
 /// Counts a seat's entries. True if all stand.
 fn tally(core: &Core, entries: &Vec<Entry>, counts: &mut [u8]) -> bool
-    requires { length counts.old ≡ length core.now.history }
+    requires whole { core.now.first ≡ 0 }
+    requires counts { length counts.old ≡ length core.now.history }
     ensures stand { result ≡ true → AllInTrail core.now.history entries.now.items }
     ensures fall { result ≡ false → AllInTrail core.now.history entries.now.items → ⊥ }
     ensures counted { (xs : List Listed) → Counted core.now.history counts.old xs → Counted core.now.history counts.new (xs ++ entries.now.items) }
@@ -64,7 +67,8 @@ fn tally(core: &Core, entries: &Vec<Entry>, counts: &mut [u8]) -> bool
 
 /// Counts what one seat keeps. True if all of it stands.
 fn tally_seat<L: Ledger>(core: &Core, seat: &Seat<L>, counts: &mut [u8]) -> bool
-    requires { length counts.old ≡ length core.now.history }
+    requires whole { core.now.first ≡ 0 }
+    requires counts { length counts.old ≡ length core.now.history }
     ensures stand { result ≡ true → AllInTrail core.now.history seat.now.list }
     ensures fall { result ≡ false → AllInTrail core.now.history seat.now.list → ⊥ }
     ensures counted { (xs : List Listed) → Counted core.now.history counts.old xs → Counted core.now.history counts.new (xs ++ seat.now.list) }
@@ -74,7 +78,8 @@ fn tally_seat<L: Ledger>(core: &Core, seat: &Seat<L>, counts: &mut [u8]) -> bool
 
 /// Counts what all seats keep. True if all of it stands.
 fn tally_all<L: Ledger>(core: &Core, seats: &Vec<Seat<L>>, counts: &mut [u8]) -> bool
-    requires { length counts.old ≡ length core.now.history }
+    requires whole { core.now.first ≡ 0 }
+    requires counts { length counts.old ≡ length core.now.history }
     ensures stand { result ≡ true → AllInTrail core.now.history (all_kept seats.now.items) }
     ensures fall { result ≡ false → AllInTrail core.now.history (all_kept seats.now.items) → ⊥ }
     ensures counted { Counted core.now.history counts.old [] → Counted core.now.history counts.new (all_kept seats.now.items) }
@@ -109,6 +114,7 @@ fn counts_of<L: Ledger>(
     alloc: Global,
     seats: &Vec<Seat<L>>,
 ) -> Result<(Vec<u8>, bool), NoMemory>
+    requires whole { core.now.first ≡ 0 }
     ensures places { IfOk result (λ t. length t.0.items ≡ length core.now.history) }
     ensures counted { IfOk result (λ t. Counted core.now.history t.0.items (all_kept seats.now.items)) }
     ensures stand { IfOk result (λ t. t.1 ≡ true → AllInTrail core.now.history (all_kept seats.now.items)) }
@@ -128,6 +134,7 @@ pub(crate) fn audit<L: Ledger>(
     alloc: Global,
     seats: &Vec<Seat<L>>,
 ) -> Result<(), CloseFault>
+    requires whole { core.now.first ≡ 0 }
     ensures ok { OnOk result (AreTheTrail core.now.history seats.now.items) }
     ensures missing { (p : ℕ) → result ≡ Err (Missing p) → FirstMissing core.now.history (all_kept seats.now.items) p }
     ensures none_out { (n : ℕ) → result ≡ Err (SeatOut n) → ⊥ }

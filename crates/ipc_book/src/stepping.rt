@@ -18,6 +18,7 @@ pub(crate) fn stale<L: Ledger>(
     core: &Core,
     receipts: &Receipts<L>,
 ) -> Option<(Receipt, Option<Receipt>)>
+    requires { core.now.first ≡ 0 }
     ensures none { result ≡ None → IsCurrent core.now.history receipts.now.list }
     ensures some { IfSome result (λ p. (last_receipt receipts.now.list ≡ Some p.0) × (receipt_at core.now.history p.0.place ≡ p.1) × (p.1 ≢ Some p.0)) }
 {
@@ -51,7 +52,9 @@ pub(crate) fn enter<L: Ledger>(
     event: Event,
     copy: Option<Event>,
 ) -> Result<(Receipt, Posted), Unstepped>
-    requires { IfSome copy (λ same. same ≡ event) }
+    requires same { IfSome copy (λ same. same ≡ event) }
+    requires whole { core.old.first ≡ 0 }
+    ensures whole { core.new.first ≡ 0 }
     ensures ok { IfOk result (λ p. Stepped core.old core.new receipts.old.list receipts.new.list event p.0) }
     ensures verdict { IfOk result (λ p. p.1.verdict ≡ verdict core.old.config core.old.history event) }
     ensures caller { IfOk result (λ p. p.1.caller ≡ session_at 0 (answers core.old.config core.old.history event)) }

@@ -247,7 +247,7 @@ pub stand_new : (c : Config) (untaken : ℕ → List Answer) → ((s : ℕ) → 
 unfolding hellos
 stand_new c untaken none = record { unstarted = λ s le. none s; agree = boxes_new c }
 
-pub state_new : (c : Config) (untaken : ℕ → List Answer) → ◌≡◌ {A = CoreView} (record { config = c; history = []; untaken = of_first (hellos []) untaken }) (record { config = c; history = []; untaken = [] })
+pub state_new : (c : Config) (untaken : ℕ → List Answer) → ◌≡◌ {A = CoreView} (record { config = c; history = []; untaken = of_first (hellos []) untaken; first = 0 }) (record { config = c; history = []; untaken = []; first = 0 })
 unfolding hellos
 state_new c untaken = refl
 

@@ -1,16 +1,15 @@
 -- What is read of the queue or the semaphore that a caller has by the description which its event names.
-use Rattle.std.proofs.Common.{◌≡◌, ℕ, true, false, cond, List, [], ◌∷◌, length, Option, Some, None, is_some, refl}
+use Rattle.std.proofs.Common.{◌≡◌, ℕ, true, false, cond, List, [], ◌∷◌, length, Option, Some, None, refl}
 use Rattle.std.specs.Prelude.{option_and_then, IsSome}
 use Rattle.std.specs.Option.{option_map}
 use Rattle.ipc_terms.specs.Lists.{first}
 use Rattle.ipc_terms.specs.Events.{caller}
-use Rattle.ipc_terms.specs.History.{Message, message_at}
 use Rattle.ipc_terms.specs.declared.ids.Sid.{Sid}
 use Rattle.ipc_terms.specs.declared.call.Answer.{Answer}
 use Rattle.ipc_terms.specs.declared.call.Answer.TheVariants.{Sent, Received}
 use Rattle.ipc_terms.specs.declared.record.Event.{Event}
 use Rattle.ipc_queue.specs.declared.queue.ParkedSend.{ParkedSend}
-use Rattle.ipc_queue.specs.Tickets.{Tickets, next_place}
+use Rattle.ipc_queue.specs.Tickets.{Tickets, next_ticket}
 use Rattle.ipc_sem.specs.Counters.{Counter}
 use Rattle.ipc_policy.specs.declared.asking.Described.{Described}
 use Rattle.ipc_policy.specs.declared.config.Config.{Config}
@@ -24,7 +23,7 @@ use Rattle.ipc_policy.specs.Verdict.{Legal, answers_of, noticed, send_answers}
 use Rattle.ipc_state.specs.Agrees.{receiver_of}
 use Rattle.ipc_state.specs.StateView.{brought, queue_by, semaphore_by, value_by}
 use Rattle.ipc_state.specs.Meetings.{description, by_description, queue_held, semaphore_held}
-use Rattle.ipc_state.proofs.HeldQueues.{held_length, held_receiver, held_waiter, held_value, held_sender, held_place, message_there, message_some}
+use Rattle.ipc_state.proofs.HeldQueues.{held_length, held_receiver, held_waiter, held_value, held_sender, carried, held_message}
 use Rattle.ipc_core.proofs.Noticing.{full_told, served_told, noticed_told}
 
 pub length_by : (c : Config) (h : History) (e : Event) → option_map (λ (q : Tickets). length q.tickets) (by_description (queue_held c h) e) ≡ option_map (λ q. length q.contents) (by_description (queue_by c h) e)
@@ -51,30 +50,17 @@ waiter_by c h e = at (description e) where
   at None = refl
   at (Some x) = held_waiter c h (caller e).0 x.desc.0
 
-pub place_by : (c : Config) (h : History) (e : Event) → option_and_then (λ (q : Tickets). next_place q.tickets) (by_description (queue_held c h) e) ≡ option_and_then (λ q. option_map (λ (m : Send). m.place) (next q.contents)) (by_description (queue_by c h) e)
-place_by c h e = at (description e) where
-  at : (w : Option Described) → option_and_then (λ (q : Tickets). next_place q.tickets) (option_and_then (λ (x : Described). queue_held c h (caller e).0 x.desc.0) w) ≡ option_and_then (λ q. option_map (λ (m : Send). m.place) (next q.contents)) (option_and_then (λ (x : Described). queue_by c h (caller e).0 x.desc.0) w)
+pub message_by : (c : Config) (h : History) (e : Event) → option_and_then (λ (q : Tickets). option_map carried (next_ticket q.tickets)) (by_description (queue_held c h) e) ≡ option_and_then (λ q. option_map brought (next q.contents)) (by_description (queue_by c h) e)
+message_by c h e = at (description e) where
+  at : (w : Option Described) → option_and_then (λ (q : Tickets). option_map carried (next_ticket q.tickets)) (option_and_then (λ (x : Described). queue_held c h (caller e).0 x.desc.0) w) ≡ option_and_then (λ q. option_map brought (next q.contents)) (option_and_then (λ (x : Described). queue_by c h (caller e).0 x.desc.0) w)
   at None = refl
-  at (Some x) = held_place c h (caller e).0 x.desc.0
+  at (Some x) = held_message c h (caller e).0 x.desc.0
 
 pub counted_by : (c : Config) (h : History) (e : Event) → Legal c h → option_map (λ (q : Counter). q.value) (by_description (semaphore_held c h) e) ≡ by_description (value_by c h) e
 counted_by c h e legal = at (description e) where
   at : (w : Option Described) → option_map (λ (q : Counter). q.value) (option_and_then (λ (x : Described). semaphore_held c h (caller e).0 x.desc.0) w) ≡ option_and_then (λ (x : Described). value_by c h (caller e).0 x.desc.0) w
   at None = refl
   at (Some x) = held_value c h (caller e).0 x.desc.0 legal
-
--- the message at a place that is the next of the queue
-pub message_by : (c : Config) (h : History) (e : Event) (place : ℕ) → option_and_then (λ q. option_map (λ (m : Send). m.place) (next q.contents)) (by_description (queue_by c h) e) ≡ Some place → message_at place h ≡ option_and_then (λ q. option_map brought (next q.contents)) (by_description (queue_by c h) e)
-message_by c h e place k = at (description e) k where
-  at : (w : Option Described) → option_and_then (λ q. option_map (λ (m : Send). m.place) (next q.contents)) (option_and_then (λ (x : Described). queue_by c h (caller e).0 x.desc.0) w) ≡ Some place → message_at place h ≡ option_and_then (λ q. option_map brought (next q.contents)) (option_and_then (λ (x : Described). queue_by c h (caller e).0 x.desc.0) w)
-  at None k = absurd cc
-  at (Some x) k = message_there c h (caller e).0 x.desc.0 place k
-
-pub message_some_by : (c : Config) (h : History) (e : Event) (place : ℕ) → option_and_then (λ q. option_map (λ (m : Send). m.place) (next q.contents)) (by_description (queue_by c h) e) ≡ Some place → is_some (message_at place h) ≡ true
-message_some_by c h e place k = at (description e) k where
-  at : (w : Option Described) → option_and_then (λ q. option_map (λ (m : Send). m.place) (next q.contents)) (option_and_then (λ (x : Described). queue_by c h (caller e).0 x.desc.0) w) ≡ Some place → is_some (message_at place h) ≡ true
-  at None k = absurd cc
-  at (Some x) k = message_some c h (caller e).0 x.desc.0 place k
 
 -- what a send is told
 pub full_by : (c : Config) (h : History) (e : Event) (priority : ℕ) (bytes : List ℕ) → is_some_and (λ x. is_full c h x.object) (by_description (holds h) e) ≡ true → answers_of (by_description (holds h) e) (send_answers c h (caller e) priority bytes) ≡ []

@@ -1,5 +1,6 @@
 pub mod Answering
 pub mod BoxSteps
+pub mod BoxSlots
 pub mod BoxTables
 pub mod Noticing
 pub mod LawLemmas

@@ -1,6 +1,6 @@
 //! The core.
 
-ghost use Rattle.std.specs.Prelude.{◌≡◌, ◌≤◌, ◌||◌, ◌++◌, [], None, IfOk, IfErr, OnOk, OnErr, filter, length, map, take, MatchOption};
+ghost use Rattle.std.specs.Prelude.{◌≡◌, ◌≤◌, ◌+◌, min, ◌||◌, ◌++◌, [], None, IfOk, IfErr, OnOk, OnErr, filter, length, map, take, MatchOption};
 ghost use Rattle.std.specs.Option.{option_map, option_to_list};
 ghost use Rattle.ipc_terms.specs.Timed.{plain};
 ghost use Rattle.ipc_policy.specs.Bodies.{due};
@@ -44,7 +44,7 @@ impl Model for Core {
     ghost use Rattle.ipc_core.specs.Boxes.{of_first, untaken_by};
     ghost use Rattle.ipc_core.specs.Outboxes.{Stand};
 
-    ghost view = { λ a. record { config = a.state.config; history = a.state.history; untaken = of_first (hellos a.state.history) (untaken_by a.outboxes) } };
+    ghost view = { λ a. record { config = a.state.config; history = a.state.history; untaken = of_first (hellos a.state.history) (untaken_by a.outboxes); first = a.state.first } };
 
     ghost invariant = { λ a. Stand a.state.config a.state.history (untaken_by a.outboxes) };
 }
@@ -68,7 +68,7 @@ impl Core {
     /// A core with an empty trail, or the first limit that is out of its range, in the order
     /// `msg_max`, `msgsize_max`, `queues_max`. An `Err` drops the configuration.
     pub fn new(alloc: Global, config: Config) -> Result<Core, CoreFault>
-        ensures ok { IfOk result (λ core. core ≡ record { config = config; history = []; untaken = [] }) }
+        ensures ok { IfOk result (λ core. core ≡ record { config = config; history = []; untaken = []; first = 0 }) }
         ensures in_range { OnOk result (first_bad config.limits ≡ None) }
         ensures bad { IfErr result (λ fault. MatchOption (first_bad config.limits) (fault ≡ CoreFault.NoMemory) (λ field. fault ≡ CoreFault.BadConfig field)) }
     {
@@ -88,11 +88,23 @@ impl Core {
         self.state.config()
     }
 
-    /// Every event so far with its verdict.
+    /// Every event so far with its verdict, but for the records that were forgotten.
+    #[inline(always)]
     pub fn trail(&self) -> &Trail
-        ensures { result.now.history ≡ self.now.history }
+        ensures history { result.now.history ≡ self.now.history }
+        ensures first { result.now.first ≡ self.now.first }
     {
         self.state.trail()
+    }
+
+    /// Forgets the oldest record that it has, if it has one, and changes nothing else: each later event is decided on and
+    /// answered as before, but for an audit that begins before the oldest record that is left, which finds no memory. Takes
+    /// no memory.
+    #[inline(always)]
+    pub fn forget_one(&mut self)
+        ensures { self.new ≡ record self.old { first = min (self.old.first + 1) (length self.old.history) } }
+    {
+        self.state.forget_one();
     }
 
     /// The trail is legal: at every place the record's rule is the policy's verdict on its event
@@ -212,6 +224,7 @@ impl Core {
     /// Records the event with its verdict, does what is accepted to the objects that it means, and puts
     /// what is answered to sessions that are live into outboxes. An `Err` changes nothing, and drops the
     /// event.
+    #[inline(always)]
     fn commit(
         &mut self,
         alloc: Global,

@@ -4,6 +4,7 @@ ghost use Rattle.std.specs.Prelude.{◌≡◌, length, option_and_then, IfOk};
 ghost use Rattle.std.specs.Option.{option_map};
 ghost use Rattle.ipc_terms.specs.Lists.{first};
 ghost use Rattle.ipc_terms.specs.Pages.{page};
+ghost use Rattle.ipc_terms.specs.Lines.{lines};
 ghost use Rattle.ipc_policy.specs.Sessions.{hellos};
 ghost use Rattle.ipc_policy.specs.Descriptions.{opens};
 ghost use Rattle.ipc_policy.specs.Life.{names};
@@ -13,7 +14,7 @@ ghost use Rattle.ipc_state.specs.Meetings.{by_description};
 
 use crate::message::Message;
 use ipc_state::Lookup;
-use ipc_terms::{Family, Names, NoMemory, Sid};
+use ipc_terms::{Family, Lines, Names, NoMemory, Sid};
 use std::alloc::Global;
 
 /// How many sessions were started: the number of the next one.
@@ -58,12 +59,27 @@ pub fn next_held<'a>(lookup: &Lookup<'a>) -> Option<Message<'a>>
     ensures { result ≡ option_and_then (λ q. option_map brought (next q.contents)) (by_description (queue_by lookup.now.config lookup.now.history) lookup.now.event) }
 {
     let queue = lookup.queue()?;
-    let place = queue.next()?;
-    let trail = lookup.trail();
+    let next = queue.next_message()?;
     Some(Message {
-        priority: trail.prio_at(place),
-        bytes: trail.bytes_at(place),
+        priority: next.priority,
+        bytes: &next.bytes,
     })
+}
+
+/// A page of the audit's lines; no memory where it begins before the oldest record that is left.
+pub fn lines_shown(
+    lookup: &Lookup<'_>,
+    alloc: Global,
+    start: u64,
+    count: u16,
+) -> Result<Lines, NoMemory>
+    ensures { IfOk result (λ shown. shown ≡ page start count (lines lookup.now.history)) }
+{
+    let trail = lookup.trail();
+    if start < trail.first() {
+        return Err(NoMemory);
+    }
+    Ok(trail.page(alloc, start, count)?)
 }
 
 /// The session whose receive has been parked longest on the queue that the session has by the

@@ -29,10 +29,10 @@ use Rattle.ipc_hub.specs.declared.fed.Fed.TheVariants.{Done, Short, Full, Over}
 use Rattle.ipc_hub.specs.declared.fed.End.TheVariants.{Wire, BadKey}
 use Rattle.ipc_hub.specs.Hub.{Connection, Hub, new_connection, with_connection, untaken_of, untaken, is_over_at, HasEnded, IsGone, events_of, hang_up_of, IsOutcome, ChangesOnly, Takes, core_after_take}
 use Rattle.ipc_hub.specs.Sessions.{EachHasItsOwn}
-use Rattle.ipc_hub.specs.Laws.{Call, Opened, TookPiece, HungUp, Gave, Named, Ticked, Makes, MakesAll, WhoIsGoneStaysGone}
+use Rattle.ipc_hub.specs.Laws.{Call, Opened, TookPiece, HungUp, Gave, Named, Ticked, Forgot, Makes, WhoIsGoneStaysGone}
 use Rattle.ipc_hub.proofs.SessionSteps.{hellos_later}
 use Rattle.ipc_hub.proofs.SessionLemmas.{get_set}
-use Rattle.ipc_hub.proofs.HubLemmas.{same_history}
+use Rattle.ipc_hub.proofs.HubLemmas.{same_history, forgot_untaken}
 
 -- ---- a session that has ended is answered nothing
 
@@ -203,6 +203,13 @@ makes_gone (HungUp j) old new i made g = stays (hang_up_of made.before.session) 
 makes_gone (Gave j bytes) old new i made g = gave old new j i bytes made g
 makes_gone (Named j) old new i made g = subst (λ (h : Hub). IsGone h i) (sym made.now) (stays [] old (record old { marked = set old.marked j false }) i g refl g.there)
 makes_gone (Ticked moment) old new i made g = stays (Tick moment ∷ []) old new i g made.core (ap (λ (zs : List Connection). slice_get zs i) made.connections ∙ g.there)
+makes_gone Forgot old new i made g = subst (λ (h : Hub). IsGone h i) (sym made.now) (record {
+  connection = g.connection;
+  there = g.there;
+  over = g.over;
+  nothing = forgot_untaken old.core new.core.first g.connection ∙ g.nothing;
+  session = λ sid is. (let ended = g.session sid is in record { started = ended.started; ended = ended.ended });
+})
 
 pub stays_gone : WhoIsGoneStaysGone
 stays_gone [] old new i made g = subst (λ (h : Hub). IsGone h i) (sym made) g

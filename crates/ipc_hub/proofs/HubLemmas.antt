@@ -1,6 +1,7 @@
 -- What each call of a hub comes to.
 use Rattle.std.proofs.Common.{rules, ◌≡◌, ℕ, ◌<◌, ◌≤◌, Bool, true, false, nat_lt, cond, eqb, ◌||◌, List, [], ◌∷◌, ◌++◌, length, get_or, set, slice_get, Option, Some, None, is_some, refl, sym, ap, subst, ◌∙◌, arith}
 use Rattle.std.specs.Prelude.{is_none, unwrap_or, IsSome}
+use Rattle.std.specs.Option.{option_map}
 use Rattle.std.proofs.lemmas.Bool.{ltb-false}
 use Rattle.ipc_terms.proofs.Lists.{stands_there}
 use Rattle.ipc_terms.specs.declared.ids.Sid.{Sid}
@@ -29,8 +30,8 @@ use Rattle.ipc_wire.specs.Requests.{is_hello_request, same, request_with}
 use Rattle.ipc_wire.specs.Streams.{spell_answer, cut}
 use Rattle.ipc_hub.specs.declared.fed.Fed.{Fed}
 use Rattle.ipc_hub.specs.declared.fed.HubFault.TheVariants.{Ended}
-use Rattle.ipc_hub.specs.Hub.{Connection, Hub, new_connection, untaken_of, untaken, spell_answers}
-use Rattle.ipc_hub.specs.Hub.{session_or_next, event_of, is_hello_refused, hang_up_of, IsOutcome}
+use Rattle.ipc_hub.specs.Hub.{Connection, Hub, Marks, new_connection, untaken_of, untaken, spell_answers}
+use Rattle.ipc_hub.specs.Hub.{session_or_next, from_kept, event_of, is_hello_refused, hang_up_of, IsOutcome}
 use Rattle.ipc_hub.specs.Sessions.{IsSessionOf, EachHasItsOwn}
 use Rattle.ipc_terms.specs.Sizes.{IsSmall}
 use Rattle.ipc_hub.specs.Hub.{core_after_take, fault_of_change}
@@ -72,10 +73,10 @@ call_ends a s q c sid none is may e =
     let own = has_session q c s is may in
     ap (λ (x : Sid). Some x) (e ∙ ap (λ w. unwrap_or w none) own.1) ∙ sym (ap (λ w. cond (is_hello_refused a w (q ∷ [])) None (Some (session_or_next a w))) own.1)
 
-pub call_is : (a b : CoreView) (s : Option Sid) (q : Request) (c : Call) (sid none : Sid) → q ≡ request.Do c → same (is_hello_request q) (is_none s) ≡ true → sid ≡ unwrap_or s none → b ≡ after_step (Do sid c) a → b ≡ after_step (event_of a.config (session_or_next a s) q) a
+pub call_is : (a b : CoreView) (s : Option Sid) (q : Request) (c : Call) (sid none : Sid) → q ≡ request.Do c → same (is_hello_request q) (is_none s) ≡ true → sid ≡ unwrap_or s none → b ≡ after_step (Do sid (from_kept a.first c)) a → b ≡ after_step (event_of a (session_or_next a s) q) a
 call_is a b s q c sid none is may e now =
     let own = has_session q c s is may in
-    now ∙ ap (λ (x : Sid). after_step (Do x c) a) (e ∙ ap (λ w. unwrap_or w none) own.1 ∙ sym (ap (session_or_next a) own.1)) ∙ ap (λ p. after_step (event_of a.config (session_or_next a s) p) a) (sym is)
+    now ∙ ap (λ (x : Sid). after_step (Do x (from_kept a.first c)) a) (e ∙ ap (λ w. unwrap_or w none) own.1 ∙ sym (ap (session_or_next a) own.1)) ∙ ap (λ p. after_step (event_of a (session_or_next a s) p) a) (sym is)
 
 -- ---- what holds of every hub
 
@@ -90,6 +91,27 @@ hung_up_sessions a b xs i x y s there open' now is = changed_all a b xs i x y s 
 
 pub fed_sessions : (fed : Fed) (a b : CoreView) (xs : List Connection) (i : ℕ) (x y : Connection) (w : List ℕ) → EachHasItsOwn a xs → slice_get xs i ≡ Some x → x.is_over ≡ false → IsOutcome fed a x (cut (is_none x.session) w) b y → EachHasItsOwn b (set xs i y)
 fed_sessions fed a b xs i x y w s there open' h = changed_all a b xs i x y s there (fed_changes fed a b x y w (open_at a xs i x s there open') h)
+
+-- which records are kept is nothing to sessions
+pub forgot_sessions : (a : CoreView) (n : ℕ) (xs : List Connection) → EachHasItsOwn a xs → EachHasItsOwn (record a { first = n }) xs
+forgot_sessions a n xs w = record {
+  own = λ i x sid there k. (let o = w.own i x sid there k in record { started = o.started; live_is = o.live_is });
+  apart = w.apart;
+  refused = w.refused;
+}
+
+-- nor what anybody has untaken
+pub forgot_untaken : (a : CoreView) (n : ℕ) (x : Connection) → untaken (record a { first = n }) x ≡ untaken a x
+forgot_untaken a n x = ap (λ (answers : List Answer). cond x.has_refusal (Refused Refusal ∷ []) answers) (same' x.session) where
+  same' : (s : Option Sid) → untaken_of (record a { first = n }) s ≡ untaken_of a s
+  same' None = refl
+  same' (Some sid) = refl
+
+pub forgot_marks : (hub : Hub) (n : ℕ) → Marks hub (record hub { core = record hub.core { first = n } })
+forgot_marks hub n = record { kept = λ i e. e; silent = λ i e. at (slice_get hub.connections i) } where
+  at : (x : Option Connection) → unwrap_or (option_map (untaken (record hub.core { first = n })) x) [] ≡ unwrap_or (option_map (untaken hub.core) x) []
+  at None = refl
+  at (Some x) = forgot_untaken hub.core n x
 
 -- a take changes no history
 pub same_history : (a : CoreView) (s : Option Sid) → (core_after_take a s).history ≡ a.history

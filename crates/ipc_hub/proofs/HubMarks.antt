@@ -20,7 +20,7 @@ use Rattle.ipc_hub.specs.Sessions.{Stands}
 use Rattle.ipc_hub.specs.Stepping.{Starts, Ends, IsWithin, is_full, count_of}
 use Rattle.ipc_hub.proofs.SessionLemmas.{Which, Own, Other, AfterOpening, Fresh, Stood, which, get_set, after_opening, fresh_has_none, fed_changes, none_at_all}
 use Rattle.ipc_hub.proofs.MarkLemmas.{set_count}
-use Rattle.ipc_hub.proofs.HubLemmas.{open_at, opened_sessions, fed_sessions, hung_up_sessions, taken_sessions}
+use Rattle.ipc_hub.proofs.HubLemmas.{open_at, opened_sessions, fed_sessions, hung_up_sessions, taken_sessions, forgot_sessions}
 use Rattle.ipc_hub.proofs.Ticking.{ticked_sessions}
 
 -- the parts of a hub as it is seen
@@ -209,6 +209,10 @@ ticked_stands m n xs moment w now f = record {
 -- the connection that is named loses its mark
 pub named_stands : (m n : MarkedView) (xs : List Connection) (i : ℕ) → Stands m xs → n ≡ record m { marked = set m.marked i false } → Stands n xs
 named_stands m n xs i w now = subst (λ (k : MarkedView). Stands k xs) (sym now) (record { sessions = w.sessions; count = set_count m.marked i false ∙ w.count; owned = w.owned })
+
+-- records are forgotten
+pub forgot_stands : (m n : MarkedView) (first : ℕ) (xs : List Connection) → Stands m xs → n ≡ record m { core = record m.core { first = first } } → Stands n xs
+forgot_stands m n first xs w now = subst (λ (k : MarkedView). Stands k xs) (sym now) (record { sessions = forgot_sessions m.core first xs w.sessions; count = w.count; owned = w.owned })
 
 pub no_connections : (m : MarkedView) → m.marked ≡ [] → Stands m []
 no_connections m e = record { sessions = none_at_all m.core; count = ap (λ (bs : List Bool). length bs) e; owned = λ i x sid there k. absurd cc }

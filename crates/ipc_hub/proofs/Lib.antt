@@ -15,3 +15,4 @@ pub mod RunLemmas
 pub mod RefusalLemmas
 pub mod GoneLemmas
 pub mod StreamLemmas
+pub mod RaisedLemmas

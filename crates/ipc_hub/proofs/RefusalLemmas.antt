@@ -8,12 +8,12 @@ use Rattle.ipc_terms.specs.declared.rule.Rule.TheVariants.{BadKey}
 use Rattle.ipc_policy.specs.declared.config.Config.{Config}
 use Rattle.ipc_state.specs.Ranges.{first_bad}
 use Rattle.ipc_hub.specs.declared.fed.Fed.{Fed}
-use Rattle.ipc_hub.specs.Hub.{Connection, Hub, new_hub, with_connection, untaken_of, untaken, spell_answers, ChangesOnly, Feeds, HangsUp, Takes, Names, Ticks}
-use Rattle.ipc_hub.specs.Laws.{Call, Opened, TookPiece, HungUp, Gave, Named, Ticked, Makes, output_of, GivesOneRefusal, EachStrangerIsRefused}
+use Rattle.ipc_hub.specs.Hub.{Connection, Hub, new_hub, with_connection, untaken_of, untaken, spell_answers, ChangesOnly, Feeds, HangsUp, Takes, Names, Ticks, Forgets}
+use Rattle.ipc_hub.specs.Laws.{Call, Opened, TookPiece, HungUp, Gave, Named, Ticked, Forgot, Makes, output_of, GivesOneRefusal, EachStrangerIsRefused}
 use Rattle.ipc_hub.proofs.SessionLemmas.{Which, Own, Other, AfterOpening, Fresh, Stood, which_now, after_opening, none_before, get_set}
 use Rattle.ipc_hub.proofs.HubLemmas.{untaken_spelled}
 use Rattle.ipc_hub.proofs.CallLists.{nothing_more, along_calls}
-use Rattle.ipc_hub.proofs.RunLemmas.{IsWell, no_session, opened_well, named_well, ticked_well, fed_well, hung_up_well, take_well, new_well, fed_change, given_by, output_is}
+use Rattle.ipc_hub.proofs.RunLemmas.{IsWell, no_session, opened_well, named_well, ticked_well, forgot_well, fed_well, hung_up_well, take_well, new_well, fed_change, given_by, output_is}
 
 -- a connection without a session was told nothing, or its refusal, with which it is over
 data IsTold (x : Connection) (given : List ℕ) : Type 0 where
@@ -116,6 +116,13 @@ ticked_told old new moment i given t h = record {
   there : slice_get old.connections i ≡ slice_get new.connections i
   there = ap (λ (zs : List Connection). slice_get zs i) (sym t.connections)
 
+forgot_told : (old new : Hub) (i : ℕ) (given : List ℕ) → Forgets old new → AreTold old i given → AreTold new i given
+forgot_told old new i given f h = record {
+  well = forgot_well old new f h.well;
+  absent = λ e. h.absent (ap (λ (z : Hub). slice_get z.connections i) (sym f.now) ∙ e);
+  told = λ x e none. h.told x (ap (λ (z : Hub). slice_get z.connections i) (sym f.now) ∙ e) none;
+}
+
 fed_told : (old new : Hub) (j : ℕ) (piece : List ℕ) (fed : Fed) (i : ℕ) (given : List ℕ) → Feeds old j piece fed new → AreTold old i given → AreTold new i given
 fed_told old new j piece fed i given f h =
     let m = fed_change old new j piece fed h.well f in
@@ -130,6 +137,7 @@ call_told i (TookPiece j piece fed) old new given made h = nothing_more (λ (z :
 call_told i (HungUp j) old new given made h = nothing_more (λ (z : Hub) (bytes : List ℕ). AreTold z i bytes) new given (hung_up_told old new j i given made h)
 call_told i (Named j) old new given made h = nothing_more (λ (z : Hub) (bytes : List ℕ). AreTold z i bytes) new given (named_told old new j i given made h)
 call_told i (Ticked moment) old new given made h = nothing_more (λ (z : Hub) (bytes : List ℕ). AreTold z i bytes) new given (ticked_told old new moment i given made h)
+call_told i Forgot old new given made h = nothing_more (λ (z : Hub) (bytes : List ℕ). AreTold z i bytes) new given (forgot_told old new i given made h)
 call_told i (Gave j bytes) old new given made h = taken_told old new j bytes i given made h
 
 new_told : (c : Config) (i : ℕ) → first_bad c.limits ≡ None → AreTold (new_hub c) i []

@@ -23,15 +23,15 @@ use Rattle.ipc_wire.specs.Streams.{Cut, cut, spell_answer}
 use Rattle.ipc_hub.specs.declared.fed.Fed.{Fed}
 use Rattle.ipc_hub.specs.declared.fed.Fed.TheVariants.{Done, Short, Full, Over}
 use Rattle.ipc_hub.specs.declared.fed.End.TheVariants.{Wire, BadKey}
-use Rattle.ipc_hub.specs.Hub.{Connection, Hub, new_hub, with_connection, untaken_of, untaken, spell_answers, events_of, hang_up_of, IsOutcome, core_after_take, ChangesOnly, Feeds, HangsUp, Takes, Names, Ticks}
+use Rattle.ipc_hub.specs.Hub.{Connection, Hub, new_hub, with_connection, untaken_of, untaken, spell_answers, events_of, hang_up_of, IsOutcome, core_after_take, ChangesOnly, Feeds, HangsUp, Takes, Names, Ticks, Forgets}
 use Rattle.ipc_hub.specs.Sessions.{EachHasItsOwn}
-use Rattle.ipc_hub.specs.Laws.{Call, Opened, TookPiece, HungUp, Gave, Named, Ticked, Makes, output_of, GivesOutbox, EachOutputIsTheOutbox}
+use Rattle.ipc_hub.specs.Laws.{Call, Opened, TookPiece, HungUp, Gave, Named, Ticked, Forgot, Makes, output_of, GivesOutbox, EachOutputIsTheOutbox}
 use Rattle.ipc_core.proofs.LawLemmas.{all_is_kept}
 use Rattle.ipc_hub.proofs.StepLemmas.{config_kept}
 use Rattle.ipc_hub.proofs.SessionLemmas.{ChangesSessions, Which, Own, Other, AfterOpening, Fresh, Stood, which_now, after_opening, none_before, fresh_has_none, get_set, none_kept, hangs_up, fed_changes, changed_all, opened_all, none_at_all}
 use Rattle.ipc_hub.proofs.CallLists.{nothing_more, along_calls}
 use Rattle.ipc_hub.proofs.Ticking.{ticked_sessions}
-use Rattle.ipc_hub.proofs.HubLemmas.{open_at, takes_changes, same_history, untaken_spelled}
+use Rattle.ipc_hub.proofs.HubLemmas.{open_at, forgot_sessions, takes_changes, same_history, untaken_spelled}
 
 -- ---- the answers that a session took
 
@@ -272,6 +272,17 @@ ticked_accounted old new moment i given t w h = record {
   there : slice_get old.connections i ≡ slice_get new.connections i
   there = ap (λ (zs : List Connection). slice_get zs i) (sym t.connections)
 
+-- records that are forgotten
+pub forgot_well : (old new : Hub) → Forgets old new → IsWell old → IsWell new
+forgot_well old new f w = subst IsWell (sym f.now) (record { legal = w.legal; agree = w.agree; sessions = forgot_sessions old.core new.core.first old.connections w.sessions; in_range = w.in_range })
+
+forgot_accounted : (old new : Hub) (i : ℕ) (given : List ℕ) → Forgets old new → IsAccounted old i given → IsAccounted new i given
+forgot_accounted old new i given f h = subst (λ (z : Hub). IsAccounted z i given) (sym f.now) (record {
+  absent = h.absent;
+  silent = h.silent;
+  spoken = λ x sid e own. (let k = h.spoken x sid e own in record { front = k.front; whole = k.whole; spelled = k.spelled });
+})
+
 -- ---- each call
 
 pub steps_append : (es ds : List Event) (a : CoreView) → after_steps (es ++ ds) a ≡ after_steps ds (after_steps es a)
@@ -352,6 +363,7 @@ output_is i (TookPiece j piece fed) calls = refl
 output_is i (HungUp j) calls = refl
 output_is i (Named j) calls = refl
 output_is i (Ticked moment) calls = refl
+output_is i Forgot calls = refl
 output_is i (Gave j bytes) calls = at (eqb j i) where
   at : (b : Bool) → cond b (bytes ++ output_of i calls) (output_of i calls) ≡ cond b bytes [] ++ output_of i calls
   at true = refl
@@ -363,6 +375,7 @@ call_kept i (TookPiece j piece fed) old new given made k = nothing_more (λ (z :
 call_kept i (HungUp j) old new given made k = nothing_more (λ (z : Hub) (bytes : List ℕ). IsKept z i bytes) new given (hung_up_kept old new j i given made k)
 call_kept i (Named j) old new given made k = nothing_more (λ (z : Hub) (bytes : List ℕ). IsKept z i bytes) new given (record { well = named_well old new j made k.well; accounted = named_accounted old new j i given made k.accounted })
 call_kept i (Ticked moment) old new given made k = nothing_more (λ (z : Hub) (bytes : List ℕ). IsKept z i bytes) new given (record { well = ticked_well old new moment made k.well; accounted = ticked_accounted old new moment i given made k.well k.accounted })
+call_kept i Forgot old new given made k = nothing_more (λ (z : Hub) (bytes : List ℕ). IsKept z i bytes) new given (record { well = forgot_well old new made k.well; accounted = forgot_accounted old new i given made k.accounted })
 call_kept i (Gave j bytes) old new given made k = taken_kept old new j bytes i given made k
 
 new_kept : (c : Config) (i : ℕ) → first_bad c.limits ≡ None → IsKept (new_hub c) i []

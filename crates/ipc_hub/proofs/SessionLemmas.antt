@@ -72,7 +72,7 @@ hello_first : (a b : CoreView) (q : Request) (qs : List Request) → same (is_he
 unfolding request_with
 hello_first a b (request.Hello key) qs is accepted now =
     let sid : Sid = record { 0 = hellos a.history } in
-    let e : Event = event_of a.config sid (request.Hello key) in
+    let e : Event = event_of a sid (request.Hello key) in
     let fine : verdict a.config a.history e ≡ None = none_is (verdict a.config a.history e) accepted in
     let more : hellos (after_step e a).history ≡ hellos a.history + 1 = hello_counts a key sid fine in
     let rest : List Event = events_of a None qs in

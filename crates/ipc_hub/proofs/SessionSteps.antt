@@ -62,31 +62,31 @@ live_later (e ∷ es) a s lt off =
 
 -- ---- the events of a connection
 
-request_hangs_no_up : (c : Config) (sid : Sid) (q : Request) (s : ℕ) → hangs_up s (event_of c sid q) ≡ false
-request_hangs_no_up c sid (request.Hello key) s = refl
-request_hangs_no_up c sid (request.Do call) s = refl
+request_hangs_no_up : (a : CoreView) (sid : Sid) (q : Request) (s : ℕ) → hangs_up s (event_of a sid q) ≡ false
+request_hangs_no_up a sid (request.Hello key) s = refl
+request_hangs_no_up a sid (request.Do call) s = refl
 
-requests_hang_no_up : (c : Config) (sid : Sid) (qs : List Request) (s : ℕ) → NoneHangsUp s (map (event_of c sid) qs)
-requests_hang_no_up c sid [] s = tt
-requests_hang_no_up c sid (q ∷ qs) s = (request_hangs_no_up c sid q s, requests_hang_no_up c sid qs s)
+requests_hang_no_up : (a : CoreView) (sid : Sid) (qs : List Request) (s : ℕ) → NoneHangsUp s (map (event_of a sid) qs)
+requests_hang_no_up a sid [] s = tt
+requests_hang_no_up a sid (q ∷ qs) s = (request_hangs_no_up a sid q s, requests_hang_no_up a sid qs s)
 
 pub events_hang_no_up : (a : CoreView) (session : Option Sid) (qs : List Request) (s : ℕ) → NoneHangsUp s (events_of a session qs)
-events_hang_no_up a session qs s = requests_hang_no_up a.config (session_or_next a session) qs s
+events_hang_no_up a session qs s = requests_hang_no_up a (session_or_next a session) qs s
 
 -- a hello that is accepted starts the next session, which is live
 live_at_hello : (c : Config) (h : History) (e : Event) (rule : Option Rule) → rule ≡ None → (s : ℕ) → s ≡ hellos h → live_after s e (hellos h) (live h s) ≡ true → live (record { event = e; rule = rule } ∷ h) s ≡ true
 live_at_hello c h e (Some rule) free s is k = absurd cc
 live_at_hello c h e None free s is k = (grows c h e).live_or_not s ∙ k
 
-pub hello_lives : (a : CoreView) (key : List ℕ) (sid : Sid) → verdict a.config a.history (event_of a.config sid (request.Hello key)) ≡ None → live (after_event a.config a.history (event_of a.config sid (request.Hello key))) (hellos a.history) ≡ true
-hello_lives a key sid ok = live_at_hello a.config a.history (event_of a.config sid (request.Hello key)) (verdict a.config a.history (event_of a.config sid (request.Hello key))) ok (hellos a.history) refl (let own : eqb (hellos a.history) (hellos a.history) ≡ true = eq-eqb _ _ refl in rw own refl)
+pub hello_lives : (a : CoreView) (key : List ℕ) (sid : Sid) → verdict a.config a.history (event_of a sid (request.Hello key)) ≡ None → live (after_event a.config a.history (event_of a sid (request.Hello key))) (hellos a.history) ≡ true
+hello_lives a key sid ok = live_at_hello a.config a.history (event_of a sid (request.Hello key)) (verdict a.config a.history (event_of a sid (request.Hello key))) ok (hellos a.history) refl (let own : eqb (hellos a.history) (hellos a.history) ≡ true = eq-eqb _ _ refl in rw own refl)
 
 hello_counts_by : (c : Config) (h : History) (e : Event) (rule : Option Rule) → rule ≡ None → hellos_after e (hellos h) ≡ hellos h + 1 → hellos (record { event = e; rule = rule } ∷ h) ≡ hellos h + 1
 hello_counts_by c h e (Some rule) free k = absurd cc
 hello_counts_by c h e None free k = (grows c h e).hello_count ∙ k
 
-pub hello_counts : (a : CoreView) (key : List ℕ) (sid : Sid) → verdict a.config a.history (event_of a.config sid (request.Hello key)) ≡ None → hellos (after_event a.config a.history (event_of a.config sid (request.Hello key))) ≡ hellos a.history + 1
-hello_counts a key sid ok = hello_counts_by a.config a.history (event_of a.config sid (request.Hello key)) (verdict a.config a.history (event_of a.config sid (request.Hello key))) ok refl
+pub hello_counts : (a : CoreView) (key : List ℕ) (sid : Sid) → verdict a.config a.history (event_of a sid (request.Hello key)) ≡ None → hellos (after_event a.config a.history (event_of a sid (request.Hello key))) ≡ hellos a.history + 1
+hello_counts a key sid ok = hello_counts_by a.config a.history (event_of a sid (request.Hello key)) (verdict a.config a.history (event_of a sid (request.Hello key))) ok refl
 
 -- ---- a hang-up
 

@@ -4,12 +4,16 @@ use Rattle.std.specs.Prelude.{is_none, is_some}
 use Rattle.std.proofs.lemmas.List.{map_push, append-nil, drop-drop}
 use Rattle.ipc_terms.specs.declared.ids.Sid.{Sid}
 use Rattle.ipc_terms.specs.declared.record.Event.{Event}
+use Rattle.ipc_terms.specs.declared.record.Event.TheVariants as event
+use Rattle.ipc_access.specs.Users.{user_of_key}
+use Rattle.ipc_policy.specs.declared.config.Config.{Config}
 use Rattle.ipc_core.specs.Outboxes.{after_step, after_steps}
 use Rattle.ipc_core.specs.CoreView.{CoreView}
 use Rattle.ipc_core.proofs.BoxSteps.{steps_more}
 use Rattle.ipc_fields.specs.declared.fault.WireFault.{WireFault}
 use Rattle.ipc_fields.proofs.FrontLemmas.{front_some, rest_behind}
 use Rattle.ipc_wire.specs.declared.request.Request.{Request}
+use Rattle.ipc_wire.specs.declared.request.Request.TheVariants as request
 use Rattle.ipc_wire.specs.Requests.{request_at}
 use Rattle.ipc_wire.specs.Streams.{front, Cut, cut, cut_by, after}
 use Rattle.ipc_wire.proofs.CutLemmas.{cut_is, goes_on}
@@ -18,7 +22,7 @@ use Rattle.ipc_hub.specs.declared.fed.Fed.TheVariants.{Done, Short, Full, Over}
 use Rattle.ipc_hub.specs.declared.fed.End.{End}
 use Rattle.ipc_hub.specs.declared.fed.End.TheVariants.{Wire, BadKey}
 use Rattle.ipc_hub.specs.Hub.{Connection}
-use Rattle.ipc_hub.specs.Hub.{session_or_next, event_of, events_of, is_hello_refused, Steps, IsOutcome}
+use Rattle.ipc_hub.specs.Hub.{session_or_next, from_kept, event_of, events_of, is_hello_refused, Steps, IsOutcome}
 use Rattle.ipc_hub.specs.Stepping.{StepsFront, RefusesHello, StepsFrames, IsEnd, connection_after}
 
 -- events leave the configuration
@@ -26,9 +30,18 @@ pub config_kept : (es : List Event) (a : CoreView) → (after_steps es a).config
 config_kept [] a = refl
 config_kept (e ∷ es) a = config_kept es (after_step e a)
 
+pub first_kept : (es : List Event) (a : CoreView) → (after_steps es a).first ≡ a.first
+first_kept [] a = refl
+first_kept (e ∷ es) a = first_kept es (after_step e a)
+
 -- a request as an event, of the session that a connection calls by
 abbrev event_at : CoreView → Option Sid → Request → Event
-event_at a s q = event_of a.config (session_or_next a s) q
+event_at a s q = event_of a (session_or_next a s) q
+
+-- it depends on nothing of the core that steps change
+same_event : (a b : CoreView) (sid : Sid) (q : Request) → b.config ≡ a.config → b.first ≡ a.first → event_of b sid q ≡ event_of a sid q
+same_event a b sid (request.Hello key) config first = ap (λ (c : Config). event.Hello (user_of_key c.users key)) config
+same_event a b sid (request.Do call) config first = ap (λ (n : ℕ). event.Do sid (from_kept n call)) first
 
 pub none_stepped : (a : CoreView) (s : Option Sid) → Steps a s [] a s
 none_stepped a None = record { accepted = refl; core = refl; session_is = refl }
@@ -52,7 +65,8 @@ more_stepped a b d s t [] q h accepted now = first_stepped a b d s t q h.core h.
 more_stepped a b d s t (p ∷ ps) q h accepted now =
     let own : session_or_next b t ≡ session_or_next a s = ap (session_or_next b) h.session_is in
     let same : b.config ≡ a.config = ap (λ (z : CoreView). z.config) h.core ∙ config_kept (events_of a s (p ∷ ps)) a in
-    let event : event_at b t q ≡ event_at a s q = ap (λ c. event_of c (session_or_next b t) q) same ∙ ap (λ sid. event_of a.config sid q) own in
+    let first : b.first ≡ a.first = ap (λ (z : CoreView). z.first) h.core ∙ first_kept (events_of a s (p ∷ ps)) a in
+    let event : event_at b t q ≡ event_at a s q = same_event a b (session_or_next b t) q same first ∙ ap (λ sid. event_of a sid q) own in
     record {
       accepted = refused_front a s p (ps ++ q ∷ []) ps ∙ h.accepted;
       core =
@@ -60,7 +74,7 @@ more_stepped a b d s t (p ∷ ps) q h accepted now =
           ∙ ap (λ e. after_step e b) event
           ∙ ap (after_step (event_at a s q)) h.core
           ∙ sym (steps_more (events_of a s (p ∷ ps)) (event_at a s q) a)
-          ∙ ap (λ es. after_steps es a) (sym (map_push (event_of a.config (session_or_next a s)) (p ∷ ps) q));
+          ∙ ap (λ es. after_steps es a) (sym (map_push (event_of a (session_or_next a s)) (p ∷ ps) q));
       session_is = ap Some own;
     }
 

@@ -21,14 +21,15 @@ use Rattle.ipc_wire.proofs.OrderLemmas.{one_hello}
 use Rattle.ipc_hub.specs.declared.fed.Fed.{Fed}
 use Rattle.ipc_hub.specs.declared.fed.Fed.TheVariants.{Done, Short, Full, Over}
 use Rattle.ipc_hub.specs.declared.fed.End.TheVariants.{Wire, BadKey}
-use Rattle.ipc_hub.specs.Hub.{Connection, Hub, new_hub, with_connection, session_or_next, event_of, events_of, hang_up_of, is_hello_refused, session_after, IsOutcome, ChangesOnly, Feeds, HangsUp, Takes, Names, Ticks}
-use Rattle.ipc_hub.specs.Laws.{Call, Opened, TookPiece, HungUp, Gave, Named, Ticked, Makes, stream_of, call_in, calls_of, IsStepped, EachStreamIsStepped}
+use Rattle.ipc_hub.specs.Hub.{Connection, Hub, new_hub, with_connection, session_or_next, event_of, events_of, hang_up_of, is_hello_refused, session_after, IsOutcome, core_after_take, ChangesOnly, Feeds, HangsUp, Takes, Names, Ticks, Forgets}
+use Rattle.ipc_hub.specs.Laws.{Call, Opened, TookPiece, HungUp, Gave, Named, Ticked, Forgot, Makes, stream_of, call_in, calls_of, as_stepped, AreStepped, IsStepped, EachStreamIsStepped}
 use Rattle.ipc_hub.proofs.LawLemmas.{cut_any_way, after_both}
 use Rattle.ipc_hub.proofs.SessionSteps.{hellos_later}
+use Rattle.ipc_hub.proofs.StepLemmas.{first_kept}
 use Rattle.ipc_hub.proofs.SessionLemmas.{ChangesSessions, Which, Own, Other, AfterOpening, Fresh, Stood, which_now, after_opening, none_before, fresh_has_none, get_set, calls_no_hello, cut_order}
-use Rattle.ipc_hub.proofs.HubLemmas.{same_history}
+use Rattle.ipc_hub.proofs.HubLemmas.{same_history, forgot_marks}
 use Rattle.ipc_hub.proofs.CallLists.{nothing_more, along_calls}
-use Rattle.ipc_hub.proofs.RunLemmas.{IsWell, fed_change, hung_up_change, taken_change, opened_well, fed_well, hung_up_well, take_well, named_well, ticked_well, new_well}
+use Rattle.ipc_hub.proofs.RunLemmas.{IsWell, fed_change, hung_up_change, taken_change, opened_well, fed_well, hung_up_well, take_well, named_well, ticked_well, forgot_well, new_well}
 
 -- ---- the calls of a session among events
 
@@ -40,38 +41,64 @@ calls_after : (es : List Event) (a b : CoreView) (s : ℕ) → b ≡ after_steps
 calls_after [] a b s now = ap (λ (z : CoreView). calls_of s z.history) now ∙ sym (append-nil (calls_of s a.history))
 calls_after (e ∷ es) a b s now = calls_after es (after_step e a) b s now ∙ append_assoc (calls_of s a.history) (call_in s e) (calls_in s es)
 
+first_after : (es : List Event) (a b : CoreView) → b ≡ after_steps es a → b.first ≡ a.first
+first_after es a b now = ap (λ (z : CoreView). z.first) now ∙ first_kept es a
+
 no_call_in : (t : Option Sid) (s : ℕ) → calls_in s (hang_up_of t) ≡ []
 no_call_in None s = refl
 no_call_in (Some sid) s = refl
 
-other_call : (c : Config) (t : Sid) (s : ℕ) (q : Request) → (t.0 ≡ s → ⊥) → call_in s (event_of c t q) ≡ []
-other_call c t s (request.Hello key) ne = refl
-other_call c t s (request.Do call) ne = let k : eqb t.0 s ≡ false = ne_eqb t.0 s ne in rw k refl
+other_call : (a : CoreView) (t : Sid) (s : ℕ) (q : Request) → (t.0 ≡ s → ⊥) → call_in s (event_of a t q) ≡ []
+other_call a t s (request.Hello key) ne = refl
+other_call a t s (request.Do call) ne = let k : eqb t.0 s ≡ false = ne_eqb t.0 s ne in rw k refl
 
 -- requests of another session
-other_calls : (c : Config) (t : Sid) (s : ℕ) (qs : List Request) → (t.0 ≡ s → ⊥) → calls_in s (map (event_of c t) qs) ≡ []
-other_calls c t s [] ne = refl
-other_calls c t s (q ∷ qs) ne = ap (λ (ps : List Request). ps ++ calls_in s (map (event_of c t) qs)) (other_call c t s q ne) ∙ other_calls c t s qs ne
+other_calls : (a : CoreView) (t : Sid) (s : ℕ) (qs : List Request) → (t.0 ≡ s → ⊥) → calls_in s (map (event_of a t) qs) ≡ []
+other_calls a t s [] ne = refl
+other_calls a t s (q ∷ qs) ne = ap (λ (ps : List Request). ps ++ calls_in s (map (event_of a t) qs)) (other_call a t s q ne) ∙ other_calls a t s qs ne
 
 both_true : (a b : Bool) → (a && b) ≡ true → (a ≡ true) × (b ≡ true)
 both_true true b e = (refl, e)
 both_true false b e = absurd cc
 
-own_call : (c : Config) (t : Sid) (s : ℕ) (q : Request) → t.0 ≡ s → same (is_hello_request q) false ≡ true → call_in s (event_of c t q) ≡ q ∷ []
+own_call : (a : CoreView) (t : Sid) (s : ℕ) (q : Request) → t.0 ≡ s → same (is_hello_request q) false ≡ true → call_in s (event_of a t q) ≡ as_stepped a.first q ∷ []
 unfolding request_with
-own_call c t s (request.Hello key) is later = absurd (let wrong : false ≡ true = later in cc)
-own_call c t s (request.Do call) is later = let k : eqb t.0 s ≡ true = eq-eqb t.0 s is in rw k refl
+own_call a t s (request.Hello key) is later = absurd (let wrong : false ≡ true = later in cc)
+own_call a t s (request.Do call) is later = let k : eqb t.0 s ≡ true = eq-eqb t.0 s is in rw k refl
 
 -- calls of the session itself
-own_calls : (c : Config) (t : Sid) (s : ℕ) (qs : List Request) → t.0 ≡ s → is_in_order false qs ≡ true → calls_in s (map (event_of c t) qs) ≡ qs
-own_calls c t s [] is order = refl
-own_calls c t s (q ∷ qs) is order =
+own_calls : (a : CoreView) (t : Sid) (s : ℕ) (qs : List Request) → t.0 ≡ s → is_in_order false qs ≡ true → calls_in s (map (event_of a t) qs) ≡ map (as_stepped a.first) qs
+own_calls a t s [] is order = refl
+own_calls a t s (q ∷ qs) is order =
     let k = both_true (same (is_hello_request q) false) (is_in_order false qs) order in
-    ap (λ (ps : List Request). ps ++ calls_in s (map (event_of c t) qs)) (own_call c t s q is k.0) ∙ ap (λ (ps : List Request). q ∷ ps) (own_calls c t s qs is k.1)
+    ap (λ (ps : List Request). ps ++ calls_in s (map (event_of a t) qs)) (own_call a t s q is k.0) ∙ ap (λ (ps : List Request). as_stepped a.first q ∷ ps) (own_calls a t s qs is k.1)
 
 hello_is : (q : Request) → same (is_hello_request q) true ≡ true → (key : List ℕ) × (q ≡ request.Hello key)
 hello_is (request.Hello key) e = (key, refl)
 hello_is (request.Do call) e = absurd (let wrong : false ≡ true = sym (ap (λ b. same b true) (calls_no_hello call)) ∙ e in cc)
+
+-- ---- calls as they stand in the trail
+
+all_stepped : (first : ℕ) (qs : List Request) → AreStepped first qs (map (as_stepped first) qs)
+all_stepped first [] = tt
+all_stepped first (q ∷ qs) = ((first, (omega arith, refl)), all_stepped first qs)
+
+both_stepped : (first : ℕ) (asked stepped more later : List Request) → AreStepped first asked stepped → AreStepped first more later → AreStepped first (asked ++ more) (stepped ++ later)
+both_stepped first [] [] more later h k = k
+both_stepped first [] (p ∷ ps) more later h k = absurd h
+both_stepped first (q ∷ qs) [] more later h k = absurd h
+both_stepped first (q ∷ qs) (p ∷ ps) more later h k = (h.0, both_stepped first qs ps more later h.1 k)
+
+-- more is forgotten
+later_stepped : (m n : ℕ) (asked stepped : List Request) → m ≤ n → AreStepped m asked stepped → AreStepped n asked stepped
+later_stepped m n [] [] le h = tt
+later_stepped m n [] (p ∷ ps) le h = absurd h
+later_stepped m n (q ∷ qs) [] le h = absurd h
+later_stepped m n (q ∷ qs) (p ∷ ps) le h = ((h.0.0, ((let within = h.0.1.0 in omega arith), h.0.1.1)), later_stepped m n qs ps le h.1)
+
+-- the trail has the same calls of the session
+kept_stepped : (a b : CoreView) (s : ℕ) (asked : List Request) → a.first ≤ b.first → calls_of s b.history ≡ calls_of s a.history → AreStepped a.first asked (calls_of s a.history) → AreStepped b.first asked (calls_of s b.history)
+kept_stepped a b s asked le same' h = subst (λ (qs : List Request). AreStepped b.first asked qs) (sym same') (later_stepped a.first b.first asked (calls_of s a.history) le h)
 
 -- ---- what a feed steps of a stream
 
@@ -82,6 +109,7 @@ record Stepping (a : CoreView) (x : Connection) (w : List ℕ) (b : CoreView) (y
   kept : y.is_over ≡ false → others ≡ cut (is_none y.session) y.kept
   session : y.session ≡ session_after a x.session done
   calls : (s : ℕ) → calls_of s b.history ≡ calls_of s a.history ++ calls_in s (events_of a x.session done)
+  first : b.first ≡ a.first
 
 -- a hello that is refused adds no call
 record Refusing (a : CoreView) (x : Connection) (b : CoreView) (y : Connection) : Type 0 where
@@ -89,6 +117,7 @@ record Refusing (a : CoreView) (x : Connection) (b : CoreView) (y : Connection) 
   session : y.session ≡ None
   over : y.is_over ≡ true
   calls : (s : ℕ) → calls_of s b.history ≡ calls_of s a.history
+  first : b.first ≡ a.first
 
 data Split (a : CoreView) (x : Connection) (w : List ℕ) (b : CoreView) (y : Connection) : Type 0 where
   Goes : Stepping a x w b y → Split a x w b y
@@ -115,6 +144,7 @@ all_done a b x y w h =
       kept = λ on. ap (cut (is_none y.session)) (sym (ap (λ (z : Connection). z.kept) h.connection));
       session = h.steps.session_is;
       calls = λ s. calls_after (events_of a x.session c.requests) a b s h.steps.core;
+      first = first_after (events_of a x.session c.requests) a b h.steps.core;
     }
 
 some_done : (a b : CoreView) (x y : Connection) (w : List ℕ) → IsOutcome Short a x (cut (is_none x.session) w) b y → Stepping a x w b y
@@ -125,6 +155,7 @@ some_done a b x y w h = record {
   kept = λ on. refl;
   session = h.steps.session_is;
   calls = λ s. calls_after (events_of a x.session h.done) a b s h.steps.core;
+  first = first_after (events_of a x.session h.done) a b h.steps.core;
 }
 
 fault_done : (fault : WireFault) (a b : CoreView) (x y : Connection) (w : List ℕ) → IsOutcome (Over (Wire fault)) a x (cut (is_none x.session) w) b y → Stepping a x w b y
@@ -138,6 +169,7 @@ fault_done fault a b x y w h =
       kept = λ on. absurd (let wrong : true ≡ false = sym (ap (λ (z : Connection). z.is_over) h.connection) ∙ on in cc);
       session = h.steps.session_is;
       calls = λ s. calls_after (hang_up_of y.session) h.middle b s h.hung_up ∙ ap (λ (qs : List Request). calls_of s h.middle.history ++ qs) (no_call_in y.session s) ∙ append-nil (calls_of s h.middle.history) ∙ calls_after events a h.middle s h.steps.core;
+      first = first_after (hang_up_of y.session) h.middle b h.hung_up ∙ first_after events a h.middle h.steps.core;
     }
 
 hello_refused : (a b : CoreView) (x y : Connection) (w : List ℕ) → IsOutcome (Over BadKey) a x (cut (is_none x.session) w) b y → Refusing a x b y
@@ -149,12 +181,13 @@ hello_refused a b x y w h = at x.session refl (cut (is_none x.session) w).reques
       let order : is_in_order (is_none x.session) (q ∷ qs) ≡ true = ap (is_in_order (is_none x.session)) (sym e) ∙ one_hello (is_none x.session) w in
       let k = both_true (same (is_hello_request q) true) (is_in_order false qs) (ap (λ z. is_in_order (is_none z) (q ∷ qs)) (sym is) ∙ order) in
       let hello = hello_is q k.0 in
-      let events : take 1 (events_of a x.session (cut (is_none x.session) w).requests) ≡ event_of a.config (session_or_next a None) q ∷ [] = ap (λ z. take 1 (events_of a z (cut (is_none x.session) w).requests)) is ∙ ap (λ ps. take 1 (events_of a None ps)) e in
+      let events : take 1 (events_of a x.session (cut (is_none x.session) w).requests) ≡ event_of a (session_or_next a None) q ∷ [] = ap (λ z. take 1 (events_of a z (cut (is_none x.session) w).requests)) is ∙ ap (λ ps. take 1 (events_of a None ps)) e in
       record {
         none = is;
         session = ap (λ (z : Connection). z.session) h.connection ∙ is;
         over = ap (λ (z : Connection). z.is_over) h.connection;
-        calls = λ s. calls_after (event_of a.config (session_or_next a None) q ∷ []) a b s (h.core ∙ ap (λ es. after_steps es a) events) ∙ ap (λ p. calls_of s a.history ++ (call_in s (event_of a.config (session_or_next a None) p) ++ [])) hello.1 ∙ append-nil (calls_of s a.history);
+        calls = λ s. calls_after (event_of a (session_or_next a None) q ∷ []) a b s (h.core ∙ ap (λ es. after_steps es a) events) ∙ ap (λ p. calls_of s a.history ++ (call_in s (event_of a (session_or_next a None) p) ++ [])) hello.1 ∙ append-nil (calls_of s a.history);
+        first = first_after (take 1 (events_of a x.session (cut (is_none x.session) w).requests)) a b h.core;
       }
 
 split : (fed : Fed) (a b : CoreView) (x y : Connection) (w : List ℕ) → IsOutcome fed a x (cut (is_none x.session) w) b y → Split a x w b y
@@ -167,6 +200,7 @@ split (Over BadKey) a b x y w h = Ends (hello_refused a b x y w h)
 -- ---- what a call at a connection does to what was stepped
 
 record ChangesStream (a : CoreView) (x : Connection) (b : CoreView) (y : Connection) (piece : List ℕ) : Type 0 where
+  first : b.first ≡ a.first
   unstarted : ((s : ℕ) → hellos a.history ≤ s → calls_of s a.history ≡ []) → (s : ℕ) → hellos b.history ≤ s → calls_of s b.history ≡ []
   others : (s : ℕ) → s < hellos a.history → ((own : Sid) → x.session ≡ Some own → own.0 ≡ s → ⊥) → calls_of s b.history ≡ calls_of s a.history
   silent : (stream : List ℕ) → y.session ≡ None → y.is_over ≡ false → (x.session ≡ None) × (x.is_over ≡ false) × (cut true stream ≡ cut true x.kept → cut true (stream ++ piece) ≡ cut true y.kept)
@@ -182,8 +216,9 @@ same_session s t e = cc
 
 stepping_changes : (a b : CoreView) (x y : Connection) (piece : List ℕ) → x.is_over ≡ false → ChangesSessions a x b y → Stepping a x (x.kept ++ piece) b y → ChangesStream a x b y piece
 stepping_changes a b x y piece on m h = record {
+  first = h.first;
   unstarted = λ all s le. h.calls s ∙ ap (λ (qs : List Request). qs ++ calls_in s (events_of a x.session h.done)) (all s (let k = m.later in omega arith)) ∙ none_new s le h.done refl;
-  others = λ s lt ne. h.calls s ∙ ap (λ (qs : List Request). calls_of s a.history ++ qs) (other_calls a.config (session_or_next a x.session) s h.done (caller_differs a x.session s lt ne)) ∙ append-nil (calls_of s a.history);
+  others = λ s lt ne. h.calls s ∙ ap (λ (qs : List Request). calls_of s a.history ++ qs) (other_calls a (session_or_next a x.session) s h.done (caller_differs a x.session s lt ne)) ∙ append-nil (calls_of s a.history);
   silent = λ stream none still. at_silent stream none still h.done refl;
   same = λ sid stream own st. at_same sid stream own st;
   starts = λ sid stream none own. (on, λ unheard e. at_start sid stream none own unheard e h.done refl);
@@ -193,7 +228,7 @@ stepping_changes a b x y piece on m h = record {
   none_new s le (q ∷ qs) e =
       let own : y.session ≡ Some (session_or_next a x.session) = h.session ∙ ap (session_after a x.session) e in
       let lt : (session_or_next a x.session).0 < hellos b.history = (m.own (session_or_next a x.session) own).started in
-      other_calls a.config (session_or_next a x.session) s h.done (λ (same' : (session_or_next a x.session).0 ≡ s). omega arith)
+      other_calls a (session_or_next a x.session) s h.done (λ (same' : (session_or_next a x.session).0 ≡ s). omega arith)
 
   at_silent : (stream : List ℕ) → y.session ≡ None → y.is_over ≡ false → (qs : List Request) → h.done ≡ qs → (x.session ≡ None) × (x.is_over ≡ false) × (cut true stream ≡ cut true x.kept → cut true (stream ++ piece) ≡ cut true y.kept)
   at_silent stream none still [] e =
@@ -201,21 +236,25 @@ stepping_changes a b x y piece on m h = record {
       (none', on, λ k. cut_any_way true stream x.kept piece [] k ∙ sym (ap (λ (o : Option Sid). cut (is_none o) (x.kept ++ piece)) none') ∙ h.whole ∙ ap (λ (qs : List Request). after qs h.others) e ∙ h.kept still ∙ ap (λ (o : Option Sid). cut (is_none o) y.kept) none)
   at_silent stream none still (q ∷ qs) e = absurd (let wrong : ◌≡◌ {A = Option Sid} None (Some (session_or_next a x.session)) = sym none ∙ h.session ∙ ap (session_after a x.session) e in cc)
 
+  stepped_by : (sid : Sid) (asked stepped : List Request) → calls_of sid.0 b.history ≡ stepped → AreStepped a.first asked stepped → AreStepped b.first asked (calls_of sid.0 b.history)
+  stepped_by sid asked stepped calls k = subst (λ (n : ℕ). AreStepped n asked (calls_of sid.0 b.history)) (sym h.first) (subst (λ (qs : List Request). AreStepped a.first asked qs) (sym calls) k)
+
   order : is_in_order (is_none x.session) h.done ≡ true
   order = cut_order (is_none x.session) (x.kept ++ piece) h.done h.others h.whole
 
   at_same : (sid : Sid) (stream : List ℕ) → x.session ≡ Some sid → IsStepped a x sid stream → IsStepped b y sid (stream ++ piece)
   at_same sid stream own st =
-      let before : List Request = request.Hello st.key ∷ calls_of sid.0 a.history in
-      let calls : calls_of sid.0 b.history ≡ calls_of sid.0 a.history ++ h.done = h.calls sid.0 ∙ ap (λ (qs : List Request). calls_of sid.0 a.history ++ qs) (own_calls a.config (session_or_next a x.session) sid.0 h.done (ap (λ (o : Option Sid). (session_or_next a o).0) own) (ap (λ (o : Option Sid). is_in_order (is_none o) h.done) (sym own) ∙ order)) in
+      let before : List Request = request.Hello st.key ∷ st.asked in
+      let calls : calls_of sid.0 b.history ≡ calls_of sid.0 a.history ++ map (as_stepped a.first) h.done = h.calls sid.0 ∙ ap (λ (qs : List Request). calls_of sid.0 a.history ++ qs) (own_calls a (session_or_next a x.session) sid.0 h.done (ap (λ (o : Option Sid). (session_or_next a o).0) own) (ap (λ (o : Option Sid). is_in_order (is_none o) h.done) (sym own) ∙ order)) in
       record {
         key = st.key;
+        asked = st.asked ++ h.done;
+        stepped = stepped_by sid (st.asked ++ h.done) (calls_of sid.0 a.history ++ map (as_stepped a.first) h.done) calls (both_stepped a.first st.asked (calls_of sid.0 a.history) h.done (map (as_stepped a.first) h.done) st.stepped (all_stepped a.first h.done));
         others = h.others;
         whole =
             cut_any_way true stream x.kept piece before (st.whole ∙ ap (after before) (st.kept on))
             ∙ ap (after before) (ap (λ (o : Option Sid). cut (is_none o) (x.kept ++ piece)) (sym own) ∙ h.whole)
-            ∙ sym (after_both before h.done h.others)
-            ∙ ap (λ (qs : List Request). after (request.Hello st.key ∷ qs) h.others) (sym calls);
+            ∙ sym (after_both before h.done h.others);
         kept = λ still. h.kept still ∙ ap (λ (o : Option Sid). cut (is_none o) y.kept) (m.stays sid own);
       }
 
@@ -227,10 +266,12 @@ stepping_changes a b x y piece on m h = record {
       let number : t.0 ≡ sid.0 = ap (λ (v : Sid). v.0) same' in
       let front = both_true (same (is_hello_request q) true) (is_in_order false qs) (ap (λ (o : Option Sid). is_in_order (is_none o) (q ∷ qs)) (sym none) ∙ ap (is_in_order (is_none x.session)) (sym e) ∙ order) in
       let hello = hello_is q front.0 in
-      let calls : calls_of sid.0 b.history ≡ qs = h.calls sid.0 ∙ ap (λ (ps : List Request). ps ++ calls_in sid.0 (events_of a x.session h.done)) unheard ∙ ap (λ ps. calls_in sid.0 (events_of a x.session ps)) e ∙ ap (λ p. call_in sid.0 (event_of a.config t p) ++ calls_in sid.0 (map (event_of a.config t) qs)) hello.1 ∙ own_calls a.config t sid.0 qs number front.1 in
-      let done : h.done ≡ request.Hello hello.0 ∷ calls_of sid.0 b.history = e ∙ ap (λ p. p ∷ qs) hello.1 ∙ ap (λ (ps : List Request). request.Hello hello.0 ∷ ps) (sym calls) in
+      let calls : calls_of sid.0 b.history ≡ map (as_stepped a.first) qs = h.calls sid.0 ∙ ap (λ (ps : List Request). ps ++ calls_in sid.0 (events_of a x.session h.done)) unheard ∙ ap (λ ps. calls_in sid.0 (events_of a x.session ps)) e ∙ ap (λ p. call_in sid.0 (event_of a t p) ++ calls_in sid.0 (map (event_of a t) qs)) hello.1 ∙ own_calls a t sid.0 qs number front.1 in
+      let done : h.done ≡ request.Hello hello.0 ∷ qs = e ∙ ap (λ p. p ∷ qs) hello.1 in
       record {
         key = hello.0;
+        asked = qs;
+        stepped = stepped_by sid qs (map (as_stepped a.first) qs) calls (all_stepped a.first qs);
         others = h.others;
         whole = cut_any_way true stream x.kept piece [] k ∙ sym (ap (λ (o : Option Sid). cut (is_none o) (x.kept ++ piece)) none) ∙ h.whole ∙ ap (λ (ps : List Request). after ps h.others) done;
         kept = λ still. h.kept still ∙ ap (λ (o : Option Sid). cut (is_none o) y.kept) own;
@@ -238,6 +279,7 @@ stepping_changes a b x y piece on m h = record {
 
 refusing_changes : (a b : CoreView) (x y : Connection) (piece : List ℕ) → ChangesSessions a x b y → Refusing a x b y → ChangesStream a x b y piece
 refusing_changes a b x y piece m r = record {
+  first = r.first;
   unstarted = λ all s le. r.calls s ∙ all s (let k = m.later in omega arith);
   others = λ s lt ne. r.calls s;
   silent = λ stream none still. absurd (let wrong : true ≡ false = sym r.over ∙ still in cc);
@@ -246,15 +288,18 @@ refusing_changes a b x y piece m r = record {
 }
 
 -- nothing is stepped
-quiet_changes : (a b : CoreView) (x y : Connection) → ChangesSessions a x b y → ((s : ℕ) → calls_of s b.history ≡ calls_of s a.history) → y.session ≡ x.session → (y.is_over ≡ false → (x.is_over ≡ false) × (y.kept ≡ x.kept)) → ChangesStream a x b y []
-quiet_changes a b x y m calls session open' = record {
+quiet_changes : (a b : CoreView) (x y : Connection) → ChangesSessions a x b y → b.first ≡ a.first → ((s : ℕ) → calls_of s b.history ≡ calls_of s a.history) → y.session ≡ x.session → (y.is_over ≡ false → (x.is_over ≡ false) × (y.kept ≡ x.kept)) → ChangesStream a x b y []
+quiet_changes a b x y m first' calls session open' = record {
+  first = first';
   unstarted = λ all s le. calls s ∙ all s (let k = m.later in omega arith);
   others = λ s lt ne. calls s;
   silent = λ stream none still. (sym session ∙ none, (open' still).0, λ e. ap (cut true) (append-nil stream) ∙ e ∙ ap (cut true) (sym (open' still).1));
   same = λ sid stream own st. record {
     key = st.key;
+    asked = st.asked;
+    stepped = kept_stepped a b sid.0 st.asked (omega arith) (calls sid.0) st.stepped;
     others = st.others;
-    whole = ap (cut true) (append-nil stream) ∙ st.whole ∙ ap (λ (qs : List Request). after (request.Hello st.key ∷ qs) st.others) (sym (calls sid.0));
+    whole = ap (cut true) (append-nil stream) ∙ st.whole;
     kept = λ still. st.kept (open' still).0 ∙ ap (cut false) (sym (open' still).1);
   };
   starts = λ sid stream none own. absurd (let wrong : ◌≡◌ {A = Option Sid} None (Some sid) = sym none ∙ sym session ∙ own in cc);
@@ -320,7 +365,8 @@ changed_streamed old new j x y piece i stream well only m o h = record {
       let st = h.spoken z sid e own in
       let lt : sid.0 < hellos old.core.history = (h.well.sessions.own i z sid e own).started in
       let calls = o.others sid.0 lt (λ other is same'. ne (h.well.sessions.apart j i x z sid only.was e (is ∙ ap Some (same_sid other sid same')) own)) in
-      record { key = st.key; others = st.others; whole = st.whole ∙ ap (λ (qs : List Request). after (request.Hello st.key ∷ qs) st.others) (sym calls); kept = st.kept }
+      let same' = o.first in
+      record { key = st.key; asked = st.asked; stepped = kept_stepped old.core new.core sid.0 st.asked (omega arith) calls st.stepped; others = st.others; whole = st.whole; kept = st.kept }
 
   at_spoken : (z : Connection) (sid : Sid) → z.session ≡ Some sid → Which old.connections j y i z → IsStepped new.core z sid (stream ++ cond (eqb j i) piece [])
   at_spoken z sid own (Own e is) = subst (λ (bytes : List ℕ). IsStepped new.core z sid bytes) (sym (own_piece e)) (subst (λ (v : Connection). IsStepped new.core v sid (stream ++ piece)) is (at_own sid e (ap (λ (v : Connection). v.session) is ∙ own) x.session refl))
@@ -354,7 +400,7 @@ ticked_streamed old new moment i stream t h = record {
   unstarted = λ s le. (let more = later in calls s ∙ h.unstarted s (omega arith));
   absent = λ e. h.absent (there ∙ e);
   silent = λ x e none on. h.silent x (there ∙ e) none on;
-  spoken = λ x sid e own. (let st = h.spoken x sid (there ∙ e) own in record { key = st.key; others = st.others; whole = st.whole ∙ ap (λ (qs : List Request). after (request.Hello st.key ∷ qs) st.others) (sym (calls sid.0)); kept = st.kept });
+  spoken = λ x sid e own. (let st = h.spoken x sid (there ∙ e) own in let first' = first_after (Tick moment ∷ []) old.core new.core t.core in record { key = st.key; asked = st.asked; stepped = kept_stepped old.core new.core sid.0 st.asked (omega arith) (calls sid.0) st.stepped; others = st.others; whole = st.whole; kept = st.kept });
 } where
   there : slice_get old.connections i ≡ slice_get new.connections i
   there = ap (λ (zs : List Connection). slice_get zs i) (sym t.connections)
@@ -364,6 +410,16 @@ ticked_streamed old new moment i stream t h = record {
 
   later : hellos old.core.history ≤ hellos new.core.history
   later = subst (λ (z : CoreView). hellos old.core.history ≤ hellos z.history) (sym t.core) (hellos_later (Tick moment ∷ []) old.core)
+
+-- records that are forgotten
+forgot_streamed : (old new : Hub) (i : ℕ) (stream : List ℕ) → Forgets old new → IsStreamed old i stream → IsStreamed new i stream
+forgot_streamed old new i stream f h = subst (λ (z : Hub). IsStreamed z i stream) (sym f.now) (record {
+  well = forgot_well old (record old { core = record old.core { first = new.core.first } }) (record { now = refl; later = f.later; marks = forgot_marks old new.core.first }) h.well;
+  unstarted = h.unstarted;
+  absent = h.absent;
+  silent = h.silent;
+  spoken = λ x sid e own. (let st = h.spoken x sid e own in record { key = st.key; asked = st.asked; stepped = later_stepped old.core.first new.core.first st.asked (calls_of sid.0 old.core.history) f.later st.stepped; others = st.others; whole = st.whole; kept = st.kept });
+})
 
 -- ---- each call
 
@@ -382,14 +438,18 @@ hung_up_streamed old new j i stream f h =
     let x = f.before in
     let m = hung_up_change old new j h.well f in
     let calls = λ (s : ℕ). calls_after (hang_up_of x.session) old.core new.core s f.core ∙ ap (λ (qs : List Request). calls_of s old.core.history ++ qs) (no_call_in x.session s) ∙ append-nil (calls_of s old.core.history) in
-    nothing_came new i stream (eqb j i) (changed_streamed old new j x (record x { kept = []; is_over = true }) [] i stream (hung_up_well old new j h.well f) f.changes m (quiet_changes old.core new.core x (record x { kept = []; is_over = true }) m calls refl (λ still. absurd (let wrong : true ≡ false = still in cc))) h)
+    nothing_came new i stream (eqb j i) (changed_streamed old new j x (record x { kept = []; is_over = true }) [] i stream (hung_up_well old new j h.well f) f.changes m (quiet_changes old.core new.core x (record x { kept = []; is_over = true }) m (first_after (hang_up_of x.session) old.core new.core f.core) calls refl (λ still. absurd (let wrong : true ≡ false = still in cc))) h)
+
+taken_first : (a : CoreView) (s : Option Sid) → (core_after_take a s).first ≡ a.first
+taken_first a None = refl
+taken_first a (Some sid) = refl
 
 taken_streamed : (old new : Hub) (j : ℕ) (bytes : List ℕ) (i : ℕ) (stream : List ℕ) → Takes old j bytes new → IsStreamed old i stream → IsStreamed new i stream
 taken_streamed old new j bytes i stream f h =
     let x = f.before in
     let m = taken_change old new j bytes h.well f in
     let calls = λ (s : ℕ). ap (λ (z : CoreView). calls_of s z.history) f.core ∙ ap (calls_of s) (same_history old.core x.session) in
-    nothing_came new i stream (eqb j i) (changed_streamed old new j x (record x { has_refusal = false }) [] i stream (take_well old new j bytes h.well f) f.changes m (quiet_changes old.core new.core x (record x { has_refusal = false }) m calls refl (λ still. (still, refl))) h)
+    nothing_came new i stream (eqb j i) (changed_streamed old new j x (record x { has_refusal = false }) [] i stream (take_well old new j bytes h.well f) f.changes m (quiet_changes old.core new.core x (record x { has_refusal = false }) m (ap (λ (z : CoreView). z.first) f.core ∙ taken_first old.core x.session) calls refl (λ still. (still, refl))) h)
 
 -- what one call brings of the stream
 abbrev brought_by : ℕ → Call → List ℕ
@@ -402,6 +462,7 @@ stream_is i (HungUp j) calls = refl
 stream_is i (Gave j bytes) calls = refl
 stream_is i (Named j) calls = refl
 stream_is i (Ticked moment) calls = refl
+stream_is i Forgot calls = refl
 stream_is i (TookPiece j piece fed) calls = at (eqb j i) where
   at : (b : Bool) → cond b (piece ++ stream_of i calls) (stream_of i calls) ≡ cond b piece [] ++ stream_of i calls
   at true = refl
@@ -414,6 +475,7 @@ call_streamed i (HungUp j) old new stream made h = nothing_more (λ (z : Hub) (b
 call_streamed i (Gave j bytes) old new stream made h = nothing_more (λ (z : Hub) (bytes : List ℕ). IsStreamed z i bytes) new stream (taken_streamed old new j bytes i stream made h)
 call_streamed i (Named j) old new stream made h = nothing_more (λ (z : Hub) (bytes : List ℕ). IsStreamed z i bytes) new stream (named_streamed old new j i stream made h)
 call_streamed i (Ticked moment) old new stream made h = nothing_more (λ (z : Hub) (bytes : List ℕ). IsStreamed z i bytes) new stream (ticked_streamed old new moment i stream made h)
+call_streamed i Forgot old new stream made h = nothing_more (λ (z : Hub) (bytes : List ℕ). IsStreamed z i bytes) new stream (forgot_streamed old new i stream made h)
 
 new_streamed : (c : Config) (i : ℕ) → first_bad c.limits ≡ None → IsStreamed (new_hub c) i []
 new_streamed c i range = record { well = new_well c range; unstarted = λ s le. refl; absent = λ e. refl; silent = λ x e none on. absurd cc; spoken = λ x sid e own. absurd cc }

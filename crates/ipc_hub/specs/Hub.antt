@@ -1,6 +1,6 @@
 -- A hub: many connections over one core. What is seen of it, and what each of its calls makes of it, in the words of
 -- frames (`cut`, `spell_answer`) and of the core (`after_steps`).
-use Rattle.std.specs.Prelude.{◌≡◌, ◌<◌, Bool, true, false, ℕ, List, [], ◌∷◌, ◌++◌, map, take, slice_get, slice_set, Option, Some, None, is_none, is_some, unwrap_or, if◌then◌else◌, MatchOption, option_and_then}
+use Rattle.std.specs.Prelude.{◌≡◌, ◌<◌, ◌≤◌, Bool, true, false, ℕ, List, [], ◌∷◌, ◌++◌, map, take, slice_get, slice_set, Option, Some, None, is_none, is_some, unwrap_or, max, nat_lt, if◌then◌else◌, MatchOption, option_and_then}
 use Rattle.std.specs.Option.{option_map}
 use Rattle.ipc_terms.specs.Lists.{changed}
 use Rattle.ipc_terms.specs.History.{record_at}
@@ -8,6 +8,8 @@ use Rattle.ipc_terms.specs.declared.ids.Sid.{Sid}
 use Rattle.ipc_terms.specs.declared.ids.Uid.{Uid}
 use Rattle.ipc_terms.specs.declared.call.Answer.{Answer}
 use Rattle.ipc_terms.specs.declared.call.Answer.TheVariants.{Refused}
+use Rattle.ipc_terms.specs.declared.call.Call.{Call}
+use Rattle.ipc_terms.specs.declared.call.Call.TheVariants.{Audit}
 use Rattle.ipc_terms.specs.declared.record.Event.{Event}
 use Rattle.ipc_terms.specs.declared.record.Event.TheVariants as event
 use Rattle.ipc_terms.specs.declared.record.Record.{Record}
@@ -55,7 +57,7 @@ new_connection = record { kept = []; session = None; has_refusal = false; is_ove
 
 -- a hub with nothing in its trail and no connection
 abbrev pub new_hub : Config → Hub
-new_hub c = record { core = record { config = c; history = []; untaken = [] }; connections = []; marked = [] }
+new_hub c = record { core = record { config = c; history = []; untaken = []; first = 0 }; connections = []; marked = [] }
 
 -- one more connection, without a mark
 abbrev pub with_connection : Hub → Hub
@@ -119,13 +121,19 @@ spell_answers (answer ∷ answers) = spell_answer answer ⊕ spell_answers answe
 abbrev pub session_or_next : CoreView → Option Sid → Sid
 session_or_next a session = unwrap_or session (record { 0 = hellos a.history })
 
--- a request of a session as an event: a hello finds the user whose key it brings
-abbrev pub event_of : Config → Sid → Request → Event
-event_of c sid (request.Hello key) = event.Hello (user_of_key c.users key)
-event_of c sid (request.Do call) = event.Do sid call
+-- a call where the records before this place were forgotten: an audit begins there, or later
+abbrev pub from_kept : ℕ → Call → Call
+from_kept first (Audit start count) = Audit (max start first) count
+from_kept first call = call
+
+-- a request of a session as an event: a hello finds the user whose key it brings, and an audit begins at the oldest record
+-- that is kept, or later
+abbrev pub event_of : CoreView → Sid → Request → Event
+event_of a sid (request.Hello key) = event.Hello (user_of_key a.config.users key)
+event_of a sid (request.Do call) = event.Do sid (from_kept a.first call)
 
 abbrev pub events_of : CoreView → Option Sid → List Request → List Event
-events_of a session requests = map (event_of a.config (session_or_next a session)) requests
+events_of a session requests = map (event_of a (session_or_next a session)) requests
 
 -- the hang-up of a session, where there is one
 abbrev pub hang_up_of : Option Sid → List Event
@@ -136,7 +144,7 @@ hang_up_of (Some sid) = event.Hangup sid ∷ []
 abbrev pub is_hello_refused : CoreView → Option Sid → List Request → Bool
 is_hello_refused a (Some sid) requests = false
 is_hello_refused a None [] = false
-is_hello_refused a None (hello ∷ requests) = is_some (verdict a.config a.history (event_of a.config (session_or_next a None) hello))
+is_hello_refused a None (hello ∷ requests) = is_some (verdict a.config a.history (event_of a (session_or_next a None) hello))
 
 -- the session of a connection whose requests these were
 abbrev pub session_after : CoreView → Option Sid → List Request → Option Sid
@@ -196,9 +204,9 @@ user_of_hello e = None
 abbrev pub user_started : Record → Option Uid
 user_started r = if is_none r.rule then user_of_hello r.event else None
 
--- the user whose session the record at this place started, if it did
+-- the user whose session the record at this place started, if it did and the record is kept
 abbrev pub started_at : Hub → ℕ → Option Uid
-started_at hub place = option_and_then user_started (record_at place hub.core.history)
+started_at hub place = if nat_lt place hub.core.first then None else option_and_then user_started (record_at place hub.core.history)
 
 -- ---- the calls
 
@@ -256,6 +264,12 @@ pub record Ticks (old : Hub) (moment : ℕ) (new : Hub) : Type 0 where
   pub trail : new.core.history ≡ record { event = event.Tick moment; rule = None } ∷ old.core.history
   pub answered : (s : ℕ) → box_at new.core.untaken s ≡ box_at old.core.untaken s ++ ticked old.core moment s
   pub connections : new.connections ≡ old.connections
+  pub marks : Marks old new
+
+-- the oldest of the records that are kept are forgotten; the history and all else stay
+pub record Forgets (old new : Hub) : Type 0 where
+  pub now : new ≡ record old { core = record old.core { first = new.core.first } }
+  pub later : old.core.first ≤ new.core.first
   pub marks : Marks old new
 
 -- ---- their faults

@@ -1,5 +1,5 @@
 -- What follows from the calls of a hub, over any number of them: from the bytes that come in to those that go out.
-use Rattle.std.specs.Prelude.{◌≡◌, ◌==◌, Bool, true, false, ℕ, List, [], ◌∷◌, ◌++◌, slice_get, Some, None, if◌then◌else◌}
+use Rattle.std.specs.Prelude.{◌≡◌, ◌==◌, ◌≤◌, ⊤, Bool, true, false, ℕ, List, [], ◌∷◌, ◌++◌, slice_get, Some, None, if◌then◌else◌}
 use Rattle.ipc_terms.specs.declared.ids.Sid.{Sid}
 use Rattle.ipc_terms.specs.declared.call.Answer.TheVariants.{Refused}
 use Rattle.ipc_terms.specs.declared.record.Event.{Event}
@@ -14,7 +14,7 @@ use Rattle.ipc_wire.specs.declared.request.Request.{Request}
 use Rattle.ipc_wire.specs.declared.request.Request.TheVariants as request
 use Rattle.ipc_wire.specs.Streams.{Cut, cut, after, still_first}
 use Rattle.ipc_hub.specs.declared.fed.Fed.{Fed}
-use Rattle.ipc_hub.specs.Hub.{Connection, Hub, new_hub, with_connection, untaken, spell_answers, IsGone, Feeds, HangsUp, Takes, Names, Ticks}
+use Rattle.ipc_hub.specs.Hub.{Connection, Hub, new_hub, with_connection, untaken, spell_answers, from_kept, IsGone, Feeds, HangsUp, Takes, Names, Ticks, Forgets}
 
 -- where these requests of a stream were stepped and these bytes of it are kept, the stream goes on as if it had come in
 -- one piece
@@ -25,7 +25,7 @@ CutAnyWay =
     cut first (stream ++ more) ≡ after stepped (cut (still_first first stepped) (kept ++ more))
 
 -- what a hub did: it opened a connection, took a piece of connection i's stream, hung it up, gave these bytes of it, named
--- it as one that was answered, or made a tick. A call that ended by a fault changed nothing
+-- it as one that was answered, made a tick, or forgot its oldest record. A call that ended by a fault changed nothing
 pub data Call : Type 0 where
   Opened : Call
   TookPiece : ℕ → List ℕ → Fed → Call
@@ -33,6 +33,7 @@ pub data Call : Type 0 where
   Gave : ℕ → List ℕ → Call
   Named : ℕ → Call
   Ticked : ℕ → Call
+  Forgot : Call
 
 abbrev pub Makes : Call → Hub → Hub → Type 0
 Makes Opened old new = new ≡ with_connection old
@@ -41,6 +42,7 @@ Makes (HungUp i) old new = HangsUp old i new
 Makes (Gave i bytes) old new = Takes old i bytes new
 Makes (Named i) old new = Names old i new
 Makes (Ticked moment) old new = Ticks old moment new
+Makes Forgot old new = Forgets old new
 
 -- one after another
 abbrev pub MakesAll : List Call → Hub → Hub → Type 0
@@ -94,12 +96,30 @@ abbrev pub calls_of : ℕ → History → List Request
 calls_of s [] = []
 calls_of s (r ∷ before) = calls_of s before ++ call_in s r.event
 
--- the stream is a hello, then the calls of the session in the trail, and then what was not stepped; which is what is kept,
--- as long as the connection is not over
+-- a request where the records before this place were forgotten
+abbrev pub as_stepped : ℕ → Request → Request
+as_stepped first (request.Hello key) = request.Hello key
+as_stepped first (request.Do call) = request.Do (from_kept first call)
+
+-- the requests that were asked for and those that were stepped: each is the one that was asked for, but that an audit may
+-- begin later, at the oldest record that was kept then
+abbrev pub AreStepped : ℕ → List Request → List Request → Type 0
+AreStepped first [] [] = ⊤
+AreStepped first (asked ∷ more) (stepped ∷ later) = ((kept : ℕ) × ((kept ≤ first) × (stepped ≡ as_stepped kept asked))) × AreStepped first more later
+AreStepped first asked stepped = ⊥
+
+-- where nothing was forgotten, they are the same
+abbrev pub NothingIsRaised : Type 0
+NothingIsRaised = (asked stepped : List Request) → AreStepped 0 asked stepped → asked ≡ stepped
+
+-- the stream is a hello, then the calls of the session as they stand in the trail, but for the beginnings of audits, and then
+-- what was not stepped; which is what is kept, as long as the connection is not over
 pub record IsStepped (a : CoreView) (x : Connection) (sid : Sid) (stream : List ℕ) : Type 0 where
   pub key : List ℕ
+  pub asked : List Request
+  pub stepped : AreStepped a.first asked (calls_of sid.0 a.history)
   pub others : Cut
-  pub whole : cut true stream ≡ after (request.Hello key ∷ calls_of sid.0 a.history) others
+  pub whole : cut true stream ≡ after (request.Hello key ∷ asked) others
   pub kept : x.is_over ≡ false → others ≡ cut false x.kept
 
 abbrev pub EachStreamIsStepped : Type 0

@@ -1,12 +1,13 @@
 //! The hub.
 
-ghost use Rattle.std.specs.Prelude.{◌≡◌, ◌<◌, ◌≤◌, ◌+◌, ◌++◌, ℕ, List, false, true, is_some, slice_get, None, Some, length, max, option_map, IfOk, IfErr, IfSome, IfNone, OnOk, OnErr, MatchOption};
+ghost use Rattle.std.specs.Prelude.{◌≡◌, ◌<◌, ◌≤◌, ◌+◌, ◌++◌, ℕ, List, false, true, is_some, slice_get, None, Some, length, min, max, option_map, IfOk, IfErr, IfSome, IfNone, OnOk, OnErr, MatchOption};
 ghost use Rattle.ipc_state.specs.Ranges.{first_bad};
 ghost use Rattle.ipc_state.specs.NextDeadline.{IsNextDeadline, EndsOncePast};
+ghost use Rattle.ipc_trail.specs.Sizes.{kept_bytes};
 ghost use Rattle.ipc_policy.specs.Bodies.{due};
 ghost use Rattle.ipc_policy.specs.Verdict.{Legal};
 ghost use Rattle.ipc_core.specs.Outboxes.{BoxesAgree};
-ghost use Rattle.ipc_hub.specs.Hub.{new_hub, with_connection, untaken_at, is_over_at, is_marked, started_at, IsGone, fault_of_change, fault_of_take, IsFaultOr, Feeds, HangsUp, Takes, Names, Ticks};
+ghost use Rattle.ipc_hub.specs.Hub.{new_hub, with_connection, untaken_at, is_over_at, is_marked, started_at, IsGone, fault_of_change, fault_of_take, IsFaultOr, Feeds, HangsUp, Takes, Names, Ticks, Forgets};
 ghost use Rattle.ipc_hub.specs.Sessions.{EachHasItsOwn};
 ghost use Rattle.ipc_hub.specs.Stepping.{is_full, IsWithin};
 ghost use Rattle.ipc_hub.specs.declared.fed.Fed.TheVariants.{Full};
@@ -231,9 +232,33 @@ impl Hub {
         self.core.core().trail().len()
     }
 
+    /// The place of the oldest record that is kept; how many events are recorded, where none is.
+    pub fn first_kept(&self) -> u64
+        ensures first { result ≡ self.now.core.first }
+        ensures within { result ≤ length self.now.core.history }
+    {
+        self.core.core().trail().first()
+    }
+
+    /// About how many bytes the records that are kept take: 128 each, and the messages in them.
+    pub fn record_bytes(&self) -> u64
+        ensures { result ≤ kept_bytes self.now.core.first self.now.core.history }
+    {
+        self.core.core().trail().bytes()
+    }
+
+    /// Forgets the oldest record that is kept, if there is one. Each later event is decided on and answered as before: only
+    /// an audit that would begin before the oldest record that is left begins there. Takes no memory.
+    pub fn forget_one(&mut self)
+        ensures forgets { Forgets self.old self.new }
+        ensures one { self.new.core.first ≡ min (self.old.core.first + 1) (length self.old.core.history) }
+    {
+        self.core.forget_one();
+    }
+
     /// The user whose session the event at this place of the trail started; places count from 0. `None` where no accepted
-    /// hello stands there. A connection's hello is the first event of the feed that steps it, so it stands where `recorded`
-    /// was before.
+    /// hello stands there, and where the record was forgotten. A connection's hello is the first event of the feed that
+    /// steps it, so it stands where `recorded` was before.
     pub fn started_at(&self, place: usize) -> Option<Uid>
         ensures { result ≡ started_at self.now place }
     {

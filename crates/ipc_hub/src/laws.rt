@@ -1,6 +1,6 @@
 //! Laws of hubs. The functions do nothing when they run: what they ensure is what is proved.
 
-ghost use Rattle.ipc_hub.specs.Laws.{CutAnyWay, EachStreamIsStepped, EachOutputIsTheOutbox, EachStrangerIsRefused, WhoIsGoneStaysGone};
+ghost use Rattle.ipc_hub.specs.Laws.{CutAnyWay, EachStreamIsStepped, EachOutputIsTheOutbox, EachStrangerIsRefused, NothingIsRaised, WhoIsGoneStaysGone};
 
 /// What was stepped of a stream and what is kept of it go on, whatever comes, as if the stream had come in one
 /// piece: so a connection steps the requests of its whole stream, however that was cut.
@@ -9,9 +9,15 @@ pub fn cut_any_way()
 {}
 
 /// Whatever calls a hub made, the requests of a connection's stream that were stepped are its hello and then the calls of
-/// its session in the trail, these and no others, in order; and what is kept goes on with the next.
+/// its session in the trail, these and no others, in order, but that an audit begins at the oldest record that was kept, or
+/// later; and what is kept goes on with the next.
 pub fn stream_is_stepped()
     ensures { EachStreamIsStepped }
+{}
+
+/// Where nothing was forgotten, the calls in the trail are those that were asked for.
+pub fn nothing_is_raised()
+    ensures { NothingIsRaised }
 {}
 
 /// Whatever calls a hub made, what a connection gave and what it has left are together the spellings of all that its

@@ -1,6 +1,6 @@
 //! A core, and the marks of whom it answers.
 
-ghost use Rattle.std.specs.Prelude.{◌≡◌, ◌<◌, ◌≤◌, ◌+◌, ◌++◌, ◌∷◌, [], ℕ, Option, true, false, None, Some, is_some, length, slice_get, slice_set, IfOk, IfErr, IfSome, IfNone, OnOk, OnErr, MatchOption, if◌then◌else◌};
+ghost use Rattle.std.specs.Prelude.{◌≡◌, ◌<◌, ◌≤◌, ◌+◌, ◌++◌, ◌∷◌, [], ℕ, Option, true, false, None, Some, is_some, length, min, slice_get, slice_set, IfOk, IfErr, IfSome, IfNone, OnOk, OnErr, MatchOption, if◌then◌else◌};
 ghost use Rattle.ipc_terms.specs.Lists.{changed};
 ghost use Rattle.ipc_terms.specs.declared.record.Event.TheVariants.{Hello};
 ghost use Rattle.ipc_access.specs.Users.{user_of_key};
@@ -39,6 +39,7 @@ impl Model for MarkedCore {
 }
 
 /// Steps an event, and marks the connections of those that it answers. An `Err` changes nothing.
+#[inline(always)]
 fn post_marked(
     core: &mut Core,
     marks: &mut Marks,
@@ -63,7 +64,7 @@ fn post_marked(
 impl MarkedCore {
     /// A core with an empty trail and no connection, or the first limit that is out of its range, as of `Core::new`.
     pub fn new(alloc: Global, config: Config) -> Result<MarkedCore, CoreFault>
-        ensures ok { IfOk result (λ core. core ≡ record { core = record { config = config; history = []; untaken = [] }; owners = []; marked = [] }) }
+        ensures ok { IfOk result (λ core. core ≡ record { core = record { config = config; history = []; untaken = []; first = 0 }; owners = []; marked = [] }) }
         ensures in_range { OnOk result (first_bad config.limits ≡ None) }
         ensures bad { IfErr result (λ fault. MatchOption (first_bad config.limits) (fault ≡ CoreFault.NoMemory) (λ field. fault ≡ CoreFault.BadConfig field)) }
     {
@@ -74,6 +75,7 @@ impl MarkedCore {
         })
     }
 
+    #[inline(always)]
     pub fn core(&self) -> &Core
         ensures { result.now ≡ self.now.core }
     {
@@ -89,6 +91,7 @@ impl MarkedCore {
     }
 
     /// Steps an event that is no hello. An `Err` changes nothing.
+    #[inline(always)]
     pub fn post(&mut self, alloc: Global, event: Event) -> Result<(), NoMemory>
         requires { starts None event ≡ false }
         ensures ok { OnOk result (self.new.core ≡ after_step event self.old.core) }
@@ -130,6 +133,16 @@ impl MarkedCore {
         ensures { self.new ≡ record self.old { core = record self.old.core { untaken = changed taken self.old.core.untaken sid.0 } } }
     {
         self.core.clear(sid);
+    }
+
+    /// Forgets the oldest record that is kept, if there is one. Takes no memory.
+    #[inline(always)]
+    pub fn forget_one(&mut self)
+        ensures now { self.new ≡ record self.old { core = record self.old.core { first = min (self.old.core.first + 1) (length self.old.core.history) } } }
+        ensures later { self.old.core.first ≤ self.new.core.first }
+    {
+        let _first = self.core.trail().first();
+        self.core.forget_one();
     }
 
     /// A connection that is marked, which is marked no longer. Takes no memory.

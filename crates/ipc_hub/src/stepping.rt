@@ -3,7 +3,7 @@
 ghost use Rattle.std.specs.Prelude.{◌≡◌, ◌∷◌, ◌≤◌, ◌<◌, ◌+◌, [], Bool, true, Some, None, is_none, length, IfOk, OnOk, OnErr, if◌then◌else◌};
 ghost use Rattle.ipc_core.specs.Outboxes.{after_step, after_steps};
 ghost use Rattle.ipc_wire.specs.Requests.{is_hello_request, same};
-ghost use Rattle.ipc_hub.specs.Hub.{session_or_next, event_of, is_hello_refused, hang_up_of, untaken_of};
+ghost use Rattle.ipc_hub.specs.Hub.{session_or_next, from_kept, event_of, is_hello_refused, hang_up_of, untaken_of};
 ghost use Rattle.ipc_hub.specs.Marking.{is_set};
 ghost use Rattle.ipc_hub.specs.MarkedCore.{Follows, GainsAtMostTwo};
 ghost use Rattle.ipc_hub.specs.Stepping.{StepsFrames, IsEnd, Starts, Ends, is_full, count_of};
@@ -11,9 +11,19 @@ ghost use Rattle.ipc_hub.specs.Stepping.{StepsFrames, IsEnd, Starts, Ends, is_fu
 use crate::fed::{End, Fed};
 use crate::marked_core::MarkedCore;
 use ipc_core::Core;
-use ipc_terms::{Event, NoMemory, Sid};
+use ipc_terms::{Call, Event, NoMemory, Sid};
 use ipc_wire::{ReadFault, Request, read_request};
 use std::alloc::Global;
+
+/// Lets an audit begin at the oldest record that is kept, where it would begin before it.
+#[inline(always)]
+fn begin_at_kept(first: u64, call: &mut Call)
+    ensures { call.new ≡ from_kept first call.old }
+{
+    if let Call::Audit { start, .. } = call {
+        *start = (*start).max(first);
+    }
+}
 
 /// Steps a request of the connection with this session, and gives the session that it has then; none where its
 /// hello is refused. An `Err` changes nothing.
@@ -27,7 +37,7 @@ fn step_request(
     requires order { same (is_hello_request request) (is_none session) ≡ true }
     requires own { own < length core.old.marked }
     ensures session { IfOk result (λ later. later ≡ (if is_hello_refused core.old.core session (request ∷ []) then None else Some (session_or_next core.old.core session))) }
-    ensures ok { OnOk result (core.new.core ≡ after_step (event_of core.old.core.config (session_or_next core.old.core session) request) core.old.core) }
+    ensures ok { OnOk result (core.new.core ≡ after_step (event_of core.old.core (session_or_next core.old.core session) request) core.old.core) }
     ensures marks { OnOk result (Follows core.old core.new) }
     ensures starts { IfOk result (λ later. Starts core.new own session later) }
     ensures refused { IfOk result (λ later. later ≡ None → is_set core.new.marked own ≡ true) }
@@ -36,8 +46,9 @@ fn step_request(
 {
     match request {
         Request::Hello(key) => Ok(core.hello(alloc, own, &key)?),
-        Request::Do(call) => {
+        Request::Do(mut call) => {
             let sid = session.unwrap_or(Sid::NOBODY);
+            begin_at_kept(core.core().trail().first(), &mut call);
             core.post(alloc, Event::Do { sid, call })?;
             Ok(Some(sid))
         }

@@ -3,7 +3,7 @@ use Rattle.std.proofs.Common.{◌≡◌, ℕ, Bool, true, false, eqb, cond, List
 use Rattle.std.proofs.lemmas.Bool.{eqb-true}
 use Rattle.ipc_terms.specs.declared.call.Answer.{Answer}
 use Rattle.ipc_hub.specs.Hub.{Connection, Hub, IsGone, Takes, untaken, spell_answers}
-use Rattle.ipc_hub.specs.Laws.{Call, Opened, TookPiece, HungUp, Gave, Named, Ticked, MakesAll, output_of}
+use Rattle.ipc_hub.specs.Laws.{Call, Opened, TookPiece, HungUp, Gave, Named, Ticked, Forgot, MakesAll, output_of}
 use Rattle.ipc_hub.proofs.GoneLemmas.{stays_gone}
 
 gave_nothing : (old new : Hub) (j i : ℕ) (bytes : List ℕ) → Takes old j bytes new → eqb j i ≡ true → IsGone old i → bytes ≡ []
@@ -25,3 +25,4 @@ gives_nothing (HungUp j ∷ calls) old new i made g = gives_nothing calls made.0
 gives_nothing (Gave j bytes ∷ calls) old new i made g = none_both (eqb j i) bytes (output_of i calls) (λ is. gave_nothing old made.0 j i bytes made.1.0 is g) (gives_nothing calls made.0 new i made.1.1 (stays_gone (Gave j bytes ∷ []) old made.0 i (made.0, (made.1.0, refl)) g))
 gives_nothing (Named j ∷ calls) old new i made g = gives_nothing calls made.0 new i made.1.1 (stays_gone (Named j ∷ []) old made.0 i (made.0, (made.1.0, refl)) g)
 gives_nothing (Ticked moment ∷ calls) old new i made g = gives_nothing calls made.0 new i made.1.1 (stays_gone (Ticked moment ∷ []) old made.0 i (made.0, (made.1.0, refl)) g)
+gives_nothing (Forgot ∷ calls) old new i made g = gives_nothing calls made.0 new i made.1.1 (stays_gone (Forgot ∷ []) old made.0 i (made.0, (made.1.0, refl)) g)

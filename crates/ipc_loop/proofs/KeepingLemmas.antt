@@ -2,34 +2,23 @@
 use Rattle.std.proofs.Common.{◌≡◌, ℕ, zero, suc, ◌+◌, ◌-◌, ◌≤◌, ◌<◌, length, arith, Bool, true, false, eqb, cond, List, [], ◌∷◌, ◌++◌, set, slice_get, Option, Some, None, refl, sym, ap, ◌∙◌}
 use Rattle.std.specs.Prelude.{IfSome, OnSome}
 use Rattle.std.specs.Global.{Box}
-use Rattle.std.specs.Option.{option_map}
 use Rattle.std.proofs.lemmas.Bool.{eqb-true}
 use Rattle.std.proofs.lemmas.List.{length-set, length_push}
 use Rattle.ipc_hub.specs.Marking.{is_set}
 use Rattle.ipc_loop.specs.Ports.{Port, new_port, has_work, how_many_open}
-use Rattle.ipc_loop.specs.Standing.{AreKept, IsOut, IsUnset, how_many_idle, may_be_listed, seen}
+use Rattle.ipc_loop.specs.Standing.{AreKept, IsOut, IsUnset, how_many_idle, may_be_listed}
 use Rattle.ipc_loop.proofs.PortLemmas.{Slots}
-use Rattle.ipc_loop.proofs.StandingLemmas.{Boxes, queued_none, queued_take, queued_turn, queued_round, queued_more, pushed_queued, put_queued, seen_slot, seen_set, seen_push}
+use Rattle.ipc_loop.proofs.StandingLemmas.{queued_none, queued_push, queued_undo, queued_take, queued_turn, queued_close, queued_round, queued_more, queued_put, out_same}
 use Rattle.ipc_loop.proofs.OpeningLemmas.{one_out, one_in, one_more}
 
-pub open_below : (xs : Boxes) → how_many_open (seen xs) ≤ length xs
+pub open_below : (xs : Slots) → how_many_open xs ≤ length xs
 open_below [] = omega arith
-open_below (None ∷ xs) = let few : how_many_open (seen xs) ≤ length xs = open_below xs in omega arith
-open_below (Some b ∷ xs) = let few : how_many_open (seen xs) ≤ length xs = open_below xs in omega arith
+open_below (None ∷ xs) = let few : how_many_open xs ≤ length xs = open_below xs in omega arith
+open_below (Some p ∷ xs) = let few : how_many_open xs ≤ length xs = open_below xs in omega arith
 
 -- a port is taken out
-box_there : (xs : Boxes) (i : ℕ) (x : Option (Box Port)) (b : Box Port) → slice_get xs i ≡ Some x → Some b ≡ x → slice_get (seen xs) i ≡ Some (Some b.value)
-box_there xs i x b there is = seen_slot xs i (Some b) (there ∙ ap (λ (y : Option (Box Port)). Some y) (sym is))
-
-pub taken_some : (xs : Boxes) (i o : ℕ) (x : Option (Box Port)) (b : Box Port) → slice_get xs i ≡ Some x → Some b ≡ x → o ≡ how_many_open (seen xs) → 1 ≤ o
-taken_some xs i o x b there is count = let one : how_many_open (set (seen xs) i None) + 1 ≡ how_many_open (seen xs) = one_out (seen xs) i b.value (box_there xs i x b there is) in omega arith
-
-pub taken_count : (xs : Boxes) (i o : ℕ) (x y : Option (Box Port)) (b : Box Port) → slice_get xs i ≡ Some x → Some b ≡ x → y ≡ None → o ≡ how_many_open (seen xs) → o - 1 ≡ how_many_open (seen (set xs i y))
-taken_count xs i o x y b there is none count =
-    let one : how_many_open (set (seen xs) i None) + 1 ≡ how_many_open (seen xs) = one_out (seen xs) i b.value (box_there xs i x b there is) in
-    let now : seen (set xs i y) ≡ set (seen xs) i None = seen_set xs i y ∙ ap (λ (z : Option (Box Port)). set (seen xs) i (option_map (λ (c : Box Port). c.value) z)) none in
-    let same : how_many_open (seen (set xs i y)) ≡ how_many_open (set (seen xs) i None) = ap how_many_open now in
-    omega arith
+pub taken_count : (xs : Slots) (k o : ℕ) (p : Port) → slice_get xs k ≡ Some (Some p) → o ≡ how_many_open xs → 1 ≤ o × (o - 1 ≡ how_many_open (set xs k None))
+taken_count xs k o p there count = let one : how_many_open (set xs k None) + 1 ≡ how_many_open xs = one_out xs k p there in (omega arith, omega arith)
 
 -- ---- ports that aren't queued
 
@@ -168,34 +157,70 @@ kept_more xs qs t n n' k o tm nm more empty fits fits' a =
       room_of_next = omega (arith, same, fits');
     }
 
-pub kept_push : (xs ys : Boxes) (qs rs : List Bool) (t n : List ℕ) (b : Box Port) (o tm nm : ℕ) → may_be_listed (seen xs) qs t n < tm → may_be_listed (seen xs) qs t n < nm → AreKept (seen xs) qs t n o tm nm → ys ≡ xs ++ Some b ∷ [] → b.value ≡ new_port → rs ≡ qs ++ false ∷ [] → AreKept (seen ys) rs t n (o + 1) tm nm
-kept_push xs ys qs rs t n b o tm nm fits fits' a put new more =
-    let all : seen ys ≡ seen xs ++ Some b.value ∷ [] = ap seen put ∙ seen_push xs b in
-    let idle : how_many_idle (seen ys) rs ≡ how_many_idle (seen xs) qs + 1 = ap (λ (zs : Slots). how_many_idle zs rs) all ∙ ap (how_many_idle (seen xs ++ Some b.value ∷ [])) more ∙ idle_pushed (seen xs) qs b.value a.flags in
-    let longer : length (seen ys) ≡ length (seen xs) + 1 = ap (λ (zs : Slots). length zs) all ∙ length_push (seen xs) (Some b.value) in
-    let longs : length rs ≡ length qs + 1 = ap (λ (zs : List Bool). length zs) more ∙ length_push qs false in
+-- a new port comes, for which there is room in the lists
+pub kept_push : (xs ys : Slots) (qs rs : List Bool) (t t' n n' : List ℕ) (o tm nm tm' nm' : ℕ) → AreKept xs qs t n o tm nm → ys ≡ xs ++ Some new_port ∷ [] → rs ≡ qs ++ false ∷ [] → t' ≡ t → n' ≡ n → length t + (o + 1 + length n) ≤ tm' → length t + (o + 1 + length n) ≤ nm' → AreKept ys rs t' n' (o + 1) tm' nm'
+kept_push xs ys qs rs t t' n n' o tm nm tm' nm' a put more turns next fits fits' =
+    let few : how_many_idle xs qs ≤ how_many_open xs = idle_open xs qs in
+    let idle : how_many_idle ys rs ≡ how_many_idle xs qs + 1 = ap (λ (zs : Slots). how_many_idle zs rs) put ∙ ap (how_many_idle (xs ++ Some new_port ∷ [])) more ∙ idle_pushed xs qs new_port a.flags in
+    let ts : length t' ≡ length t = ap (λ (zs : List ℕ). length zs) turns in
+    let ns : length n' ≡ length n = ap (λ (zs : List ℕ). length zs) next in
     record {
-      flags = longs ∙ ap (λ (m : ℕ). m + 1) a.flags ∙ sym longer;
-      each = pushed_queued xs ys qs rs t n b a.each put new more;
-      count = ap (λ (m : ℕ). m + 1) a.count ∙ sym (one_more (seen xs) b.value) ∙ ap how_many_open (sym all);
-      room_of_turns = omega (arith, idle, fits);
-      room_of_next = omega (arith, idle, fits');
+      flags = ap (λ (zs : List Bool). length zs) more ∙ length_push qs false ∙ ap (λ (m : ℕ). m + 1) a.flags ∙ sym (ap (λ (zs : Slots). length zs) put ∙ length_push xs (Some new_port));
+      each = rw (put, more, turns, next) (queued_push xs qs t n a.each);
+      count = ap (λ (m : ℕ). m + 1) a.count ∙ sym (one_more xs new_port) ∙ ap how_many_open (sym put);
+      room_of_turns = omega (arith, idle, a.count, fits);
+      room_of_next = omega (arith, idle, a.count, fits');
     }
 
-pub kept_put : (xs : Boxes) (qs : List Bool) (t n : List ℕ) (k : ℕ) (b : Box Port) (o tm nm : ℕ) → slice_get (seen xs) k ≡ Some None → (has_work b.value ≡ true → is_set qs k ≡ true) → (is_set qs k ≡ false → may_be_listed (seen xs) qs t n < tm) → (is_set qs k ≡ false → may_be_listed (seen xs) qs t n < nm) → AreKept (seen xs) qs t n o tm nm → AreKept (seen (set xs k (Some b))) qs t n (o + 1) tm nm
-kept_put xs qs t n k b o tm nm empty queued fits fits' a =
-    let all : seen (set xs k (Some b)) ≡ set (seen xs) k (Some b.value) = seen_set xs k (Some b) in
-    let idle : how_many_idle (seen (set xs k (Some b))) qs ≡ cond (is_set qs k) (how_many_idle (seen xs) qs) (how_many_idle (seen xs) qs + 1) = ap (λ (zs : Slots). how_many_idle zs qs) all ∙ idle_in (seen xs) qs k b.value empty in
+idle_less : (xs : Slots) (x : Option Port) (qs : List Bool) (q : Bool) → length qs ≡ length xs → how_many_idle xs qs ≤ how_many_idle (xs ++ x ∷ []) (qs ++ q ∷ [])
+idle_less [] x qs q e = omega arith
+idle_less (y ∷ xs) x [] q e = absurd (omega arith)
+idle_less (None ∷ xs) x (r ∷ qs) q e = idle_less xs x qs q (omega arith)
+idle_less (Some p ∷ xs) x (true ∷ qs) q e = idle_less xs x qs q (omega arith)
+idle_less (Some p ∷ xs) x (false ∷ qs) q e = let less : how_many_idle xs qs ≤ how_many_idle (xs ++ x ∷ []) (qs ++ q ∷ []) = idle_less xs x qs q (omega arith) in omega arith
+
+-- the last port goes
+pub kept_undo : (xs : Slots) (p : Port) (qs : List Bool) (q : Bool) (t n : List ℕ) (o tm nm : ℕ) → AreKept (xs ++ Some p ∷ []) (qs ++ q ∷ []) t n o tm nm → 1 ≤ o × AreKept xs qs t n (o - 1) tm nm
+kept_undo xs p qs q t n o tm nm a =
+    let one : how_many_open (xs ++ Some p ∷ []) ≡ how_many_open xs + 1 = one_more xs p in
+    let count = a.count in
+    let longs : length qs + 1 ≡ length xs + 1 = sym (length_push qs q) ∙ a.flags ∙ length_push xs (Some p) in
+    let long : length qs ≡ length xs = omega arith in
+    let less = idle_less xs (Some p) qs q long in (
+      omega arith,
+      record {
+        flags = long;
+        each = queued_undo xs (Some p) qs q t n long a.each;
+        count = omega arith;
+        room_of_turns = omega (arith, a.room_of_turns, less);
+        room_of_next = omega (arith, a.room_of_next, less);
+      },
+    )
+
+-- the place of a port that is taken out goes, and its flag
+pub kept_close : (xs : Slots) (qs rs : List Bool) (t n : List ℕ) (k o tm nm : ℕ) → AreKept xs qs t n o tm nm → slice_get xs k ≡ Some None → IsUnset qs k rs → length rs ≡ length qs → AreKept xs rs t n o tm nm
+kept_close xs qs rs t n k o tm nm a none unset longs =
+    let out = out_same xs xs k refl (λ port e. let wrong : Some None ≡ Some (Some port) = sym none ∙ e in absurd cc) in
+    let few = idle_fewer xs qs xs rs a.flags (longs ∙ a.flags) refl (out_idle xs xs qs rs k out unset.others) in
     record {
-      flags = a.flags ∙ sym (ap (λ (zs : Slots). length zs) all ∙ length-set (seen xs) k (Some b.value));
-      each = put_queued xs qs t n k b empty queued a.each;
-      count = ap (λ (m : ℕ). m + 1) a.count ∙ sym (one_in (seen xs) k b.value empty) ∙ ap how_many_open (sym all);
-      room_of_turns = at (is_set qs k) refl idle tm a.room_of_turns fits;
-      room_of_next = at (is_set qs k) refl idle nm a.room_of_next fits';
-    } where
-      at : (b' : Bool) → is_set qs k ≡ b' → how_many_idle (seen (set xs k (Some b))) qs ≡ cond b' (how_many_idle (seen xs) qs) (how_many_idle (seen xs) qs + 1) → (most : ℕ) → may_be_listed (seen xs) qs t n ≤ most → (is_set qs k ≡ false → may_be_listed (seen xs) qs t n < most) → may_be_listed (seen (set xs k (Some b))) qs t n ≤ most
-      at true is idle most le lt = omega arith
-      at false is idle most le lt = let more = lt is in omega arith
+      flags = longs ∙ a.flags;
+      each = queued_close xs qs rs t n k a.each out unset;
+      count = a.count;
+      room_of_turns = omega (arith, a.room_of_turns, few);
+      room_of_next = omega (arith, a.room_of_next, few);
+    }
+
+pub kept_put : (xs : Slots) (qs : List Bool) (t n : List ℕ) (k : ℕ) (p : Port) (o tm nm : ℕ) → slice_get xs k ≡ Some None → (has_work p ≡ true → is_set qs k ≡ true) → (is_set qs k ≡ false → may_be_listed xs qs t n < tm) → (is_set qs k ≡ false → may_be_listed xs qs t n < nm) → AreKept xs qs t n o tm nm → AreKept (set xs k (Some p)) qs t n (o + 1) tm nm
+kept_put xs qs t n k p o tm nm empty queued fits fits' a = record {
+  flags = a.flags ∙ sym (length-set xs k (Some p));
+  each = queued_put xs qs t n k None p empty queued a.each;
+  count = ap (λ (m : ℕ). m + 1) a.count ∙ sym (one_in xs k p empty);
+  room_of_turns = at (is_set qs k) refl (idle_in xs qs k p empty) tm a.room_of_turns fits;
+  room_of_next = at (is_set qs k) refl (idle_in xs qs k p empty) nm a.room_of_next fits';
+} where
+  at : (b : Bool) → is_set qs k ≡ b → how_many_idle (set xs k (Some p)) qs ≡ cond b (how_many_idle xs qs) (how_many_idle xs qs + 1) → (most : ℕ) → may_be_listed xs qs t n ≤ most → (is_set qs k ≡ false → may_be_listed xs qs t n < most) → may_be_listed (set xs k (Some p)) qs t n ≤ most
+  at true is idle most le lt = omega arith
+  at false is idle most le lt = let more = lt is in omega arith
 
 -- ---- room for a port that is put back
 
@@ -211,17 +236,16 @@ back_turn xs ys qs rs t n k most flags out unset long longs le =
     let one : length (t ++ k ∷ []) ≡ length t + 1 = length_push t k in
     omega arith
 
-pub room_made : (xs ys : Boxes) (qs rs : List Bool) (t t' n n' : List ℕ) (o most : ℕ) → ys ≡ xs → rs ≡ qs → t' ≡ t → n' ≡ n → o ≡ how_many_open (seen xs) → length t + (o + 1 + length n) ≤ most → may_be_listed (seen ys) rs t' n' < most
-room_made xs ys qs rs t t' n n' o most all flags turns next count le =
-    let few : how_many_idle (seen xs) qs ≤ how_many_open (seen xs) = idle_open (seen xs) qs in
-    let idle : how_many_idle (seen ys) rs ≡ how_many_idle (seen xs) qs = ap (λ (zs : Boxes). how_many_idle (seen zs) rs) all ∙ ap (how_many_idle (seen xs)) flags in
-    let ts : length t' ≡ length t = ap (λ (zs : List ℕ). length zs) turns in
-    let ns : length n' ≡ length n = ap (λ (zs : List ℕ). length zs) next in
-    omega arith
+pub if_both : (r : Option (Box Port)) (P : Box Port → Type 0) (Q X : Type 0) → IfSome r P → OnSome r Q → ((b : Box Port) → P b → Q → X) → OnSome r X
+if_both None P Q X holds too f = tt
+if_both (Some b) P Q X holds too f = f b holds too
 
-pub if_there : (r : Option (Box Port)) (P : Box Port → Type 0) (X : Type 0) → IfSome r P → ((b : Box Port) → P b → X) → OnSome r X
-if_there None P X holds f = tt
-if_there (Some b) P X holds f = f b holds
+-- where a slot is empty, fewer are open than there are
+pub open_missing : (xs : Slots) (k : ℕ) → slice_get xs k ≡ Some None → how_many_open xs + 1 ≤ length xs
+open_missing [] k e = absurd cc
+open_missing (x ∷ xs) zero e = let is : x ≡ None = cc in rw is (let few : how_many_open xs ≤ length xs = open_below xs in omega arith)
+open_missing (None ∷ xs) (suc k) e = let few : how_many_open xs + 1 ≤ length xs = open_missing xs k e in omega arith
+open_missing (Some p ∷ xs) (suc k) e = let few : how_many_open xs + 1 ≤ length xs = open_missing xs k e in omega arith
 
 pub within_slots : (xs : Slots) (k : ℕ) (x : Option Port) → slice_get xs k ≡ Some x → k < length xs
 within_slots [] k x e = absurd cc

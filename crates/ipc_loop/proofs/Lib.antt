@@ -4,8 +4,10 @@ pub mod OwingLemmas
 pub mod WhyLemmas
 pub mod ClosingLemmas
 pub mod ServingLemmas
+pub mod SizeLemmas
 pub mod PortLemmas
 pub mod StandingLemmas
+pub mod PlaceLemmas
 pub mod TakingLemmas
 pub mod TurnLemmas
 pub mod UndoneLemmas

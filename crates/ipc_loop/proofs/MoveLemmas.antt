@@ -4,7 +4,7 @@ use Rattle.std.proofs.lemmas.List.{append-nil}
 use Rattle.std.proofs.lemmas.Bool.{eq-eqb}
 use Rattle.std.specs.declared.io.ErrorKind.{ErrorKind}
 use Rattle.ipc_hub.specs.Hub.{Hub}
-use Rattle.ipc_hub.specs.Laws.{Call, Opened, TookPiece, HungUp, Gave, Named, Ticked, MakesAll, stream_of, output_of}
+use Rattle.ipc_hub.specs.Laws.{Call, Opened, TookPiece, HungUp, Gave, Named, Ticked, Forgot, MakesAll, stream_of, output_of}
 use Rattle.ipc_hub.specs.declared.fed.Fed.TheVariants.{Done, Short, Full, Over}
 use Rattle.ipc_loop.specs.declared.ending.Ending.{Ending}
 use Rattle.ipc_loop.specs.declared.ending.Ending.TheVariants as ending
@@ -23,6 +23,7 @@ stream_both i (HungUp j ∷ xs) ys = stream_both i xs ys
 stream_both i (Gave j bytes ∷ xs) ys = stream_both i xs ys
 stream_both i (Named j ∷ xs) ys = stream_both i xs ys
 stream_both i (Ticked moment ∷ xs) ys = stream_both i xs ys
+stream_both i (Forgot ∷ xs) ys = stream_both i xs ys
 
 pub output_both : (i : ℕ) (xs ys : List Call) → output_of i (xs ++ ys) ≡ output_of i xs ++ output_of i ys
 output_both i [] ys = refl
@@ -32,6 +33,7 @@ output_both i (HungUp j ∷ xs) ys = output_both i xs ys
 output_both i (Gave j bytes ∷ xs) ys = more_or_less (eqb j i) bytes (output_of i xs) (output_of i ys) (output_of i (xs ++ ys)) (output_both i xs ys)
 output_both i (Named j ∷ xs) ys = output_both i xs ys
 output_both i (Ticked moment ∷ xs) ys = output_both i xs ys
+output_both i (Forgot ∷ xs) ys = output_both i xs ys
 
 pub read_both : (i : ℕ) (xs ys : List Moved) → read_of i (xs ++ ys) ≡ read_of i xs ++ read_of i ys
 read_both i [] ys = refl
@@ -140,6 +142,7 @@ over_both i (HungUp j ∷ xs) ys = over_both i xs ys
 over_both i (Gave j bytes ∷ xs) ys = over_both i xs ys
 over_both i (Named j ∷ xs) ys = over_both i xs ys
 over_both i (Ticked moment ∷ xs) ys = over_both i xs ys
+over_both i (Forgot ∷ xs) ys = over_both i xs ys
 
 pub shown_both : (i : ℕ) (cs ds : List Call) (xs ys : List Moved) (e : Ending) → is_shown i (cs ++ ds) (xs ++ ys) e ≡ (is_shown i cs xs e || is_shown i ds ys e)
 shown_both i cs ds xs ys ending.Closed = end_both i xs ys

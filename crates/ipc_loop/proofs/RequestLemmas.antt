@@ -21,7 +21,7 @@ grows [] a = omega arith
 grows (e ∷ es) a = let more = grows es (after_step e a) in omega (arith, more)
 
 many : (a : CoreView) (session : Option Sid) (requests : List Request) → length (events_of a session requests) ≡ length requests
-many a session requests = length-map requests (event_of a.config (session_or_next a session))
+many a session requests = length-map requests (event_of a (session_or_next a session))
 
 recorded : (a b : CoreView) (session : Option Sid) (requests : List Request) → b ≡ after_steps (events_of a session requests) a → length requests ≡ length b.history - length a.history
 recorded a b session requests now =
@@ -68,7 +68,7 @@ outcome_counts h h' x y c (Over (Wire fault)) o = record {
   hang_up = hangs_up y.session;
   core = o.hung_up ∙ ap (after_steps (hang_up_of y.session)) o.steps.core;
 }
-outcome_counts h h' x y c (Over BadKey) o = alone h h' x.session (take 1 c.requests) (o.core ∙ ap (λ (es : List Event). after_steps es h.core) (first_of (event_of h.core.config (session_or_next h.core x.session)) c.requests))
+outcome_counts h h' x y c (Over BadKey) o = alone h h' x.session (take 1 c.requests) (o.core ∙ ap (λ (es : List Event). after_steps es h.core) (first_of (event_of h.core (session_or_next h.core x.session)) c.requests))
 
 pub feed_counts : (k : ℕ) (h h' : Hub) (piece : List ℕ) (r : Result Fed HubFault) → IfOk r (λ fed. Feeds h k piece fed h') → OnErr r (h' ≡ h) → StepsRequests (requests_among (length h'.core.history - length h.core.history) r) h h'
 feed_counts k h h' piece (Ok fed) ok err = outcome_counts h h' ok.before ok.later _ fed ok.outcome

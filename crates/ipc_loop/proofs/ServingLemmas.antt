@@ -4,10 +4,10 @@ use Rattle.std.specs.Prelude.{is_none, is_some, unwrap_or, Result, Ok, Err, IfOk
 use Rattle.std.specs.declared.io.ErrorKind.{ErrorKind}
 use Rattle.std.proofs.lemmas.List.{append-nil}
 use Rattle.ipc_terms.specs.declared.call.Answer.{Answer}
-use Rattle.ipc_hub.specs.Hub.{Hub, with_connection, IsGone, Feeds, HangsUp, Takes, Names, Ticks, is_over_at, untaken_at, spell_answers}
+use Rattle.ipc_hub.specs.Hub.{Hub, with_connection, IsGone, Feeds, HangsUp, Takes, Names, Ticks, Forgets, is_over_at, untaken_at, spell_answers}
 use Rattle.ipc_hub.proofs.GoneLemmas.{stays_gone}
 use Rattle.std.proofs.lemmas.Bool.{eqb-true, eq-eqb}
-use Rattle.ipc_hub.specs.Laws.{Call, Opened, TookPiece, HungUp, Gave, Named, Ticked, Makes, MakesAll, stream_of, output_of}
+use Rattle.ipc_hub.specs.Laws.{Call, Opened, TookPiece, HungUp, Gave, Named, Ticked, Forgot, Makes, MakesAll, stream_of, output_of}
 use Rattle.ipc_loop.specs.declared.ending.Ending.{Ending}
 use Rattle.ipc_loop.specs.declared.ending.Ending.TheVariants as ending
 use Rattle.ipc_hub.specs.declared.fed.Fed.{Fed}
@@ -488,6 +488,9 @@ served_nothing h m p = went_nowhere h m m p (go_nowhere m)
 
 pub ticked_serves : (moment : ℕ) (h h' : Hub) (m : Moves) (p : Ports) → Ticks h moment h' → Serves h m p h' m p
 ticked_serves moment h h' m p made = call_serves (Ticked moment) h h' m p made (λ i. refl) (λ i. refl) (λ i. refl)
+
+pub forgot_serves : (h h' : Hub) (m : Moves) (p : Ports) → Forgets h h' → Serves h m p h' m p
+forgot_serves h h' m p made = call_serves Forgot h h' m p made (λ i. refl) (λ i. refl) (λ i. refl)
 
 pub opened_serves : (h h' : Hub) (m : Moves) (p : Ports) → h' ≡ with_connection h → Serves h m p h' m p
 opened_serves h h' m p made = call_serves Opened h h' m p made (λ i. refl) (λ i. refl) (λ i. refl)

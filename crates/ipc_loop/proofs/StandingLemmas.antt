@@ -1,15 +1,11 @@
 -- Who has work is queued.
-use Rattle.std.proofs.Common.{◌≡◌, ◌⊎◌, inl, inr, ℕ, zero, suc, ◌<◌, ◌≤◌, Bool, true, false, ◌||◌, eqb, cond, List, [], ◌∷◌, ◌++◌, length, set, slice_get, Option, Some, None, refl, sym, ap, subst, ◌∙◌, arith}
-use Rattle.std.specs.Prelude.{IfSome}
-use Rattle.std.specs.Global.{Box}
-use Rattle.std.specs.Option.{option_map, option_or}
-use Rattle.std.proofs.lemmas.List.{map-set}
-use Rattle.std.proofs.lemmas.Option.{slice_get-map}
+use Rattle.std.proofs.Common.{◌≡◌, ◌⊎◌, inl, inr, ℕ, zero, suc, ◌<◌, Bool, true, false, ◌||◌, eqb, cond, List, [], ◌∷◌, ◌++◌, length, set, slice_get, Option, Some, None, refl, sym, ap, ◌∙◌, arith}
+use Rattle.std.specs.Option.{option_or}
 use Rattle.std.proofs.lemmas.Bool.{eq-eqb, eqb-true}
-use Rattle.ipc_terms.proofs.Lists.{eqb_suc, slice_get_push, slice_past}
+use Rattle.ipc_terms.proofs.Lists.{eqb_suc, slice_get_push}
 use Rattle.ipc_hub.specs.Marking.{is_set}
 use Rattle.ipc_loop.specs.Ports.{Port, new_port, has_work, stands_in}
-use Rattle.ipc_loop.specs.Standing.{EachIsQueued, TakesOut, IsOut, IsUnset, seen}
+use Rattle.ipc_loop.specs.Standing.{EachIsQueued, IsOut, IsUnset}
 use Rattle.ipc_loop.proofs.PortLemmas.{Slots, get_set, stands_both}
 
 pub queued_none : EachIsQueued [] [] [] []
@@ -102,6 +98,17 @@ queued_turn xs ys qs rs t n k q out unset = record { working = λ i port e w. wo
   listed i e true is = let wrong : false ≡ true = sym unset.here ∙ ap (is_set rs) (eqb-true k i is) ∙ e in absurd cc
   listed i e false is = or_but (stands_in i t) (stands_in i n) (stands_in i (k ∷ [])) (ap (λ (x : Bool). cond x true false) is) (ap (λ (x : Bool). x || stands_in i n) (sym (stands_both i t (k ∷ []))) ∙ q.listed i (sym (unset.others i is) ∙ e))
 
+-- number k's port is out, and its flag goes
+pub queued_close : (xs : Slots) (qs rs : List Bool) (t n : List ℕ) (k : ℕ) → EachIsQueued xs qs t n → IsOut xs k xs → IsUnset qs k rs → EachIsQueued xs rs t n
+queued_close xs qs rs t n k q out unset = record { working = λ i port e w. working i port w e (eqb k i) refl; listed = λ i e. listed i e (eqb k i) refl } where
+  working : (i : ℕ) (port : Port) → has_work port ≡ true → slice_get xs i ≡ Some (Some port) → (here : Bool) → eqb k i ≡ here → is_set rs i ≡ true
+  working i port w e true is = absurd (out.here port (ap (λ (j : ℕ). slice_get xs j) (eqb-true k i is) ∙ e))
+  working i port w e false is = unset.others i is ∙ q.working i port e w
+
+  listed : (i : ℕ) → is_set rs i ≡ true → (here : Bool) → eqb k i ≡ here → (stands_in i t || stands_in i n) ≡ true
+  listed i e true is = let wrong : false ≡ true = sym unset.here ∙ ap (is_set rs) (eqb-true k i is) ∙ e in absurd cc
+  listed i e false is = q.listed i (sym (unset.others i is) ∙ e)
+
 or_swapped : (b : Bool) → b ≡ true → (b || false) ≡ true
 or_swapped true e = refl
 or_swapped false e = absurd cc
@@ -121,44 +128,28 @@ out_set xs k x there = record {
   others = λ i is. get_set xs k x None i there ∙ ap (λ (b : Bool). cond b (Some None) (slice_get xs i)) is;
 }
 
--- ---- slots in memory
+-- the last port goes, and its flag
+pub queued_undo : (xs : Slots) (x : Option Port) (qs : List Bool) (q : Bool) (t n : List ℕ) → length qs ≡ length xs → EachIsQueued (xs ++ x ∷ []) (qs ++ q ∷ []) t n → EachIsQueued xs qs t n
+queued_undo xs x qs q t n long each = record {
+  working = λ i port e w. flag_kept qs q i (let within = slot_within xs i (Some port) e in omega arith) (each.working i port (slot_before xs x i (Some port) e) w);
+  listed = λ i e. each.listed i (flag_before qs q i e);
+} where
+  slot_before : (xs : Slots) (x : Option Port) (i : ℕ) (y : Option Port) → slice_get xs i ≡ Some y → slice_get (xs ++ x ∷ []) i ≡ Some y
+  slot_before [] x i y e = absurd cc
+  slot_before (z ∷ xs) x zero y e = e
+  slot_before (z ∷ xs) x (suc i) y e = slot_before xs x i y e
 
-abbrev pub Boxes : Type 0
-Boxes = List (Option (Box Port))
+  slot_within : (xs : Slots) (i : ℕ) (y : Option Port) → slice_get xs i ≡ Some y → i < length xs
+  slot_within [] i y e = absurd cc
+  slot_within (z ∷ xs) zero y e = omega arith
+  slot_within (z ∷ xs) (suc i) y e = let less : i < length xs = slot_within xs i y e in omega arith
 
--- what stands in a slot
-pub seen_slot : (xs : Boxes) (i : ℕ) (x : Option (Box Port)) → slice_get xs i ≡ Some x → slice_get (seen xs) i ≡ Some (option_map (λ b. b.value) x)
-seen_slot xs i x e = slice_get-map (option_map (λ (b : Box Port). b.value)) xs i ∙ ap (option_map (option_map (λ (b : Box Port). b.value))) e
+  flag_before : (qs : List Bool) (q : Bool) (i : ℕ) → is_set qs i ≡ true → is_set (qs ++ q ∷ []) i ≡ true
+  flag_before [] q i e = absurd cc
+  flag_before (b ∷ qs) q zero e = e
+  flag_before (b ∷ qs) q (suc i) e = flag_before qs q i e
 
-pub seen_set : (xs : Boxes) (i : ℕ) (x : Option (Box Port)) → seen (set xs i x) ≡ set (seen xs) i (option_map (λ b. b.value) x)
-seen_set xs i x = map-set (option_map (λ (b : Box Port). b.value)) xs i x
-
-pub slot_taken : (xs : Boxes) (i : ℕ) (x y r : Option (Box Port)) → slice_get xs i ≡ Some x → r ≡ x → y ≡ None → IfSome r (λ port. TakesOut (seen xs) i port.value (seen (set xs i y)))
-slot_taken xs i x y None there is none = tt
-slot_taken xs i x y (Some port) there is none = record {
-  there = seen_slot xs i x there ∙ ap (λ (z : Option (Box Port)). Some (option_map (λ (b : Box Port). b.value) z)) (sym is);
-  rest = seen_set xs i y ∙ ap (λ (z : Option (Box Port)). set (seen xs) i (option_map (λ (b : Box Port). b.value) z)) none;
-}
-
-pub slot_out : (xs : Boxes) (i : ℕ) (x y : Option (Box Port)) → slice_get xs i ≡ Some x → y ≡ None → IsOut (seen xs) i (seen (set xs i y))
-slot_out xs i x y there none =
-    subst (λ (zs : Slots). IsOut (seen xs) i zs) (sym (seen_set xs i y ∙ ap (λ (z : Option (Box Port)). set (seen xs) i (option_map (λ (b : Box Port). b.value) z)) none))
-    (out_set (seen xs) i (option_map (λ (b : Box Port). b.value) x) (seen_slot xs i x there))
-
--- past the end no slot is
-pub slot_past : (xs : Boxes) (i : ℕ) → length xs ≤ i → IsOut (seen xs) i (seen xs)
-slot_past xs i past = out_same (seen xs) (seen xs) i refl (λ port e. let none : slice_get (seen xs) i ≡ None = slice_get-map (option_map (λ (b : Box Port). b.value)) xs i ∙ ap (option_map (option_map (λ (b : Box Port). b.value))) (slice_past xs i past) in let wrong : None ≡ Some (Some port) = sym none ∙ e in absurd cc)
-
-pub seen_push : (xs : Boxes) (b : Box Port) → seen (xs ++ Some b ∷ []) ≡ seen xs ++ Some b.value ∷ []
-seen_push [] b = refl
-seen_push (x ∷ xs) b = ap (λ (zs : Slots). option_map (λ (c : Box Port). c.value) x ∷ zs) (seen_push xs b)
-
--- a new port is put behind all
-pub pushed_queued : (xs ys : Boxes) (qs rs : List Bool) (t n : List ℕ) (b : Box Port) → EachIsQueued (seen xs) qs t n → ys ≡ xs ++ Some b ∷ [] → b.value ≡ new_port → rs ≡ qs ++ false ∷ [] → EachIsQueued (seen ys) rs t n
-pushed_queued xs ys qs rs t n b q put new more =
-    let now : seen ys ≡ seen xs ++ Some new_port ∷ [] = ap seen put ∙ seen_push xs b ∙ ap (λ (p : Port). seen xs ++ Some p ∷ []) new in
-    subst (λ (ws : Slots). EachIsQueued ws rs t n) (sym now) (subst (λ (fs : List Bool). EachIsQueued (seen xs ++ Some new_port ∷ []) fs t n) (sym more) (queued_push (seen xs) qs t n q))
-
--- a port is put back
-pub put_queued : (xs : Boxes) (qs : List Bool) (t n : List ℕ) (k : ℕ) (b : Box Port) → slice_get (seen xs) k ≡ Some None → (has_work b.value ≡ true → is_set qs k ≡ true) → EachIsQueued (seen xs) qs t n → EachIsQueued (seen (set xs k (Some b))) qs t n
-put_queued xs qs t n k b empty queued q = subst (λ (ws : Slots). EachIsQueued ws qs t n) (sym (seen_set xs k (Some b))) (queued_put (seen xs) qs t n k None b.value empty queued q)
+  flag_kept : (qs : List Bool) (q : Bool) (i : ℕ) → i < length qs → is_set (qs ++ q ∷ []) i ≡ true → is_set qs i ≡ true
+  flag_kept [] q i l e = absurd (omega arith)
+  flag_kept (b ∷ qs) q zero l e = e
+  flag_kept (b ∷ qs) q (suc i) l e = flag_kept qs q i (omega arith) e

@@ -28,7 +28,7 @@ MakesRounds (next ∷ later) old moves new moves' = MakesRound old moves next.se
 
 -- a server that has done nothing
 abbrev pub new_server : Config → Bounds → Server
-new_server c bounds = record { hub = new_hub c; ports = []; turns = []; bounds = bounds; may_accept = true; pausing = None }
+new_server c bounds = record { hub = new_hub c; ports = []; turns = []; bounds = bounds; keeping = record { records = None; bytes = None }; may_accept = true; pausing = None }
 
 -- of what a link gave, a beginning was fed, each byte once and in order. It is a hello, then the calls of the session in the
 -- trail, and then what was not stepped

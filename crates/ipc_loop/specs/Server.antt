@@ -1,17 +1,19 @@
 -- What is seen of a server: its hub, the ports of all links that it accepted by their numbers, none where a link is closed, who
--- gets a turn in the next round, how many links it opens, whether somebody may be waiting to be accepted, and why accepting failed, if it did.
+-- gets a turn in the next round, how many links it opens, which records it keeps, whether somebody may be waiting to be accepted, and why accepting failed, if it did.
 use Rattle.std.specs.Prelude.{◌≡◌, Bool, ◌&&◌, ◌==◌, ℕ, List, length, slice_get, Option, Some, None}
 use Rattle.std.specs.declared.io.ErrorKind.{ErrorKind}
 use Rattle.ipc_hub.specs.Hub.{Hub, IsGone}
 use Rattle.ipc_loop.specs.Ports.{Port, how_many_open}
 use Rattle.ipc_loop.specs.Bounds.{are_all}
 use Rattle.ipc_loop.specs.declared.accepting.Bounds.{Bounds}
+use Rattle.ipc_loop.specs.declared.keeping.Keeping.{Keeping}
 
 pub record Server : Type 0 where
   pub hub : Hub
   pub ports : List (Option Port)
   pub turns : List ℕ
   pub bounds : Bounds
+  pub keeping : Keeping
   pub may_accept : Bool
   pub pausing : Option ErrorKind
 

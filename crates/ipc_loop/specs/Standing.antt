@@ -1,7 +1,6 @@
 -- The ports of a loop, and who gets a turn.
 use Rattle.std.specs.Prelude.{◌≡◌, ◌==◌, ◌⊎◌, ◌+◌, ◌<◌, ◌≤◌, true, false, Bool, ◌||◌, ℕ, List, [], ◌∷◌, length, map, slice_get, slice_set, Option, Some, None, unwrap_or, if◌then◌else◌}
-use Rattle.std.specs.Global.{Box}
-use Rattle.std.specs.Option.{option_map}
+use Rattle.std.specs.Option.{option_map, is_some}
 use Rattle.ipc_hub.specs.Marking.{is_set}
 use Rattle.ipc_hub.specs.Hub.{Hub}
 use Rattle.ipc_loop.specs.Ports.{Port, open_at, port_at, has_work, stands_in, how_many_open}
@@ -9,25 +8,38 @@ use Rattle.ipc_loop.specs.declared.ending.Ending.TheVariants.{NoMemory}
 use Rattle.ipc_loop.specs.Moves.{Moved, LinkClosed, GoOn}
 use Rattle.ipc_loop.specs.Bounds.{IsWithin}
 use Rattle.ipc_loop.specs.declared.accepting.Bounds.{Bounds}
+use Rattle.ipc_loop.specs.declared.ports.Place.{Place}
 use Rattle.ipc_loop.specs.Serving.{IsUpToDateByMark, LeavesNothing, LetsGo, is_done}
 
--- the ports by their numbers, none where a link is closed; whether each number is queued; the numbers that get a turn in
--- this round and in the next; for how many more ports, flags and numbers there is room; and for how many numbers each of
--- the two lists has room
+-- the ports by their numbers, none where a link is closed; whether each number is queued, and whether it has a place; the
+-- numbers that get a turn in this round and in the next; and for how many numbers each of the two lists has room
 pub record Ports : Type 0 where
   pub all : List (Option Port)
   pub queued : List Bool
+  pub places : List Bool
   pub turns : List ℕ
   pub next : List ℕ
-  pub room : ℕ
-  pub room_of_flags : ℕ
-  pub room_of_numbers : ℕ
   pub most_turns : ℕ
   pub most_next : ℕ
 
--- the ports in their slots
-abbrev pub seen : List (Option (Box Port)) → List (Option Port)
-seen = map (option_map (λ b. b.value))
+-- the port in a place; none, where it is taken out, or there is no place
+abbrev pub port_in : Option Place → Option Port
+port_in None = None
+port_in (Some place) = option_map (λ b. b.value) place.port
+
+-- whether the place's number is queued
+abbrev pub is_queued_in : Option Place → Bool
+is_queued_in None = false
+is_queued_in (Some place) = place.is_queued
+
+abbrev pub seen : List (Option Place) → List (Option Port)
+seen = map port_in
+
+abbrev pub flags : List (Option Place) → List Bool
+flags = map is_queued_in
+
+abbrev pub are_there : List (Option Place) → List Bool
+are_there = map is_some
 
 -- each port that has work is queued, and who is queued stands in a list
 pub record EachIsQueued (ports : List (Option Port)) (queued : List Bool) (turns next : List ℕ) : Type 0 where
@@ -60,9 +72,10 @@ pub record HasRoomForOne (ports : Ports) : Type 0 where
   pub of_turns : may_be_listed ports.all ports.queued ports.turns ports.next < ports.most_turns
   pub of_next : may_be_listed ports.all ports.queued ports.turns ports.next < ports.most_next
 
--- the port of number k may be put back: it is queued, or there is room
-abbrev pub CanBePut : Ports → ℕ → Type 0
-CanBePut ports k = is_set ports.queued k ≡ false → HasRoomForOne ports
+-- the port of number k may be put back: it has a place, and it is queued, or there is room
+pub record CanBePut (ports : Ports) (k : ℕ) : Type 0 where
+  pub place : is_set ports.places k ≡ true
+  pub room : is_set ports.queued k ≡ false → HasRoomForOne ports
 
 -- the port of this number is taken out, to be put back
 pub record TakesOut (old : List (Option Port)) (number : ℕ) (port : Port) (new : List (Option Port)) : Type 0 where

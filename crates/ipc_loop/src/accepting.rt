@@ -1,6 +1,6 @@
 //! Accepting connections.
 
-ghost use Rattle.std.specs.Prelude.{◌≡◌, ◌<◌, [], ℕ, List, Option, true, false, length, IfOk, IfErr, OnOk};
+ghost use Rattle.std.specs.Prelude.{◌≡◌, [], ◌∷◌, ◌++◌, ℕ, List, Option, Some, true, false, length, IfErr, OnOk, OnErr};
 ghost use Rattle.std.specs.IoError.{error_kind};
 ghost use Rattle.ipc_hub.specs.Hub.{Hub, untaken_at, is_over_at};
 ghost use Rattle.ipc_loop.specs.Moves.{Moved};
@@ -9,10 +9,8 @@ ghost use Rattle.ipc_loop.specs.Bounds.{are_all, IsWithin, HasRoom, AddsAtMostOn
 ghost use Rattle.ipc_loop.specs.Serving.{Serves, ServesAndOpens, KeepsUpToDate};
 ghost use Rattle.ipc_loop.specs.Asking.{Asks};
 ghost use Rattle.ipc_loop.specs.Listening.{Listens, HasNoRoom, Comes, behind_refusal, refusal_of, is_again};
-ghost use Rattle.ipc_loop.specs.Standing.{HasRoomForOne};
 
 use crate::links::Host;
-use crate::port::Port;
 use crate::ports::Ports;
 use crate::serving::is_over;
 use ipc_hub::{Conn, Hub};
@@ -58,18 +56,14 @@ fn open_next(hub: &mut Hub, number: u64, alloc: Global) -> Result<(), NoMemory>
 }
 
 /// Makes all for the next link but the link: its connection, which goes on and was answered nothing, and its port. So nobody is
-/// accepted for whom there is no memory.
-fn prepare(hub: &mut Hub, ports: &mut Ports, alloc: Global) -> Result<Box<Port>, NoMemory>
-    ensures port { IfOk result (λ port. port.value ≡ new_port) }
-    ensures untaken { OnOk result (untaken_at hub.new (length ports.new.all) ≡ []) }
-    ensures going { OnOk result (is_over_at hub.new (length ports.new.all) ≡ false) }
-    ensures room { OnOk result (0 < ports.new.room) }
-    ensures flags { OnOk result (0 < ports.new.room_of_flags) }
-    ensures lists { OnOk result (HasRoomForOne ports.new) }
-    ensures numbers { OnOk result (0 < ports.new.room_of_numbers) }
+/// accepted for whom there is no memory. An `Err` changes no port.
+fn prepare(hub: &mut Hub, ports: &mut Ports, alloc: Global) -> Result<(), NoMemory>
+    ensures untaken { OnOk result (untaken_at hub.new (length ports.old.all) ≡ []) }
+    ensures going { OnOk result (is_over_at hub.new (length ports.old.all) ≡ false) }
     ensures serves { (moves : Option (List Moved)) (all : ℕ → Option Port) → Serves hub.old moves all hub.new moves all }
     ensures marks { (all : ℕ → Option Port) → KeepsUpToDate hub.old all hub.new all }
-    ensures all { ports.new.all ≡ ports.old.all }
+    ensures ok { OnOk result (ports.new.all ≡ ports.old.all ++ Some new_port ∷ []) }
+    ensures err { OnErr result (ports.new.all ≡ ports.old.all) }
     ensures turns { ports.new.turns ≡ ports.old.turns }
     ensures next { ports.new.next ≡ ports.old.next }
 {
@@ -82,7 +76,7 @@ fn prepare(hub: &mut Hub, ports: &mut Ports, alloc: Global) -> Result<Box<Port>,
         return Err(NoMemory);
     }
     ports.forget_numbers();
-    ports.prepare()
+    ports.push()
 }
 
 /// Accepts the next link, whose number is how many were accepted before.
@@ -96,12 +90,15 @@ fn accept<H: Host>(hub: &mut Hub, host: &mut H, ports: &mut Ports, alloc: Global
     ensures comes { Comes (H.moves host.old) (H.moves host.new) ports.old.all ports.new.all result }
     ensures silent { H.told host.new ≡ H.told host.old }
 {
-    let Ok(port) = prepare(hub, ports, alloc) else {
+    let number = ports.len() as u64;
+    let Ok(()) = prepare(hub, ports, alloc) else {
         return Err(io::Error::from(ErrorKind::OutOfMemory));
     };
-    host.accept(ports.len() as u64)?;
-    ports.push(port);
-    Ok(())
+    let Err(error) = host.accept(number) else {
+        return Ok(());
+    };
+    ports.undo_push();
+    Err(error)
 }
 
 impl Accepting {

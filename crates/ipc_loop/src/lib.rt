@@ -3,6 +3,7 @@
 
 mod accepting;
 mod ending;
+mod keeping;
 pub mod laws;
 mod links;
 mod pausing;
@@ -16,5 +17,6 @@ mod turns;
 mod unsent;
 
 pub use ending::Ending;
+pub use keeping::Keeping;
 pub use links::{Host, Ready};
 pub use server::Server;

@@ -1,67 +1,76 @@
 //! The ports of all links, and who gets a turn.
 
-ghost use Rattle.std.specs.Prelude.{◌≡◌, ◌<◌, [], ◌∷◌, ◌++◌, true, None, Some, length, slice_get, slice_set, IfOk, IfSome, IfNone, OnOk, OnSome};
+ghost use Rattle.std.specs.Prelude.{◌≡◌, ◌<◌, ◌-◌, [], ◌∷◌, ◌++◌, true, None, Some, length, take, slice_get, slice_set, IfOk, IfSome, IfNone, OnOk, OnErr, OnSome};
 ghost use Rattle.ipc_hub.specs.Marking.{is_set};
 ghost use Rattle.ipc_loop.specs.Ports.{new_port, how_many_open, KeepsListed};
-ghost use Rattle.ipc_loop.specs.Standing.{EachIsQueued, TakesOut, IsOut, IsUnset, CanBePut, HasRoomForOne, seen};
+ghost use Rattle.ipc_loop.specs.Standing.{EachIsQueued, TakesOut, IsOut, IsUnset, CanBePut, seen, flags, are_there};
 
 use crate::port::Port;
+use ipc_numbered::Numbered;
 use ipc_terms::NoMemory;
 use std::alloc::Global;
 use std::marker::Model;
 use std::mem;
 
-/// The ports by the numbers of their links. A port that something is done with is taken out and put back.
+/// What stands at the number of a link until it is closed.
+#[derive(Drop)]
+struct Place {
+    /// None while something is done with it.
+    port: Option<Box<Port>>,
+    /// Its number stands in a list of who gets a turn.
+    is_queued: bool,
+}
+
+/// The ports by the numbers of their links. A port that something is done with is taken out and put back. Nothing is left of
+/// a link that was closed.
 #[derive(Drop)]
 pub struct Ports {
     alloc: Global,
-    all: Vec<Option<Box<Port>>>,
-    queued: Vec<bool>,
+    all: Numbered<Place>,
     turns: Vec<u64>,
     next: Vec<u64>,
-    /// How many ports are in their slots.
+    /// How many ports are in their places.
     open: usize,
     /// The numbers of all links that are open, and of some that are closed.
     numbers: Vec<u64>,
 }
 
 impl Model for Ports {
-    ghost use Rattle.std.specs.Prelude.{◌-◌, vec_len, vec_capacity};
-    ghost use Rattle.ipc_loop.specs.Standing.{Ports, AreKept, seen};
+    ghost use Rattle.std.specs.Prelude.{vec_capacity};
+    ghost use Rattle.ipc_loop.specs.Standing.{Ports, AreKept, seen, flags, are_there};
 
     ghost Value = { Ports };
 
-    ghost view = { λ p. record { all = seen p.all.items; queued = p.queued.items; turns = p.turns.items; next = p.next.items; room = vec_capacity p.all - vec_len p.all; room_of_flags = vec_capacity p.queued - vec_len p.queued; room_of_numbers = vec_capacity p.numbers - vec_len p.numbers; most_turns = vec_capacity p.turns; most_next = vec_capacity p.next } };
+    ghost view = { λ p. record { all = seen p.all; queued = flags p.all; places = are_there p.all; turns = p.turns.items; next = p.next.items; most_turns = vec_capacity p.turns; most_next = vec_capacity p.next } };
 
-    ghost invariant = { λ p. AreKept (seen p.all.items) p.queued.items p.turns.items p.next.items p.open (vec_capacity p.turns) (vec_capacity p.next) };
+    ghost invariant = { λ p. AreKept (seen p.all) (flags p.all) p.turns.items p.next.items p.open (vec_capacity p.turns) (vec_capacity p.next) };
 }
 
-/// Takes the port out of the slot of this number, and counts it.
-fn take_out(all: &mut Vec<Option<Box<Port>>>, open: &mut usize, number: u64) -> Option<Box<Port>>
-    requires { open.old ≡ how_many_open (seen all.old.items) }
-    ensures port { IfSome result (λ port. TakesOut (seen all.old.items) number port.value (seen all.new.items)) }
-    ensures none { IfNone result (seen all.new.items ≡ seen all.old.items) }
-    ensures out { IsOut (seen all.old.items) number (seen all.new.items) }
-    ensures long { length (seen all.new.items) ≡ length (seen all.old.items) }
-    ensures count { open.new ≡ how_many_open (seen all.new.items) }
+/// Takes the port out of the place of this number, and counts it.
+fn take_out(all: &mut Numbered<Place>, open: &mut usize, number: u64) -> Option<Box<Port>>
+    requires { open.old ≡ how_many_open (seen all.old) }
+    ensures port { IfSome result (λ port. TakesOut (seen all.old) number port.value (seen all.new)) }
+    ensures none { IfNone result (seen all.new ≡ seen all.old) }
+    ensures out { IsOut (seen all.old) number (seen all.new) }
+    ensures queued { flags all.new ≡ flags all.old }
+    ensures places { are_there all.new ≡ are_there all.old }
+    ensures place { OnSome result (is_set (are_there all.new) number ≡ true) }
+    ensures count { open.new ≡ how_many_open (seen all.new) }
 {
-    let i = number as usize;
-    if i >= all.len() {
-        return None;
-    }
-    let port = all[i].take()?;
+    let place = all.get_mut(number as usize)?;
+    let port = place.port.take()?;
     *open -= 1;
     Some(port)
 }
 
 /// Clears the flag of this number.
-fn unqueue(queued: &mut Vec<bool>, number: u64)
-    ensures unset { IsUnset queued.old.items number queued.new.items }
-    ensures long { length queued.new.items ≡ length queued.old.items }
+fn unqueue(all: &mut Numbered<Place>, number: u64)
+    ensures unset { IsUnset (flags all.old) number (flags all.new) }
+    ensures same { seen all.new ≡ seen all.old }
+    ensures places { are_there all.new ≡ are_there all.old }
 {
-    let i = number as usize;
-    if i < queued.len() {
-        queued[i] = false;
+    if let Some(place) = all.get_mut(number as usize) {
+        place.is_queued = false;
     }
 }
 
@@ -76,8 +85,7 @@ impl Ports {
         let next = Vec::with_capacity(alloc, most)?;
         Ok(Ports {
             alloc,
-            all: Vec::new(alloc),
-            queued: Vec::new(alloc),
+            all: Numbered::new(alloc),
             turns,
             next,
             open: 0,
@@ -92,7 +100,7 @@ impl Ports {
         let _open = self.open;
     }
 
-    /// How many ports are in their slots: how many links are open, where none is taken out.
+    /// How many ports are in their places: how many links are open, where none is taken out.
     pub fn open(&self) -> usize
         ensures { result ≡ how_many_open self.now.all }
     {
@@ -108,47 +116,45 @@ impl Ports {
     pub fn len(&self) -> usize
         ensures { result ≡ length self.now.all }
     {
-        self.all.len()
+        self.all.next_number()
     }
 
-    /// A new port, and room for it, and for its number in the lists of who gets a turn. An `Err` changes no port.
-    pub fn prepare(&mut self) -> Result<Box<Port>, NoMemory>
-        ensures port { IfOk result (λ port. port.value ≡ new_port) }
-        ensures room { OnOk result (0 < self.new.room) }
-        ensures flags { OnOk result (0 < self.new.room_of_flags) }
-        ensures lists { OnOk result (HasRoomForOne self.new) }
-        ensures numbers { OnOk result (0 < self.new.room_of_numbers) }
-        ensures all { self.new.all ≡ self.old.all }
+    /// A new port at the next number, and room for the number in the lists of who gets a turn. An `Err` changes no port.
+    pub fn push(&mut self) -> Result<(), NoMemory>
+        ensures ok { OnOk result (self.new.all ≡ self.old.all ++ Some new_port ∷ []) }
+        ensures err { OnErr result (self.new.all ≡ self.old.all) }
         ensures turns { self.new.turns ≡ self.old.turns }
         ensures next { self.new.next ≡ self.old.next }
     {
+        let number = self.all.next_number();
+        if number == usize::MAX {
+            return Err(NoMemory);
+        }
         let port = Box::new(self.alloc, Port::new(self.alloc))?;
-        self.all.reserve(1)?;
-        self.queued.reserve(1)?;
         // For those that are open, this one, and those that are listed already: more may not come into a list.
         let open = self.open + 1;
-        self.turns.reserve(open + self.next.len())?;
-        self.next.reserve(open + self.turns.len())?;
+        self.turns.reserve(open.saturating_add(self.next.len()))?;
+        self.next.reserve(open.saturating_add(self.turns.len()))?;
         self.numbers.reserve(1)?;
-        Ok(port)
+        self.all.push(Place {
+            port: Some(port),
+            is_queued: false,
+        })?;
+        self.numbers.push_reserved(number as u64);
+        self.open = open;
+        Ok(())
     }
 
-    /// The new port is that of the next number.
-    pub fn push(&mut self, port: Box<Port>)
-        requires room { 0 < self.old.room }
-        requires flags { 0 < self.old.room_of_flags }
-        requires lists { HasRoomForOne self.old }
-        requires numbers { 0 < self.old.room_of_numbers }
-        requires new { port.value ≡ new_port }
-        ensures all { self.new.all ≡ self.old.all ++ Some new_port ∷ [] }
+    /// Takes the last port away, which is new: its number is the next again.
+    pub fn undo_push(&mut self)
+        requires { slice_get self.old.all (length self.old.all - 1) ≡ Some (Some new_port) }
+        ensures all { self.new.all ≡ take (length self.old.all - 1) self.old.all }
         ensures turns { self.new.turns ≡ self.old.turns }
         ensures next { self.new.next ≡ self.old.next }
     {
-        let number = self.all.len() as u64;
-        self.all.push_reserved(Some(port));
-        self.queued.push_reserved(false);
-        self.numbers.push_reserved(number);
-        self.open += 1;
+        self.all.undo_push();
+        self.numbers.pop();
+        self.open -= 1;
     }
 
     /// The numbers of all links that are open, and of some that are closed: at most twice as many as were open when the last
@@ -167,7 +173,8 @@ impl Ports {
             return;
         }
         let all = &self.all;
-        self.numbers.retain(|number| matches!(all.get(*number as usize), Some(Some(_))));
+        self.numbers
+            .retain(|number| all.get(*number as usize).is_some());
     }
 
     /// The numbers of the next round get their turns in this one.
@@ -201,7 +208,12 @@ impl Ports {
     {
         let has_work = port.has_work();
         self.queue(number, has_work);
-        self.all[number as usize] = Some(port);
+        let Some(place) = self.all.get_mut(number as usize) else {
+            unreachable!();
+        };
+        place.port = Some(port);
+        // How many there are says that one more can be counted.
+        let _all = self.all.next_number();
         self.open += 1;
     }
 
@@ -215,12 +227,27 @@ impl Ports {
         ensures turns { self.new.turns ≡ self.old.turns }
         ensures next { KeepsListed self.old.next self.new.next }
     {
-        let i = number as usize;
-        if !has_work || self.queued[i] {
+        if !has_work {
             return;
         }
-        self.queued[i] = true;
+        let Some(place) = self.all.get_mut(number as usize) else {
+            unreachable!();
+        };
+        if place.is_queued {
+            return;
+        }
+        place.is_queued = true;
         self.next.push_reserved(number);
+    }
+
+    /// The link of this number, whose port was taken out, is closed: its place goes. Takes no memory.
+    pub fn close(&mut self, number: u64)
+        requires { slice_get self.old.all number ≡ Some None }
+        ensures all { self.new.all ≡ self.old.all }
+        ensures turns { self.new.turns ≡ self.old.turns }
+        ensures next { self.new.next ≡ self.old.next }
+    {
+        self.all.take(number as usize);
     }
 
     /// Takes out the next port that gets a turn in this round: its number, and the port if the link isn't closed.
@@ -236,7 +263,7 @@ impl Ports {
         ensures over { IfNone result (self.new.turns ≡ []) }
     {
         let number = self.turns.pop()?;
-        unqueue(&mut self.queued, number);
+        unqueue(&mut self.all, number);
         let port = take_out(&mut self.all, &mut self.open, number);
         Some((number, port))
     }

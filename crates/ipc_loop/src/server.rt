@@ -12,6 +12,7 @@ ghost use Rattle.ipc_loop.specs.Hearing.{HearsAll};
 ghost use Rattle.ipc_loop.specs.Serving.{ServesAndOpens, NobodyIsOwed, NobodyIsDone};
 
 use crate::accepting::{Accepting, Bounds};
+use crate::keeping::{Keeping, forget_old};
 use crate::links::Host;
 use crate::pausing::Reasons;
 use crate::ports::Ports;
@@ -39,6 +40,9 @@ pub struct Server {
     /// When the next parked call is due, as it was found last.
     deadline: Option<u64>,
     shortage: Shortage,
+    keeping: Keeping,
+    /// How many events the last round recorded.
+    made: usize,
 }
 
 impl Model for Server {
@@ -47,7 +51,7 @@ impl Model for Server {
 
     ghost Value = { Server };
 
-    ghost view = { λ s. record { hub = s.hub; ports = s.ports.all; turns = s.ports.next; bounds = s.accepting.bounds; may_accept = s.accepting.may_accept; pausing = s.accepting.pausing } };
+    ghost view = { λ s. record { hub = s.hub; ports = s.ports.all; turns = s.ports.next; bounds = s.accepting.bounds; keeping = s.keeping; may_accept = s.accepting.may_accept; pausing = s.accepting.pausing } };
 
     ghost invariant = { λ s. IsResting s.hub s.ports s.accepting.bounds };
 }
@@ -62,7 +66,7 @@ impl Server {
         connections: usize,
         stop_after: Option<u64>,
     ) -> Result<Server, CoreFault>
-        ensures ok { IfOk result (λ server. server ≡ record { hub = new_hub config; ports = []; turns = []; bounds = record { most = connections; stop_after = stop_after }; may_accept = true; pausing = None }) }
+        ensures ok { IfOk result (λ server. server ≡ record { hub = new_hub config; ports = []; turns = []; bounds = record { most = connections; stop_after = stop_after }; keeping = record { records = None; bytes = None }; may_accept = true; pausing = None }) }
         ensures in_range { OnOk result (first_bad config.limits ≡ None) }
         ensures bad { IfErr result (λ fault. MatchOption (first_bad config.limits) (fault ≡ CoreFault.NoMemory) (λ field. fault ≡ CoreFault.BadConfig field)) }
     {
@@ -96,6 +100,8 @@ impl Server {
                 since: None,
                 moment: 0,
             },
+            keeping: Keeping::ALL,
+            made: 0,
         })
     }
 
@@ -104,6 +110,13 @@ impl Server {
         ensures { result ≡ is_over self.now }
     {
         self.accepting.has_all(&self.ports) && self.ports.open() == 0
+    }
+
+    /// Which records are kept from now on. At first all are.
+    pub fn keep(&mut self, keeping: Keeping)
+        ensures { self.new ≡ record self.old { keeping = keeping } }
+    {
+        self.keeping = keeping;
     }
 
     /// Whether for a second nothing could be recorded, though something waited to be: a hang-up or a tick found no memory in any
@@ -135,7 +148,8 @@ impl Server {
     }
 
     /// Waits until something is ready, and then gives each connection that is ready a turn, makes the ticks that are
-    /// due, and writes what was answered to any. An `Err` tells that the host can't wait; nothing was done then.
+    /// due, and writes what was answered to any. Of the oldest records it forgets those that are no longer to be kept, at most two
+    /// for each that the round before made. An `Err` tells that the host can't wait; nothing was done then.
     pub fn round<H: Host>(&mut self, host: &mut H) -> io::Result<()>
         ensures serves { ServesAndOpens self.old.hub (H.moves host.old) self.old.ports self.new.hub (H.moves host.new) self.new.ports }
         ensures rests { OnOk result (NobodyIsOwed self.new.hub (open_at self.new.ports)) }
@@ -147,6 +161,7 @@ impl Server {
         ensures hears { OnOk result (HearsAll (H.told host.old) (H.told host.new) (H.moves host.old) (H.moves host.new) self.old.ports self.new.ports self.new.may_accept) }
         ensures continues { Continues self.old.ports self.new.ports }
         ensures bounds { self.new.bounds ≡ self.old.bounds }
+        ensures keeping { self.new.keeping ≡ self.old.keeping }
     {
         let alloc = self.desk.alloc;
         let now = host.moment();
@@ -161,11 +176,13 @@ impl Server {
         self.ports.are_queued();
         let later = host.moment();
         self.desk.is_waiting = make_ticks(&mut self.hub, alloc, later).is_err();
+        forget_old(&mut self.hub, self.keeping, self.made);
         self.ports.start_round();
         give_turns(&mut self.hub, host, &mut self.ports, &mut self.desk);
         answer_all(&mut self.hub, host, &mut self.ports, &mut self.desk);
         self.desk.trim();
-        let is_short = self.desk.is_waiting && self.hub.recorded() == before;
+        self.made = self.hub.recorded().saturating_sub(before);
+        let is_short = self.desk.is_waiting && self.made == 0;
         self.shortage.note(is_short, later);
         Ok(())
     }

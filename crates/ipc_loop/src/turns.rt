@@ -18,8 +18,8 @@ use ipc_hub::{Conn, Hub};
 /// How many bytes of unfinished frames the hub keeps at most.
 const MOST_UNFINISHED: usize = 67_108_864;
 
-/// Puts the port back that was taken out. Or, where nothing else is left to do for it, closes its link, and drops the answers
-/// that nobody can take any more.
+/// Puts the port back that was taken out. Or, where nothing else is left to do for it, closes its link, of which nothing is left
+/// then, and drops the answers that nobody can take any more.
 fn settle<H: Host>(hub: &mut Hub, host: &mut H, ports: &mut Ports, number: u64, port: Box<Port>)
     requires out { slice_get ports.old.all number ≡ Some None }
     requires back { CanBePut ports.old number }
@@ -37,6 +37,7 @@ fn settle<H: Host>(hub: &mut Hub, host: &mut H, ports: &mut Ports, number: u64, 
     let Ok(()) = hub.discard(Conn(number)) else {
         unreachable!();
     };
+    ports.close(number);
     let ending = port.why().unwrap_or(Ending::NoMemory);
     host.close(number, port.requests(), ending);
 }

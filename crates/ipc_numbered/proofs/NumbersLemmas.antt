@@ -1,5 +1,5 @@
 -- What stands at the numbers when the older values change, and what that makes of the list of all.
-use Rattle.std.proofs.Common.{◌≡◌, ◌≢◌, ◌∙◌, ⊎_elim, nat_lt, Bool, true, false, cond, ℕ, zero, suc, ◌+◌, ◌-◌, take, ◌<◌, ◌≤◌, ◌==◌, List, [], ◌∷◌, ◌++◌, length, Option, Some, None, refl, sym, ap, subst, arith}
+use Rattle.std.proofs.Common.{◌≡◌, ◌≢◌, ◌∙◌, ⊎_elim, nat_lt, Bool, true, false, cond, ℕ, zero, suc, ◌+◌, ◌-◌, take, ◌<◌, ◌≤◌, ◌==◌, List, [], ◌∷◌, ◌++◌, length, slice_get, Option, Some, None, refl, sym, ap, subst, arith}
 use Rattle.std.specs.Ordering.{nat_cmp}
 use Rattle.std.specs.BTreeMap.{BTreeMap, keys, get, is_at}
 use Rattle.std.specs.Map.{lookup, keys_of}
@@ -107,6 +107,12 @@ at_behind [] ys n i e = ap (at ys) (let same : n ≡ i = omega arith in same)
 at_behind (x ∷ xs) ys zero i e = absurd (omega arith)
 at_behind (x ∷ xs) ys (suc n) i e = at_behind xs ys n i (omega arith)
 
+-- what stands there, empty or not
+slot_behind : {X : Type 0} (xs ys : List X) (n i : ℕ) → n ≡ length xs + i → slice_get (xs ++ ys) n ≡ slice_get ys i
+slot_behind [] ys n i e = ap (slice_get ys) (let same : n ≡ i = omega arith in same)
+slot_behind (x ∷ xs) ys zero i e = absurd (omega arith)
+slot_behind (x ∷ xs) ys (suc n) i e = slot_behind xs ys n i (omega arith)
+
 changed_before : {A : Type 0} (change : A → A) (xs ys : List A) (k : ℕ) → k < length xs → changed change (xs ++ ys) k ≡ changed change xs k ++ ys
 changed_before change [] ys k l = absurd (omega arith)
 changed_before change (x ∷ xs) ys zero l = refl
@@ -122,6 +128,10 @@ changed_behind change (x ∷ xs) ys (suc n) k e = ap (λ zs. x ∷ zs) (changed_
 -- a recent one
 pub recent_at : {V : Type 0} (m : BTreeMap ℕ V) (recent : List (Option V)) (base i number : ℕ) → number ≡ base + i → at (older_slots m base ++ recent) number ≡ at recent i
 recent_at m recent base i number e = at_behind (older_slots m base) recent number i (let k = older_length m base in omega arith)
+
+-- and its slot
+pub recent_slot : {V : Type 0} (m : BTreeMap ℕ V) (recent : List (Option V)) (base i number : ℕ) → number ≡ base + i → slice_get (older_slots m base ++ recent) number ≡ slice_get recent i
+recent_slot m recent base i number e = slot_behind (older_slots m base) recent number i (let k = older_length m base in omega arith)
 
 -- an older one
 older_at : {V : Type 0} (m : BTreeMap ℕ V) (n i : ℕ) → i < n → at (older_slots m n) i ≡ get nat_cmp m i

@@ -129,7 +129,7 @@ filled_push [] x = refl
 filled_push (None ∷ xs) x = filled_push xs x
 filled_push (Some y ∷ xs) x = let rest : how_many_filled (xs ++ Some x ∷ []) ≡ how_many_filled xs + 1 = filled_push xs x in omega arith
 
-filled_more : {X : Type 0} (xs : List (Option X)) → how_many_filled (xs ++ None ∷ []) ≡ how_many_filled xs
+pub filled_more : {X : Type 0} (xs : List (Option X)) → how_many_filled (xs ++ None ∷ []) ≡ how_many_filled xs
 filled_more [] = refl
 filled_more (None ∷ xs) = filled_more xs
 filled_more (Some y ∷ xs) = ap suc (filled_more xs)
@@ -174,6 +174,14 @@ filled_changed (None ∷ xs) zero x y e = absurd cc
 filled_changed (Some z ∷ xs) zero x y e = refl
 filled_changed (None ∷ xs) (suc n) x y e = filled_changed xs n x y e
 filled_changed (Some z ∷ xs) (suc n) x y e = ap suc (filled_changed xs n x y e)
+
+-- a value is put where none was
+pub filled_put : {X : Type 0} (xs : List (Option X)) (n : ℕ) (x : X) → slice_get xs n ≡ Some None → how_many_filled (changed (λ o. Some x) xs n) ≡ how_many_filled xs + 1
+filled_put [] n x e = absurd cc
+filled_put (Some y ∷ xs) zero x e = absurd cc
+filled_put (None ∷ xs) zero x e = omega arith
+filled_put (None ∷ xs) (suc n) x e = filled_put xs n x e
+filled_put (Some y ∷ xs) (suc n) x e = let rest : how_many_filled (changed (λ o. Some x) xs n) ≡ how_many_filled xs + 1 = filled_put xs n x e in omega arith
 
 -- ---- how many slots there are
 

@@ -55,9 +55,8 @@ impl<V: Drop> NumberedBoxes<V> {
         Some(value.as_ref())
     }
 
-    /// Gives the value the next number. An `Err` changes nothing.
+    /// Gives the value the next number. An `Err` changes nothing; it comes behind the last number too.
     pub fn push(&mut self, value: V) -> Result<(), NoMemory>
-        requires { length self.old + 1 < 2 ^ 64 }
         ensures ok { OnOk result (self.new ≡ self.old ++ Some value ∷ []) }
         ensures err { OnErr result (self.new ≡ self.old) }
     {

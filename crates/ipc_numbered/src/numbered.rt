@@ -1,6 +1,6 @@
 //! Values at their numbers: the newest in slots, the older ones in a map.
 
-ghost use Rattle.std.specs.Prelude.{◌≡◌, ℕ, ◌+◌, ◌<◌, ◌≤◌, ◌-◌, ◌^◌, [], ◌∷◌, ◌++◌, length, take, Some, None, false, OnOk, OnErr};
+ghost use Rattle.std.specs.Prelude.{◌≡◌, ℕ, ◌+◌, ◌<◌, ◌≤◌, ◌-◌, ◌^◌, [], ◌∷◌, ◌++◌, length, take, slice_get, Some, None, false, OnOk, OnErr};
 ghost use Rattle.std.specs.BTreeMap.{get};
 ghost use Rattle.std.specs.Option.{OnSome, option_copied, option_copied_mut};
 ghost use Rattle.std.specs.Ordering.{nat_cmp};
@@ -71,13 +71,47 @@ impl<V: Drop> Numbered<V> {
         }
     }
 
-    /// Gives the value the next number. An `Err` changes nothing.
+    /// Gives the value the next number. An `Err` changes nothing; it comes behind the last number too.
     pub fn push(&mut self, value: V) -> Result<(), NoMemory>
-        requires { length self.old + 1 < 2 ^ 64 }
         ensures ok { OnOk result (self.new ≡ self.old ++ Some value ∷ []) }
         ensures err { OnErr result (self.new ≡ self.old) }
     {
+        if self.next_number() == usize::MAX {
+            return Err(NoMemory);
+        }
         self.recent.push(value)?;
+        Ok(())
+    }
+
+    /// Passes over the next number, which has no value. An `Err` changes nothing; it comes behind the last number too.
+    pub fn push_empty(&mut self) -> Result<(), NoMemory>
+        ensures ok { OnOk result (self.new ≡ self.old ++ None ∷ []) }
+        ensures err { OnErr result (self.new ≡ self.old) }
+    {
+        if self.next_number() == usize::MAX {
+            return Err(NoMemory);
+        }
+        self.recent.push_empty()?;
+        settle(
+            &mut self.older,
+            &mut self.base,
+            &mut self.recent,
+            &mut self.refused,
+        );
+        Ok(())
+    }
+
+    /// Gives a value to a number that was given before, and has none now. An `Err` changes nothing.
+    pub fn put(&mut self, number: usize, value: V) -> Result<(), NoMemory>
+        requires { slice_get self.old number ≡ Some None }
+        ensures ok { OnOk result (self.new ≡ changed (λ x. Some value) self.old number) }
+        ensures err { OnErr result (self.new ≡ self.old) }
+    {
+        let Some(slot) = number.checked_sub(self.base) else {
+            self.older.insert(number, value)?;
+            return Ok(());
+        };
+        self.recent.put(slot, value);
         Ok(())
     }
 
@@ -211,7 +245,7 @@ fn move_first<V: Drop>(
     match older.insert(number, value) {
         Ok(_) => Ok(()),
         Err(refused) => {
-            recent.put_first(refused.value.1);
+            recent.put(0, refused.value.1);
             Err(NoMemory)
         }
     }

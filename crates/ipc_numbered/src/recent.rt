@@ -95,6 +95,15 @@ impl<V: Drop> Recent<V> {
         Ok(())
     }
 
+    /// One slot more, which is empty. An `Err` changes nothing.
+    pub fn push_empty(&mut self) -> Result<(), NoMemory>
+        ensures ok { OnOk result (self.new ≡ self.old ++ None ∷ []) }
+        ensures err { OnErr result (self.new ≡ self.old) }
+    {
+        self.slots.push(None)?;
+        Ok(())
+    }
+
     /// The last slot goes. False if there is none. Takes no memory.
     pub fn pop(&mut self) -> bool
         ensures rest { self.new ≡ take (length self.old - 1) self.old }
@@ -124,12 +133,12 @@ impl<V: Drop> Recent<V> {
         Some(value)
     }
 
-    /// Puts a value into the first slot, which is empty. Takes no memory.
-    pub fn put_first(&mut self, value: V)
-        requires { slice_get self.old 0 ≡ Some None }
-        ensures { self.new ≡ changed (λ x. Some value) self.old 0 }
+    /// Puts a value into the slot, which is empty. Takes no memory.
+    pub fn put(&mut self, slot: usize, value: V)
+        requires { slice_get self.old slot ≡ Some None }
+        ensures { self.new ≡ changed (λ x. Some value) self.old slot }
     {
-        self.slots[self.gone] = Some(value);
+        self.slots[self.gone + slot] = Some(value);
         self.filled += 1;
     }
 

@@ -18,9 +18,13 @@ place name = record (required name) { value_names = 1 }
 abbrev pub limit_options : List Rule
 limit_options = value_option (codes "msg-max") ∷ value_option (codes "msgsize-max") ∷ value_option (codes "queues-max") ∷ []
 
--- `[--one-thread] [--connections N] [--workers N] [--stop-after N] [--log FILE] [--socket-mode OCTAL]`
+-- `[--one-thread] [--connections N] [--keep-records N] [--keep-bytes N] [--keep-all]`
+abbrev pub thread_options : List Rule
+thread_options = flag (codes "one-thread") ∷ value_option (codes "connections") ∷ value_option (codes "keep-records") ∷ value_option (codes "keep-bytes") ∷ flag (codes "keep-all") ∷ []
+
+-- these, and `[--workers N] [--stop-after N] [--log FILE] [--socket-mode OCTAL]`
 abbrev pub server_options : List Rule
-server_options = flag (codes "one-thread") ∷ value_option (codes "connections") ∷ value_option (codes "workers") ∷ value_option (codes "stop-after") ∷ value_option (codes "log") ∷ value_option (codes "socket-mode") ∷ []
+server_options = thread_options ++ value_option (codes "workers") ∷ value_option (codes "stop-after") ∷ value_option (codes "log") ∷ value_option (codes "socket-mode") ∷ []
 
 -- `script`, with the limits
 abbrev pub script_shape : Shape

@@ -1,6 +1,7 @@
 -- What a server is told.
-use Rattle.std.specs.Prelude.{◌≤◌, ℕ, List, Option}
+use Rattle.std.specs.Prelude.{◌≤◌, ⊤, ℕ, List, Option, MatchOption}
 use Rattle.ipc_policy.specs.declared.config.Limits.{Limits}
+use Rattle.ipc_program.specs.declared.tasks.Kept.{Kept}
 use Rattle.ipc_program.specs.declared.tasks.Threading.{Threading}
 use Rattle.ipc_program.specs.declared.tasks.Threading.TheVariants.{OneThread, Workers}
 
@@ -15,7 +16,11 @@ pub record Serving : Type 0 where
   pub log : Option (List ℕ)
   pub limits : Limits
 
--- 1 to 64 workers; room for a connection or more
+-- all records, or 1,000 or more
+abbrev pub IsEnough : Kept → Type 0
+IsEnough kept = MatchOption kept.records ⊤ (λ records. 1000 ≤ records)
+
+-- 1 to 64 workers; room for a connection or more, and enough records
 abbrev pub IsWithin : Threading → Type 0
 IsWithin (Workers workers) = (1 ≤ workers) × (workers ≤ 64)
-IsWithin (OneThread connections) = 1 ≤ connections
+IsWithin (OneThread connections kept) = (1 ≤ connections) × IsEnough kept

@@ -1,5 +1,5 @@
 -- The task that the program's words ask for.
-use Rattle.std.specs.Prelude.{◌-◌, ◌^◌, ◌&&◌, ℕ, Bool, nat_le, not, List, Option, Ok, Err, codes, is_some, unwrap_or, if◌then◌else◌}
+use Rattle.std.specs.Prelude.{◌-◌, ◌^◌, ◌&&◌, ◌||◌, ℕ, Bool, nat_le, not, List, Option, Some, None, Ok, Err, codes, is_some, unwrap_or, if◌then◌else◌}
 use Rattle.std.specs.Option.{option_map_or}
 use Rattle.std.specs.Str.{bytes_eq}
 use Rattle.clap.specs.Simple.{subcommand_of}
@@ -11,6 +11,7 @@ use Rattle.ipc_words.specs.Readings.{Meaning, ◌>>=◌, is_given, of_argument, 
 use Rattle.ipc_program.specs.Addresses.{is_unix, mode_of_word}
 use Rattle.ipc_program.specs.Options.{app_of_program}
 use Rattle.ipc_program.specs.Servers.{Serving}
+use Rattle.ipc_program.specs.declared.tasks.Kept.{Kept}
 use Rattle.ipc_program.specs.declared.tasks.Threading.{Threading}
 use Rattle.ipc_program.specs.declared.tasks.Threading.TheVariants.{OneThread, Workers}
 use Rattle.ipc_program.specs.declared.tasks.Task.{Task}
@@ -52,12 +53,44 @@ connections_given rows = limit_at 10000 (codes "connections") rows >>= with_room
 abbrev pub has : Text → List Row → Bool
 has option rows = is_some (first_of option rows)
 
--- one thread without workers, or workers without a number of connections
+-- the number of an option, of 64 bits, and where it isn't given the standard one
+abbrev pub number_at : ℕ → Text → List Row → Meaning ℕ
+number_at standard option rows = option_at (decimal_within (2 ^ 64 - 1)) option rows >>= λ given. Ok (unwrap_or given standard)
+
+-- 1,000 records or more
+abbrev pub enough : ℕ → Meaning ℕ
+enough records = if nat_le 1000 records then Ok records else Err (codes "keep-records")
+
+-- how many of the newest records one thread keeps, and about how many bytes of them: where it isn't told, 1,000,000 records
+-- and 256 MiB
+abbrev pub newest_given : List Row → Meaning Kept
+newest_given rows =
+    number_at 1000000 (codes "keep-records") rows >>= enough >>= λ records.
+    number_at 268435456 (codes "keep-bytes") rows >>= λ bytes.
+    Ok (record { records = Some records; bytes = Some bytes })
+
+-- all records, or these
+abbrev pub kept_given : List Row → Meaning Kept
+kept_given rows =
+    if is_given (codes "keep-all") rows
+    then (if has (codes "keep-records") rows || has (codes "keep-bytes") rows then Err (codes "keep-all") else Ok (record { records = None; bytes = None }))
+    else newest_given rows
+
+-- workers, without what one thread alone is told
+abbrev pub crew_given : List Row → Meaning Threading
+crew_given rows =
+    if has (codes "connections") rows then Err (codes "connections")
+    else (if has (codes "keep-records") rows then Err (codes "keep-records")
+    else (if has (codes "keep-bytes") rows then Err (codes "keep-bytes")
+    else (if is_given (codes "keep-all") rows then Err (codes "keep-all")
+    else workers_given rows >>= λ workers. Ok (Workers workers))))
+
+-- one thread without workers, or workers
 abbrev pub threading_given : List Row → Meaning Threading
 threading_given rows =
     if is_given (codes "one-thread") rows
-    then (if has (codes "workers") rows then Err (codes "one-thread") else connections_given rows >>= λ connections. Ok (OneThread connections))
-    else (if has (codes "connections") rows then Err (codes "connections") else workers_given rows >>= λ workers. Ok (Workers workers))
+    then (if has (codes "workers") rows then Err (codes "one-thread") else connections_given rows >>= λ connections. kept_given rows >>= λ kept. Ok (OneThread connections kept))
+    else crew_given rows
 
 -- the permission bits of a socket's file, which stand at no other address, and where none are given 0600
 abbrev pub socket_mode_given : Text → List Row → Meaning ℕ

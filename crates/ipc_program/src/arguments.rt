@@ -6,13 +6,13 @@ ghost use Rattle.clap.specs.Walk.{first_of, rule_of, rows_of};
 ghost use Rattle.clap.specs.Words.{found_of};
 ghost use Rattle.ipc_words.specs.Grammar.{flag};
 ghost use Rattle.ipc_words.specs.Readings.{Reads, is_given};
-ghost use Rattle.ipc_program.specs.Options.{Adds, IsSubcommand, app_of_program, limit_options, place, script_shape, serve_shape, server_options, value_option};
-ghost use Rattle.ipc_program.specs.Servers.{IsWithin};
-ghost use Rattle.ipc_program.specs.Tasks.{connections_given, has, limits_given, threading_given, serving_given, socket_mode_given, task_asked, task_given, task_of, workers_given};
+ghost use Rattle.ipc_program.specs.Options.{Adds, IsSubcommand, app_of_program, limit_options, place, script_shape, serve_shape, server_options, thread_options, value_option};
+ghost use Rattle.ipc_program.specs.Servers.{IsEnough, IsWithin};
+ghost use Rattle.ipc_program.specs.Tasks.{connections_given, crew_given, has, kept_given, limits_given, newest_given, threading_given, serving_given, socket_mode_given, task_asked, task_given, task_of, workers_given};
 
 use crate::addresses::{is_unix, read_mode};
 use crate::fault::ProgramFault;
-use crate::tasks::{Serving, Task, Threading};
+use crate::tasks::{Kept, Serving, Task, Threading};
 use clap::error::ErrorKind;
 use clap::{Arg, ArgAction, ArgMatches, Command};
 use ipc_core::Limits;
@@ -24,6 +24,7 @@ use std::convert::AsStr;
 const USAGE: &str = "\
 mqserve [script [--msg-max <N>] [--msgsize-max <N>] [--queues-max <N>]]
        mqserve serve <USERS> <ADDRESS> [--one-thread [--connections <N>] | --workers <N>]
+                     [--keep-records <N>] [--keep-bytes <N>] [--keep-all]
                      [--stop-after <N>] [--log <FILE>] [--socket-mode <OCTAL>]
                      [--msg-max <N>] [--msgsize-max <N>] [--queues-max <N>]";
 
@@ -34,6 +35,14 @@ const ADDRESS_HELP: &str = "Where to listen, as 127.0.0.1:7000 or unix:/run/mqse
 const ONE_THREAD_HELP: &str = "Serve all connections on one thread, without workers";
 
 const CONNECTIONS_HELP: &str = "With --one-thread: connections at a time [default: 10000]";
+
+const KEEP_RECORDS_HELP: &str =
+    "With --one-thread: newest records that are kept, 1000 or more [default: 1000000]";
+
+const KEEP_BYTES_HELP: &str =
+    "With --one-thread: bytes of records that are kept, about [default: 268435456]";
+
+const KEEP_ALL_HELP: &str = "With --one-thread: keep all records";
 
 const WORKERS_HELP: &str = "Connections that are served side by side, 1 to 64 [default: 4]";
 
@@ -58,20 +67,29 @@ const MOST_WORKERS: u32 = 64;
 /// How many connections one thread serves that isn't told how many.
 const STANDARD_CONNECTIONS: u32 = 10_000;
 
+/// How many of the newest records one thread keeps that isn't told how many, and how many at least.
+const STANDARD_RECORDS: u64 = 1_000_000;
+
+const FEWEST_RECORDS: u64 = 1_000;
+
+/// About how many bytes of records one thread keeps that isn't told how many: 256 MiB.
+const STANDARD_BYTES: u64 = 268_435_456;
+
 /// The permission bits of a socket's file: its owner alone may connect.
 const STANDARD_MODE: u32 = 0o600;
 
 /// The task that the program's words ask for, of which the first is its name: `mqserve` alone, `mqserve script`, or
-/// `mqserve serve USERS ADDRESS`, with `--one-thread [--connections N]` or `[--workers N]`, and with `[--stop-after N]
-/// [--log FILE] [--socket-mode OCTAL]`; behind the last two the limits, `[--msg-max N] [--msgsize-max N] [--queues-max N]`. A limit that
+/// `mqserve serve USERS ADDRESS`, with `--one-thread [--connections N] [--keep-records N] [--keep-bytes N] [--keep-all]` or
+/// `[--workers N]`, and with `[--stop-after N] [--log FILE] [--socket-mode OCTAL]`; behind the last two the limits, `[--msg-max N] [--msgsize-max N] [--queues-max N]`. A limit that
 /// isn't given is the standard one, and none is tested against its range. `help` stands at the end of the help text.
 ///
 /// # Errors
 ///
 /// `Arguments` where the words are anything else, an N isn't decimal without sign and leading zeros, at most
-/// 4,294,967,295, or of `--stop-after` 18,446,744,073,709,551,615, that of `--workers` isn't 1 to 64, that of
-/// `--connections` is 0, or OCTAL isn't a zero and three octal digits; where `--workers` stands beside `--one-thread`,
-/// `--connections` without it, or `--socket-mode` at an address that isn't `unix:PATH`; and where they ask for help or the
+/// 4,294,967,295, or of `--stop-after` and the two of records 18,446,744,073,709,551,615, that of `--workers` isn't 1 to 64,
+/// that of `--connections` is 0, that of `--keep-records` is below 1,000, or OCTAL isn't a zero and three octal digits; where
+/// `--workers` stands beside `--one-thread`, `--connections` or what tells of records without it, `--keep-all` beside the other
+/// two, or `--socket-mode` at an address that isn't `unix:PATH`; and where they ask for help or the
 /// version.
 pub fn task_of_words<'a, S: AsStr>(
     alloc: Global,
@@ -112,6 +130,12 @@ fn what_is_wanted(fault: WordFault) -> &'static str {
         WordFault::BadValue("one-thread") => "it has no workers",
         WordFault::BadValue("connections") =>
             "N is 1 to 4294967295, decimal, without sign and leading zeros, and stands with --one-thread",
+        WordFault::BadValue("keep-records") =>
+            "N is 1000 or more, decimal, without sign and leading zeros, and stands with --one-thread",
+        WordFault::BadValue("keep-bytes") =>
+            "N is decimal, without sign and leading zeros, and stands with --one-thread",
+        WordFault::BadValue("keep-all") =>
+            "it stands with --one-thread, without --keep-records and --keep-bytes",
         WordFault::BadValue("socket-mode") =>
             "OCTAL is a zero and three octal digits, and ADDRESS is unix:PATH",
         WordFault::BadValue("stop-after") =>
@@ -155,13 +179,24 @@ fn serve<'a>(alloc: Global, help: &'a str) -> Result<Command<'a>, AllocError>
     with_limits(alloc, serve)
 }
 
-/// Adds the options of a server.
-fn with_server_options<'a>(alloc: Global, command: Command<'a>) -> Result<Command<'a>, AllocError>
-    ensures { IfOk result (λ added. Adds server_options command.entry added) }
+/// Adds what one thread is told.
+fn with_thread_options<'a>(alloc: Global, command: Command<'a>) -> Result<Command<'a>, AllocError>
+    ensures { IfOk result (λ added. Adds thread_options command.entry added) }
 {
     let command = command
         .arg(flag(alloc, "one-thread", ONE_THREAD_HELP))?
         .arg(value(alloc, "connections", "N", CONNECTIONS_HELP))?
+        .arg(value(alloc, "keep-records", "N", KEEP_RECORDS_HELP))?
+        .arg(value(alloc, "keep-bytes", "N", KEEP_BYTES_HELP))?
+        .arg(flag(alloc, "keep-all", KEEP_ALL_HELP))?;
+    Ok(command)
+}
+
+/// Adds the options of a server.
+fn with_server_options<'a>(alloc: Global, command: Command<'a>) -> Result<Command<'a>, AllocError>
+    ensures { IfOk result (λ added. Adds server_options command.entry added) }
+{
+    let command = with_thread_options(alloc, command)?
         .arg(value(alloc, "workers", "N", WORKERS_HELP))?
         .arg(value(alloc, "stop-after", "N", STOP_AFTER_HELP))?
         .arg(value(alloc, "log", "FILE", LOG_HELP))?
@@ -280,12 +315,63 @@ fn threading_of(options: &ArgMatches) -> Result<Threading, WordFault>
         if is_option_given(options, "workers") {
             return Err(WordFault::BadValue("one-thread"));
         }
-        return Ok(Threading::OneThread(connections_of(options)?));
+        let connections = connections_of(options)?;
+        return Ok(Threading::OneThread(connections, kept_of(options)?));
     }
+    crew_of(options)
+}
+
+/// Workers. What one thread alone is told is refused.
+fn crew_of(options: &ArgMatches) -> Result<Threading, WordFault>
+    ensures reads { Reads (crew_given (rows_of (found_of options.now))) result }
+    ensures in_range { IfOk result IsWithin }
+{
     if is_option_given(options, "connections") {
         return Err(WordFault::BadValue("connections"));
     }
+    if is_option_given(options, "keep-records") {
+        return Err(WordFault::BadValue("keep-records"));
+    }
+    if is_option_given(options, "keep-bytes") {
+        return Err(WordFault::BadValue("keep-bytes"));
+    }
+    if is_flag_given(options, "keep-all") {
+        return Err(WordFault::BadValue("keep-all"));
+    }
     Ok(Threading::Workers(workers_of(options)?))
+}
+
+/// How many records one thread keeps.
+fn kept_of(options: &ArgMatches) -> Result<Kept, WordFault>
+    ensures reads { Reads (kept_given (rows_of (found_of options.now))) result }
+    ensures in_range { IfOk result IsEnough }
+{
+    if !is_flag_given(options, "keep-all") {
+        return newest_of(options);
+    }
+    if is_option_given(options, "keep-records") || is_option_given(options, "keep-bytes") {
+        return Err(WordFault::BadValue("keep-all"));
+    }
+    Ok(Kept {
+        records: None,
+        bytes: None,
+    })
+}
+
+/// How many of the newest records one thread keeps, and about how many bytes of them.
+fn newest_of(options: &ArgMatches) -> Result<Kept, WordFault>
+    ensures reads { Reads (newest_given (rows_of (found_of options.now))) result }
+    ensures in_range { IfOk result IsEnough }
+{
+    let records = optional_number(options, "keep-records")?.unwrap_or(STANDARD_RECORDS);
+    if records < FEWEST_RECORDS {
+        return Err(WordFault::BadValue("keep-records"));
+    }
+    let bytes = optional_number(options, "keep-bytes")?.unwrap_or(STANDARD_BYTES);
+    Ok(Kept {
+        records: Some(records),
+        bytes: Some(bytes),
+    })
 }
 
 /// Whether a flag was given. Its value is the text `true` or `false`.

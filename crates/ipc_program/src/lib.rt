@@ -8,4 +8,4 @@ mod tasks;
 
 pub use arguments::task_of_words;
 pub use fault::ProgramFault;
-pub use tasks::{Serving, Task, Threading};
+pub use tasks::{Kept, Serving, Task, Threading};

@@ -32,10 +32,18 @@ pub struct Serving {
 /// On what threads connections are served.
 #[derive(Clone, Copy, PartialEq, Eq, Drop)]
 pub enum Threading {
-    /// So many workers, 1 to 64, of which each serves one connection at a time.
+    /// So many workers, 1 to 64, of which each serves one connection at a time. They keep all records.
     Workers(usize),
-    /// One thread, which serves so many connections at most at a time, 1 or more.
-    OneThread(usize),
+    /// One thread, which serves so many connections at most at a time, 1 or more, and keeps so many records.
+    OneThread(usize, Kept),
+}
+
+/// How many of the newest records are kept, and about how many bytes of them; without a bound, all.
+#[derive(Clone, Copy, PartialEq, Eq, Drop)]
+pub struct Kept {
+    /// At least 1,000.
+    pub records: Option<u64>,
+    pub bytes: Option<u64>,
 }
 
 impl Model for Serving {

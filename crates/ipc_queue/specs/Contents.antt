@@ -8,10 +8,10 @@ use Rattle.ipc_queue.specs.Tickets.{without_next}
 -- the tickets that entered and did not leave, in the order of entry
 abbrev pub present : Past → List Ticket
 present Nothing = []
-present (Entered' ticket _ _ past) = present past ++ ticket ∷ []
+present (Entered' ticket _ _ past) = present past ++ ticket.value ∷ []
 present (Left' _ _ past) = without_next (present past)
 
--- the places of the tickets of this priority, in the order of entry
-abbrev pub places_of : ℕ → List Ticket → List ℕ
-places_of priority [] = []
-places_of priority (ticket ∷ tickets) = if priority == ticket.priority then ticket.place ∷ places_of priority tickets else places_of priority tickets
+-- the tickets of this priority, in the order of entry
+abbrev pub of_priority : ℕ → List Ticket → List Ticket
+of_priority priority [] = []
+of_priority priority (ticket ∷ tickets) = if priority == ticket.priority then ticket ∷ of_priority priority tickets else of_priority priority tickets

@@ -1,7 +1,8 @@
 //! The messages of a queue.
 
 ghost use Rattle.std.specs.Prelude.{◌≡◌, ◌<◌, ◌^◌, [], ◌∷◌, ◌++◌, length, Some, IfOk, OnOk, OnErr};
-ghost use Rattle.ipc_queue.specs.Tickets.{next_place, without_next};
+ghost use Rattle.std.specs.Option.{option_copied};
+ghost use Rattle.ipc_queue.specs.Tickets.{next_ticket, next_place, without_next};
 
 use crate::queue::Ticket;
 use ipc_terms::NoMemory;
@@ -16,17 +17,17 @@ enum Past {
     /// None entered yet.
     Nothing,
     /// After all else this one entered.
-    Entered(Ticket, Snapshot<Snapshot<Past>>),
+    Entered(Snapshot<Ticket>, Snapshot<Snapshot<Past>>),
     /// After all else the oldest one of the greatest priority left.
     Left(Snapshot<Snapshot<Past>>),
 }
 
-/// Messages in order of entry, of which the oldest one of the greatest priority comes out first. Their places
-/// stand in buckets by priority, so each call takes as long as to find a bucket. The order of entry over all
-/// priorities is kept by nothing at run time; proofs read it from the past.
+/// Messages in order of entry, of which the oldest one of the greatest priority comes out first. They stand in
+/// buckets by priority, so each call takes as long as to find a bucket. The order of entry over all priorities is
+/// kept by nothing at run time; proofs read it from the past.
 #[derive(Drop)]
 pub struct Contents {
-    buckets: Buckets,
+    buckets: Buckets<Ticket>,
     count: usize,
     past: Snapshot<Past>,
 }
@@ -38,11 +39,11 @@ impl Model for Contents {
 
     ghost Value = { List Ticket };
 
-    ghost use Rattle.ipc_queue.specs.Contents.{present, places_of};
+    ghost use Rattle.ipc_queue.specs.Contents.{present, of_priority};
 
     ghost view = { λ c. present c.past.value };
 
-    ghost invariant = { λ c. Holds c.buckets (λ priority. places_of priority (present c.past.value)) × (c.count ≡ length (present c.past.value)) };
+    ghost invariant = { λ c. Holds c.buckets (λ priority. of_priority priority (present c.past.value)) × (c.count ≡ length (present c.past.value)) };
 }
 
 impl Contents {
@@ -64,12 +65,12 @@ impl Contents {
         self.count
     }
 
-    /// The place of the one that comes out next.
-    pub fn next(&self) -> Option<u64>
-        ensures { result ≡ next_place self.now }
+    /// The one that comes out next.
+    pub fn next(&self) -> Option<&Ticket>
+        ensures { option_copied result ≡ next_ticket self.now }
     {
-        let (_, place) = self.buckets.greatest()?;
-        Some(place)
+        let (_, ticket) = self.buckets.greatest()?;
+        Some(ticket)
     }
 
     /// A message enters behind all others. An `Err` leaves all as it was.
@@ -78,38 +79,42 @@ impl Contents {
         ensures ok { OnOk result (self.new ≡ self.old ++ ticket ∷ []) }
         ensures err { OnErr result (self.new ≡ self.old) }
     {
-        self.buckets.enter(ticket.priority as u64, ticket.place)?;
+        let entered = Snapshot::of(&ticket);
+        self.buckets.enter(ticket.priority as u64, ticket)?;
         self.count += 1;
-        self.past = Snapshot::of(&Past::Entered(ticket, Snapshot::of(&self.past)));
+        self.past = Snapshot::of(&Past::Entered(entered, Snapshot::of(&self.past)));
         Ok(())
     }
 
-    /// The next one leaves. Takes no memory.
+    /// The next one leaves, and gives its place. Takes no memory.
     pub fn pop(&mut self) -> Option<u64>
         ensures next { result ≡ next_place self.old }
         ensures rest { self.new ≡ without_next self.old }
     {
-        let place = self.buckets.leave_greatest()?;
+        let ticket = self.buckets.leave_greatest()?;
         self.count -= 1;
         self.past = Snapshot::of(&Past::Left(Snapshot::of(&self.past)));
-        Some(place)
+        Some(ticket.place)
     }
 
-    /// The next one leaves, and then another enters behind what is left. An `Err` leaves all as it was.
+    /// The next one leaves, and gives its place, and then another enters behind what is left. An `Err` leaves all as
+    /// it was.
     pub fn pop_and_push(&mut self, ticket: Ticket) -> Result<u64, NoMemory>
         requires { 0 < length self.old }
         ensures next { IfOk result (λ place. Some place ≡ next_place self.old) }
         ensures ok { OnOk result (self.new ≡ without_next self.old ++ ticket ∷ []) }
         ensures err { OnErr result (self.new ≡ self.old) }
     {
-        let Some((priority, place)) = self.buckets.greatest() else {
+        let Some((priority, next)) = self.buckets.greatest() else {
             unreachable!();
         };
+        let place = next.place;
+        let entered = Snapshot::of(&ticket);
         // It enters first, since that alone can fail; the next one is still the first of its bucket.
-        self.buckets.enter(ticket.priority as u64, ticket.place)?;
+        self.buckets.enter(ticket.priority as u64, ticket)?;
         self.buckets.leave(priority);
         let left = Snapshot::of(&Past::Left(Snapshot::of(&self.past)));
-        self.past = Snapshot::of(&Past::Entered(ticket, Snapshot::of(&left)));
+        self.past = Snapshot::of(&Past::Entered(entered, Snapshot::of(&left)));
         Ok(place)
     }
 }

@@ -1,25 +1,38 @@
 //! The queue.
 
 ghost use Rattle.std.specs.Prelude.{◌≡◌, ◌<◌, ◌≤◌, ◌^◌, [], None, is_none, length, OnOk, OnErr, IfOk, IsOk};
-ghost use Rattle.std.specs.Option.{option_map};
+ghost use Rattle.std.specs.Option.{option_copied, option_map};
 ghost use Rattle.ipc_terms.specs.Lists.{first};
-ghost use Rattle.ipc_queue.specs.Tickets.{IsQueue, next_place, is_full_of, send_outcome, sent, receive_outcome, received, is_parked, withdrawn, with_registration, without_registration};
+ghost use Rattle.ipc_queue.specs.Tickets.{IsQueue, next_ticket, next_place, is_full_of, fired, outcome_by_receiver, send_outcome, sent_to, sent, receive_outcome, received, is_parked, withdrawn, with_registration, without_registration};
 
 use crate::contents::Contents;
-use ipc_terms::{Desc, NoMemory, Sid};
+use ipc_terms::{Bytes, Desc, NoMemory, Sid};
 use ipc_waiters::{Waiters, Waiting};
-use std::alloc::Global;
+use std::alloc::{AllocError, Global};
 use std::marker::Model;
 
-/// A message: the place of its send in the trail, and its priority.
-#[derive(Clone, Copy, PartialEq, Eq)]
+/// A message: the place of its send in the trail, its priority, and its share of the bytes.
+#[derive(Drop)]
 pub struct Ticket {
     pub place: u64,
     pub priority: u32,
+    pub bytes: Bytes,
+}
+
+impl Clone for Ticket {
+    ghost is_clone = { λ ticket copy. copy ≡ ticket };
+
+    fn clone(&self) -> Result<Ticket, AllocError> {
+        Ok(Ticket {
+            place: self.place,
+            priority: self.priority,
+            bytes: self.bytes.clone()?,
+        })
+    }
 }
 
 /// A send that waits for room.
-#[derive(Clone, Copy)]
+#[derive(Drop)]
 pub struct ParkedSend {
     /// Its message.
     pub ticket: Ticket,
@@ -65,6 +78,7 @@ pub enum ReceiveOutcome {
 /// served first.
 #[derive(Drop)]
 pub struct Queue {
+    alloc: Global,
     maxmsg: u32,
     msgsize: u32,
     contents: Contents,
@@ -94,12 +108,37 @@ impl Queue {
         ensures { result ≡ record { maxmsg = maxmsg; msgsize = msgsize; tickets = []; senders = []; receivers = []; registered = None } }
     {
         Queue {
+            alloc,
             maxmsg,
             msgsize,
             contents: Contents::new(alloc),
             senders: Waiters::new(alloc),
             receivers: Waiters::new(alloc),
             registered: None,
+        }
+    }
+
+    /// `who` sends a message without bytes, as by `send_message`.
+    #[tactic(auto, unfolding(crate::specs::Tickets::send_outcome, crate::specs::Tickets::sent))]
+    pub fn send(&mut self, ticket: u64, priority: u32, who: Sid) -> Result<SendOutcome, NoMemory>
+        ensures outcome { IfOk result (λ outcome. outcome ≡ send_outcome self.old) }
+        ensures ok { OnOk result (self.new ≡ sent (record { place = ticket; priority = priority; bytes = [] }) who self.old) }
+        ensures err { OnErr result (self.new ≡ self.old) }
+        ensures without_memory { 0 < length self.old.receivers → IsOk result }
+    {
+        match self.receivers.serve() {
+            Some(receiver) => Ok(SendOutcome::HandedTo(receiver)),
+            None => {
+                let bytes = Bytes::from_slice(self.alloc, &[])?;
+                self.keep(
+                    Ticket {
+                        place: ticket,
+                        priority,
+                        bytes,
+                    },
+                    who,
+                )
+            }
         }
     }
 
@@ -110,19 +149,39 @@ impl Queue {
     /// whether another one has this place isn't asked here. What is handed on takes no memory; an `Err`
     /// leaves the queue as it was.
     #[tactic(auto, unfolding(crate::specs::Tickets::send_outcome, crate::specs::Tickets::sent))]
-    pub fn send(&mut self, ticket: u64, priority: u32, who: Sid) -> Result<SendOutcome, NoMemory>
+    pub fn send_message(
+        &mut self,
+        ticket: u64,
+        priority: u32,
+        bytes: &Bytes,
+        who: Sid,
+    ) -> Result<SendOutcome, NoMemory>
         ensures outcome { IfOk result (λ outcome. outcome ≡ send_outcome self.old) }
-        ensures ok { OnOk result (self.new ≡ sent (record { place = ticket; priority = priority }) who self.old) }
+        ensures ok { OnOk result (self.new ≡ sent (record { place = ticket; priority = priority; bytes = bytes.now }) who self.old) }
         ensures err { OnErr result (self.new ≡ self.old) }
         ensures without_memory { 0 < length self.old.receivers → IsOk result }
     {
-        let ticket = Ticket {
-            place: ticket,
-            priority,
-        };
         if let Some(receiver) = self.receivers.serve() {
             return Ok(SendOutcome::HandedTo(receiver));
         }
+        let bytes = bytes.clone()?;
+        self.keep(
+            Ticket {
+                place: ticket,
+                priority,
+                bytes,
+            },
+            who,
+        )
+    }
+
+    /// The message enters, or its send parks, where no receive is parked. An `Err` leaves the queue as it was.
+    fn keep(&mut self, ticket: Ticket, who: Sid) -> Result<SendOutcome, NoMemory>
+        requires { self.old.receivers ≡ [] }
+        ensures outcome { IfOk result (λ outcome. outcome ≡ outcome_by_receiver (is_full_of self.old) (fired self.old) None) }
+        ensures ok { OnOk result (self.new ≡ sent_to ticket who self.old []) }
+        ensures err { OnErr result (self.new ≡ self.old) }
+    {
         if self.is_full() {
             self.senders.park(ParkedSend {
                 ticket,
@@ -155,10 +214,12 @@ impl Queue {
         ensures without_memory { 0 < length self.old.tickets → length self.old.senders ≡ 0 → IsOk result }
     {
         // It is parked only where there is no room, so there is a message.
-        if let Some(sender) = self.senders.first().copied() {
-            let place = self.contents.pop_and_push(sender.ticket)?;
+        if let Some(sender) = self.senders.first() {
+            let session = sender.session;
+            let ticket = sender.ticket.clone()?;
+            let place = self.contents.pop_and_push(ticket)?;
             self.senders.serve();
-            return Ok(ReceiveOutcome::TookAndAdmitted(place, sender.session));
+            return Ok(ReceiveOutcome::TookAndAdmitted(place, session));
         }
         let Some(place) = self.contents.pop() else {
             self.receivers.park(who)?;
@@ -231,6 +292,13 @@ impl Queue {
     /// The place of the message that a receive would take; `None` where the queue is empty.
     pub fn next(&self) -> Option<u64>
         ensures { result ≡ next_place self.now.tickets }
+    {
+        self.contents.next().map(|ticket| ticket.place)
+    }
+
+    /// The message that a receive would take; `None` where the queue is empty.
+    pub fn next_message(&self) -> Option<&Ticket>
+        ensures { option_copied result ≡ next_ticket self.now.tickets }
     {
         self.contents.next()
     }

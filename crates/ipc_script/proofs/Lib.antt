@@ -4,3 +4,4 @@ mod RunLemmas
 mod LivingLemmas
 mod ToldLemmas
 mod SteppingLemmas
+mod FaultLemmas

@@ -45,7 +45,7 @@ pub enum Told {
 impl Stepper {
     /// A core with an empty trail.
     pub fn new(alloc: Global, config: Config) -> Result<Stepper, CoreFault>
-        ensures { IfOk result (λ made. made ≡ record { config = config; history = []; untaken = [] }) }
+        ensures { IfOk result (λ made. made ≡ record { config = config; history = []; untaken = []; first = 0 }) }
     {
         let core = Core::new(alloc, config)?;
         Ok(Stepper { core })

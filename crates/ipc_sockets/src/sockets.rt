@@ -5,6 +5,7 @@ use crate::files::{SocketFile, listen_at_file, path_of};
 use crate::lingering::LingeringStreams;
 use crate::streams::{Listener, Stream};
 use ipc_loop::{Ending, Host, Ready};
+use ipc_numbered::Numbered;
 use ipc_terms::Uid;
 use mio::event::Event;
 use mio::net::UnixListener;
@@ -32,8 +33,8 @@ pub struct Sockets<'a, R> {
     listener: Listener,
     /// The file that is listened at, if it is one.
     file: Option<SocketFile>,
-    /// By their numbers, of which none is used twice.
-    links: Vec<Option<Stream>>,
+    /// By their numbers, of which none is used twice. None while its accept isn't done.
+    links: Numbered<Option<Stream>>,
     /// Links that were closed while bytes of their peers may have been unread.
     lingering: LingeringStreams,
     events: Events,
@@ -59,7 +60,7 @@ impl<'a, R: Files<File = File> + Net> Sockets<'a, R> {
             poll,
             listener,
             file,
-            links: Vec::new(alloc),
+            links: Numbered::new(alloc),
             lingering,
             events,
             ready,
@@ -134,8 +135,10 @@ impl<R> Sockets<'_, R> {
 impl<R: Clock> Host for Sockets<'_, R> {
     fn accept(&mut self, number: u64) -> io::Result<()> {
         // The room is made first, so that nobody is dropped for want of it.
-        for _ in self.links.len()..=number as usize {
-            self.links.push(None)?;
+        for _ in self.links.next_number()..=number as usize {
+            let Ok(()) = self.links.push(None) else {
+                return Err(io::Error::from(ErrorKind::OutOfMemory));
+            };
         }
         let mut link = self.listener.accept()?;
         link.register(self.poll.registry(), Token(number as usize))?;
@@ -161,10 +164,7 @@ impl<R: Clock> Host for Sockets<'_, R> {
     fn greeted(&mut self, _number: u64, _user: Uid) {}
 
     fn close(&mut self, number: u64, _requests: u64, ending: Ending) {
-        let Some(place) = self.links.get_mut(number as usize) else {
-            return;
-        };
-        if let Some(link) = place.take() {
+        if let Some(Some(link)) = self.links.take(number as usize) {
             if may_leave_unread(ending) {
                 self.lingering.add(self.rt, number, link);
             }
@@ -199,7 +199,7 @@ impl<R: Clock> Host for Sockets<'_, R> {
 /// Keeps what is to be told. A link that was closed may linger, and isn't told of.
 fn keep(
     found: Ready,
-    links: &[Option<Stream>],
+    links: &Numbered<Option<Stream>>,
     lingering: &mut LingeringStreams,
     kept: &mut Vec<Ready>,
 ) -> io::Result<()> {

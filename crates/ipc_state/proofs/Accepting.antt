@@ -20,7 +20,7 @@ use Rattle.ipc_policy.proofs.Queues.RegisteredSteps.{registered_stays, registere
 use Rattle.ipc_terms.proofs.Lists.{eqb_swapped}
 use Rattle.ipc_policy.specs.History.{History, after_accepted, unless, gathered_below}
 use Rattle.ipc_policy.specs.Sessions.{hellos, user, live, mask}
-use Rattle.ipc_policy.specs.Names.{is_bound, creations, bound}
+use Rattle.ipc_policy.specs.Names.{is_bound, creations}
 use Rattle.ipc_policy.specs.Objects.{object, facts, directory, directory_owner, directory_group, directory_mode}
 use Rattle.ipc_policy.specs.Descriptions.{opens, held, holds}
 use Rattle.ipc_policy.specs.Life.{bindings}
@@ -146,15 +146,15 @@ pub agrees_audited : (c : Config) (h : History) (t : TablesView) (sid : Sid) (st
 agrees_audited c h t sid start count = asked c h t (Do sid (Audit start count)) refl refl (λ o. registered_stays c h _ o refl (λ x k. refl)) (λ o. refl)
 
 -- an accepted send
-pub agrees_sent : (c : Config) (h : History) (t : TablesView) (sid : Sid) (desc : Desc) (priority : ℕ) (bytes : List ℕ) (o : ℕ) → IsCore c h t → IsHereQueue c h t sid.0 desc.0 o → Agrees c (after_accepted h (Do sid (MqSend desc priority bytes))) (after_send t o (record { place = length h; priority = priority }) sid)
+pub agrees_sent : (c : Config) (h : History) (t : TablesView) (sid : Sid) (desc : Desc) (priority : ℕ) (bytes : List ℕ) (o : ℕ) → IsCore c h t → IsHereQueue c h t sid.0 desc.0 o → Agrees c (after_accepted h (Do sid (MqSend desc priority bytes))) (after_send t o (record { place = length h; priority = priority; bytes = bytes }) sid)
 agrees_sent c h t sid desc priority bytes o k here =
     let e = Do sid (MqSend desc priority bytes) in
     let q = quiet c h e refl in
     let open' = is_open c h t here.x.object here.given k here.made in
-    subst (λ (i : ℕ). Agrees c (after_accepted h e) (after_send t i (record { place = length h; priority = priority }) sid)) here.same
+    subst (λ (i : ℕ). Agrees c (after_accepted h e) (after_send t i (record { place = length h; priority = priority; bytes = bytes }) sid)) here.same
     (moved c h _ t _ _ q
     (sessions_moved c h _ _ _ q (λ s. column_by_send c h sid desc priority bytes here.x s k.legal here.held (none_receives c h here.x.object here.given open' here.made)) (sessions_sent c h t here.x.object here.given sid k.legal k.agrees here.lives here.made here.within))
-    (queue_touched c h (after_accepted h e) t here.x.object (sent (record { place = length h; priority = priority }) sid) q.holdings.objects
+    (queue_touched c h (after_accepted h e) t here.x.object (sent (record { place = length h; priority = priority; bytes = bytes }) sid) q.holdings.objects
     (λ i other. queue_by_send c h sid desc priority bytes here.x i here.held ∙ rw other refl)
     (λ i other. registered_send_other c h sid desc priority bytes here.x i here.held other)
     (semaphore_by_send c h sid desc priority bytes)

@@ -1,12 +1,12 @@
 -- What is read of the queue or the semaphore that a session has by a description, in tables that agree with a history.
-use Rattle.std.proofs.Common.{◌≡◌, ℕ, true, List, [], ◌∷◌, length, map, Option, Some, None, is_some, refl, sym, ap, ◌∙◌}
+use Rattle.std.proofs.Common.{◌≡◌, ℕ, List, [], ◌∷◌, length, map, Option, Some, None, refl, sym, ap, ◌∙◌}
 use Rattle.std.specs.Prelude.{option_and_then}
 use Rattle.std.specs.Option.{option_map}
 use Rattle.std.proofs.lemmas.List.{length-map}
 use Rattle.ipc_terms.specs.Lists.{first}
-use Rattle.ipc_terms.specs.History.{Message, message_at}
+use Rattle.ipc_terms.specs.History.{Message}
 use Rattle.ipc_terms.specs.declared.ids.Sid.{Sid}
-use Rattle.ipc_queue.specs.Tickets.{Tickets, next_place}
+use Rattle.ipc_queue.specs.Tickets.{Tickets, next_ticket}
 use Rattle.ipc_queue.specs.declared.queue.Ticket.{Ticket}
 use Rattle.ipc_queue.specs.declared.queue.ParkedSend.{ParkedSend}
 use Rattle.ipc_policy.specs.declared.config.Config.{Config}
@@ -17,12 +17,11 @@ use Rattle.ipc_policy.specs.Descriptions.{holds}
 use Rattle.ipc_policy.specs.Queues.{Send, Queue, next}
 use Rattle.ipc_policy.specs.Verdict.{Legal}
 use Rattle.ipc_policy.proofs.Semaphores.ValueCounts.{value_counted}
-use Rattle.ipc_policy.proofs.Fates.Sent.{next_sent}
 use Rattle.ipc_terms.specs.Objects.{as_semaphore}
 use Rattle.ipc_terms.specs.declared.call.Attributes.{Attributes}
 use Rattle.ipc_policy.specs.Queues.{attributes}
 use Rattle.ipc_policy.specs.Semaphores.{Semaphore}
-use Rattle.ipc_policy.specs.Bodies.{queue, contents, semaphore, value}
+use Rattle.ipc_policy.specs.Bodies.{queue, semaphore, value}
 use Rattle.ipc_sem.specs.Counters.{Counter}
 use Rattle.ipc_state.specs.StateView.{brought, queue_by, semaphore_by, value_by}
 use Rattle.ipc_policy.specs.declared.config.Registration.{Registration}
@@ -93,52 +92,13 @@ first_parked (m ∷ ms) = refl
 pub held_sender : (c : Config) (h : History) (s d : ℕ) → option_and_then (λ (q : Tickets). option_map (λ (m : ParkedSend). m.session) (first q.senders)) (queue_held c h s d) ≡ option_and_then (λ q. option_map session_of (first q.senders)) (queue_by c h s d)
 held_sender c h s d = held_reads c h s d (λ q. option_map (λ (m : ParkedSend). m.session) (first q.senders)) (λ q. option_map session_of (first q.senders)) (λ r q y. first_parked q.senders)
 
--- the place of the next message
-pub place_mapped : (n : Option Send) → option_map (λ (t : Ticket). t.place) (option_map ticket_of n) ≡ option_map (λ (m : Send). m.place) n
-place_mapped None = refl
-place_mapped (Some m) = refl
+-- what the next message brings
+abbrev pub carried : Ticket → Message
+carried t = record { priority = t.priority; bytes = t.bytes }
 
-next_placed : (ms : List Send) → next_place (map ticket_of ms) ≡ option_map (λ (m : Send). m.place) (next ms)
-next_placed ms = ap (option_map (λ (t : Ticket). t.place)) (next_same ms) ∙ place_mapped (next ms)
+carried_mapped : (n : Option Send) → option_map carried (option_map ticket_of n) ≡ option_map brought n
+carried_mapped None = refl
+carried_mapped (Some m) = refl
 
-pub held_place : (c : Config) (h : History) (s d : ℕ) → option_and_then (λ (q : Tickets). next_place q.tickets) (queue_held c h s d) ≡ option_and_then (λ q. option_map (λ (m : Send). m.place) (next q.contents)) (queue_by c h s d)
-held_place c h s d = held_reads c h s d (λ q. next_place q.tickets) (λ q. option_map (λ (m : Send). m.place) (next q.contents)) (λ r q y. next_placed q.contents)
-
--- what stands at that place is the message
-message_next : (c : Config) (h : History) (o place : ℕ) (w : Option Send) → next (contents c h o) ≡ w → option_map (λ (m : Send). m.place) w ≡ Some place → message_at place h ≡ option_map brought w
-message_next c h o place None e k = absurd cc
-message_next c h o place (Some m) e k = let same : m.place ≡ place = cc in ap (λ p. message_at p h) (sym same) ∙ (next_sent c h o m e).there
-
-pub message_there : (c : Config) (h : History) (s d place : ℕ) → option_and_then (λ q. option_map (λ (m : Send). m.place) (next q.contents)) (queue_by c h s d) ≡ Some place → message_at place h ≡ option_and_then (λ q. option_map brought (next q.contents)) (queue_by c h s d)
-message_there c h s d place e = held' (holds h s d) e where
-  given : (x : Held) (v : Option Attributes) → option_and_then (λ (q : Queue). option_map (λ (m : Send). m.place) (next q.contents)) (option_map (λ y. queue c h x.object) v) ≡ Some place → message_at place h ≡ option_and_then (λ (q : Queue). option_map brought (next q.contents)) (option_map (λ y. queue c h x.object) v)
-  given x None k = absurd cc
-  given x (Some y) k = message_next c h x.object place (next (contents c h x.object)) refl k
-
-  held' : (w : Option Held) → option_and_then (λ (q : Queue). option_map (λ (m : Send). m.place) (next q.contents)) (option_and_then (λ (x : Held). option_map (λ y. queue c h x.object) (attributes c h x.object)) w) ≡ Some place → message_at place h ≡ option_and_then (λ (q : Queue). option_map brought (next q.contents)) (option_and_then (λ (x : Held). option_map (λ y. queue c h x.object) (attributes c h x.object)) w)
-  held' None k = absurd cc
-  held' (Some x) k = given x (attributes c h x.object) k
-
-some_there : (w : Option Queue) (place : ℕ) → option_and_then (λ q. option_map (λ (m : Send). m.place) (next q.contents)) w ≡ Some place → is_some (option_and_then (λ q. option_map brought (next q.contents)) w) ≡ true
-some_there None place e = absurd cc
-some_there (Some q) place e = at (next q.contents) e where
-  at : (v : Option Send) → option_map (λ (m : Send). m.place) v ≡ Some place → is_some (option_map brought v) ≡ true
-  at None k = absurd cc
-  at (Some m) k = refl
-
-pub message_some : (c : Config) (h : History) (s d place : ℕ) → option_and_then (λ q. option_map (λ (m : Send). m.place) (next q.contents)) (queue_by c h s d) ≡ Some place → is_some (message_at place h) ≡ true
-message_some c h s d place e = ap is_some (message_there c h s d place e) ∙ some_there (queue_by c h s d) place e
-
--- and where there is no place, there is none
-no_message : (w : Option Send) → option_map (λ (m : Send). m.place) w ≡ None → option_map brought w ≡ None
-no_message None e = refl
-no_message (Some m) e = absurd cc
-
-pub message_none : (w : Option Queue) → option_and_then (λ q. option_map (λ (m : Send). m.place) (next q.contents)) w ≡ None → option_and_then (λ q. option_map brought (next q.contents)) w ≡ None
-message_none None e = refl
-message_none (Some q) e = no_message (next q.contents) e
-
--- a message by its priority and its bytes
-pub message_whole : (v : Option Message) (priority : ℕ) (bytes : List ℕ) → option_map (λ (m : Message). m.priority) v ≡ Some priority → option_map (λ (m : Message). m.bytes) v ≡ Some bytes → Some (record { priority = priority; bytes = bytes }) ≡ v
-message_whole None priority bytes e k = absurd cc
-message_whole (Some m) priority bytes e k = let one : m.priority ≡ priority = cc in let two : m.bytes ≡ bytes = cc in rw (← one, ← two) refl
+pub held_message : (c : Config) (h : History) (s d : ℕ) → option_and_then (λ (q : Tickets). option_map carried (next_ticket q.tickets)) (queue_held c h s d) ≡ option_and_then (λ q. option_map brought (next q.contents)) (queue_by c h s d)
+held_message c h s d = held_reads c h s d (λ q. option_map carried (next_ticket q.tickets)) (λ q. option_map brought (next q.contents)) (λ r q y. ap (option_map carried) (next_same q.contents) ∙ carried_mapped (next q.contents))

@@ -48,7 +48,7 @@ use Rattle.ipc_tables.specs.declared.rows.Session.{Session}
 use Rattle.ipc_tables.specs.Objects.{queue_at}
 use Rattle.ipc_tables.specs.TablesView.{TablesView}
 use Rattle.ipc_tables.specs.Steps.{parked_by_send, parked_by_receive}
-use Rattle.ipc_state.specs.Agrees.{Agrees, IsCore, SessionsAgree, sender_of, receiver_of, tickets_of}
+use Rattle.ipc_state.specs.Agrees.{Agrees, IsCore, SessionsAgree, ticket_of, sender_of, receiver_of, tickets_of}
 use Rattle.ipc_state.proofs.Mapped.{longest_mapped}
 use Rattle.ipc_state.specs.Meetings.{by_description, object_by}
 use Rattle.ipc_state.proofs.Lookups.{mapped_some, queue_alive}
@@ -58,7 +58,6 @@ use Rattle.ipc_state.proofs.Accepted.{within_live, not_bad_held, not_bad_queue, 
 use Rattle.ipc_state.proofs.QueueSteps.{IsOnce, left_registered, full_same, next_same, sent_is, received_is, withdrawn_is}
 use Rattle.ipc_state.proofs.ParkedColumn.{parked_object, column_after}
 use Rattle.ipc_state.proofs.SessionTables.{Columns, columns_of, columns_moved}
-use Rattle.ipc_state.proofs.HeldQueues.{place_mapped}
 
 -- what is known of the queue that an object is
 pub record IsOpen (c : Config) (h : History) (o : ℕ) (y : Attributes) : Type 0 where
@@ -143,6 +142,11 @@ none_receives c h o y q e full = at (receivers c h o) refl where
   at [] k = refl
   at (w ∷ ws) k = absurd (let none : length (contents c h o) ≡ 0 = ap length (q.bounds.receivers_wait (ap has_none k)) in let least = q.some in let more = filled in omega arith)
 
+-- the place of the next message
+place_mapped : (n : Option Send) → option_map (λ (t : Ticket). t.place) (option_map ticket_of n) ≡ option_map (λ (m : Send). m.place) n
+place_mapped None = refl
+place_mapped (Some m) = refl
+
 -- what a receive does to the table of sessions
 receive_told : (g : Option Registration) (q : Queue) (y : Attributes) → receive_outcome (tickets_of g q y) ≡ outcome_by_next (option_map (λ (m : Send). m.place) (next q.contents)) (option_map sender_of (first q.senders))
 unfolding receive_outcome
@@ -197,7 +201,7 @@ receive_calm false w q = refl
 pub registered_receive : (c : Config) (h : History) (sid : Sid) (desc : Desc) (length' o : ℕ) → registered c (after_accepted h (Do sid (MqReceive desc length'))) o ≡ registered c h o
 registered_receive c h sid desc length' o = registered_stays c h (Do sid (MqReceive desc length')) o refl (λ x k. receive_calm (gives_object o (holds h sid.0 desc.0)) (record { place = length h; session = sid.0; desc = desc.0 }) (queue c h o))
 
-pub queue_sent : (c : Config) (h : History) (sid : Sid) (desc : Desc) (priority : ℕ) (bytes : List ℕ) (x : Held) (y : Attributes) → IsOpen c h x.object y → holds h sid.0 desc.0 ≡ Some x → tickets_of (registered c (after_accepted h (Do sid (MqSend desc priority bytes))) x.object) (queue c (after_accepted h (Do sid (MqSend desc priority bytes))) x.object) y ≡ sent (record { place = length h; priority = priority }) sid (tickets_of (registered c h x.object) (queue c h x.object) y)
+pub queue_sent : (c : Config) (h : History) (sid : Sid) (desc : Desc) (priority : ℕ) (bytes : List ℕ) (x : Held) (y : Attributes) → IsOpen c h x.object y → holds h sid.0 desc.0 ≡ Some x → tickets_of (registered c (after_accepted h (Do sid (MqSend desc priority bytes))) x.object) (queue c (after_accepted h (Do sid (MqSend desc priority bytes))) x.object) y ≡ sent (record { place = length h; priority = priority; bytes = bytes }) sid (tickets_of (registered c h x.object) (queue c h x.object) y)
 queue_sent c h sid desc priority bytes x y q held =
     let m : Send = record { place = length h; session = sid.0; desc = desc.0; priority = priority; bytes = bytes } in
     ap (λ g. tickets_of g (queue c (after_accepted h (Do sid (MqSend desc priority bytes))) x.object) y) (registered_send c h sid desc priority bytes x held)

@@ -1,5 +1,6 @@
 -- The calls that may wait, with a deadline or without: what they meet, and that the tables agree after them.
-use Rattle.std.proofs.Common.{◌≡◌, ℕ, Bool, true, false, List, length, Option, Some, None, refl, sym, ap, subst, ◌∙◌}
+use Rattle.std.proofs.Common.{◌≡◌, ℕ, true, length, Some, None, refl, ap, subst}
+use Rattle.ipc_terms.specs.History.{Message}
 use Rattle.ipc_terms.specs.Timed.{plain_call}
 use Rattle.ipc_terms.specs.declared.ids.Sid.{Sid}
 use Rattle.ipc_terms.specs.declared.ids.Desc.{Desc}
@@ -16,31 +17,30 @@ use Rattle.ipc_tables.specs.TablesView.{TablesView}
 use Rattle.ipc_tables.specs.Steps.{after_send, after_receive, after_wait, after_withdrawal}
 use Rattle.ipc_state.specs.Agrees.{Agrees, IsCore}
 use Rattle.ipc_state.specs.Meetings.{by_description, object_by}
-use Rattle.ipc_state.specs.Waiting.{send_priority, is_receive, is_wait}
+use Rattle.ipc_state.specs.Waiting.{sent_message, is_receive, is_wait}
 use Rattle.ipc_state.proofs.Serving.{IsHereQueue, IsHereSemaphore, call_here, semaphore_here}
 use Rattle.ipc_state.proofs.Accepted.{due_within}
 use Rattle.ipc_state.proofs.Accepting.{agrees_sent, agrees_received, agrees_waited, agrees_plainly}
-use Rattle.ipc_state.proofs.Withdrawals.{agrees_timed_out, agrees_ticked}
+use Rattle.ipc_state.proofs.Withdrawals.{agrees_timed_out}
 
 -- an accepted send to this object
-pub record IsSending (c : Config) (h : History) (t : TablesView) (sid : Sid) (call : Call) (priority o : ℕ) : Type 0 where
+pub record IsSending (c : Config) (h : History) (t : TablesView) (sid : Sid) (call : Call) (m : Message) (o : ℕ) : Type 0 where
   pub desc : Desc
-  pub bytes : List ℕ
-  pub form : MqSend desc priority bytes ≡ plain_call call
+  pub form : MqSend desc m.priority m.bytes ≡ plain_call call
   pub here : IsHereQueue c h t sid.0 desc.0 o
 
-pub sending : (c : Config) (h : History) (t : TablesView) (sid : Sid) (call : Call) (priority o : ℕ) → Agrees c h t → send_priority (plain_call call) ≡ Some priority → verdict c h (Do sid call) ≡ None → by_description (object_by h) (Do sid call) ≡ Some o → IsSending c h t sid call priority o
-sending c h t sid (MqSend desc p bytes) priority o a is accepted held =
-    let same : priority ≡ p = cc in
-    record { desc = desc; bytes = bytes; form = ap (λ q. MqSend desc q bytes) same; here = call_here c h t sid.0 desc.0 o a (call_free c h sid (MqSend desc p bytes) Mq desc refl refl accepted) held }
-sending c h t sid (MqTimedSend desc p until bytes) priority o a is accepted held =
-    let same : priority ≡ p = cc in
-    record { desc = desc; bytes = bytes; form = ap (λ q. MqSend desc q bytes) same; here = call_here c h t sid.0 desc.0 o a (call_free c h sid (MqTimedSend desc p until bytes) Mq desc refl refl accepted) held }
-sending c h t sid call priority o a is accepted held = absurd cc
+pub sending : (c : Config) (h : History) (t : TablesView) (sid : Sid) (call : Call) (m : Message) (o : ℕ) → Agrees c h t → sent_message (plain_call call) ≡ Some m → verdict c h (Do sid call) ≡ None → by_description (object_by h) (Do sid call) ≡ Some o → IsSending c h t sid call m o
+sending c h t sid (MqSend desc p bytes) m o a is accepted held =
+    let same : m ≡ record { priority = p; bytes = bytes } = cc in
+    record { desc = desc; form = ap (λ (n : Message). MqSend desc n.priority n.bytes) same; here = call_here c h t sid.0 desc.0 o a (call_free c h sid (MqSend desc p bytes) Mq desc refl refl accepted) held }
+sending c h t sid (MqTimedSend desc p until bytes) m o a is accepted held =
+    let same : m ≡ record { priority = p; bytes = bytes } = cc in
+    record { desc = desc; form = ap (λ (n : Message). MqSend desc n.priority n.bytes) same; here = call_here c h t sid.0 desc.0 o a (call_free c h sid (MqTimedSend desc p until bytes) Mq desc refl refl accepted) held }
+sending c h t sid call m o a is accepted held = absurd cc
 
-pub agrees_sends : (c : Config) (h : History) (t : TablesView) (sid : Sid) (call : Call) (priority o : ℕ) → IsCore c h t → IsSending c h t sid call priority o → Agrees c (after_accepted h (Do sid call)) (after_send t o (record { place = length h; priority = priority }) sid)
-agrees_sends c h t sid call priority o k s =
-    agrees_plainly c h _ (Do sid call) (subst (λ (x : Call). Agrees c (after_accepted h (Do sid x)) (after_send t o (record { place = length h; priority = priority }) sid)) s.form (agrees_sent c h t sid s.desc priority s.bytes o k s.here))
+pub agrees_sends : (c : Config) (h : History) (t : TablesView) (sid : Sid) (call : Call) (m : Message) (o : ℕ) → IsCore c h t → IsSending c h t sid call m o → Agrees c (after_accepted h (Do sid call)) (after_send t o (record { place = length h; priority = m.priority; bytes = m.bytes }) sid)
+agrees_sends c h t sid call m o k s =
+    agrees_plainly c h _ (Do sid call) (subst (λ (x : Call). Agrees c (after_accepted h (Do sid x)) (after_send t o (record { place = length h; priority = m.priority; bytes = m.bytes }) sid)) s.form (agrees_sent c h t sid s.desc m.priority m.bytes o k s.here))
 
 -- an accepted receive from this object
 pub record IsReceiving (c : Config) (h : History) (t : TablesView) (sid : Sid) (call : Call) (o : ℕ) : Type 0 where

@@ -59,7 +59,7 @@ pub record DirectoryAgrees (h : History) (family : Family) (names : Directory) :
 
 -- the ticket of a message
 abbrev pub ticket_of : Send → Ticket
-ticket_of m = record { place = m.place; priority = m.priority }
+ticket_of m = record { place = m.place; priority = m.priority; bytes = m.bytes }
 
 -- a parked send, with its session
 abbrev pub sender_of : Send → ParkedSend

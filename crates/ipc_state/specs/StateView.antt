@@ -1,4 +1,5 @@
--- What is seen of a state: the configuration, and the history of all events with their verdicts.
+-- What is seen of a state: the configuration, the history of all events with their verdicts, and the place of the oldest
+-- record that is still had.
 use Rattle.std.specs.Prelude.{ℕ, Option, option_and_then}
 use Rattle.std.specs.Option.{option_map}
 use Rattle.ipc_terms.specs.History.{Message}
@@ -16,6 +17,7 @@ use Rattle.ipc_policy.specs.Verdict.{after_event}
 pub record StateView : Type 0 where
   pub config : Config
   pub history : History
+  pub first : ℕ
 
 -- with one event more, and the verdict on it
 abbrev pub with_event : Event → StateView → StateView

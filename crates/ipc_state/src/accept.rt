@@ -15,7 +15,7 @@ ghost use Rattle.ipc_state.specs.Agrees.{Agrees, IsCore};
 ghost use Rattle.ipc_state.specs.Meetings.{by_description, by_name, object_by, object_bound};
 ghost use Rattle.ipc_state.specs.OnTime.{ended_call};
 ghost use Rattle.ipc_state.specs.Memory.{takes_memory};
-ghost use Rattle.ipc_state.specs.Waiting.{send_priority, is_receive, is_wait};
+ghost use Rattle.ipc_state.specs.Waiting.{sent_message, is_receive, is_wait};
 
 use crate::changing::accept_change;
 use crate::lookup::Meant;
@@ -24,7 +24,8 @@ use ipc_access::Cred;
 use ipc_policy::{Config, Opening, kind_of, opening_of};
 use ipc_tables::{Grant, Tables};
 use ipc_terms::{
-    Asked, Call, Desc, Event, Facts, Family, Mode, NoMemory, Object, OpenFlags, Rule, Sid, Uid,
+    Asked, Bytes, Call, Desc, Event, Facts, Family, Mode, NoMemory, Object, OpenFlags, Rule, Sid,
+    Uid,
 };
 use ipc_trail::Trail;
 use std::alloc::Global;
@@ -79,14 +80,22 @@ fn accept(
             Call::MqOpen(_) | Call::SemOpen(_) => {
                 accept_open(alloc, tables, config, past, event, meant.bound)
             }
-            Call::MqSend { priority, .. } => {
-                accept_send(tables, config, past, *sid, call, *priority, meant.held)
-            }
+            Call::MqSend {
+                priority,
+                bytes,
+                ..
+            } => accept_send(
+                tables, config, past, *sid, call, *priority, bytes, meant.held,
+            ),
             Call::MqReceive { .. } => accept_receive(tables, config, past, *sid, call, meant.held),
             Call::SemWait(_) => accept_wait(tables, config, past, *sid, call, meant.held),
-            Call::MqTimedSend { priority, .. } => {
-                accept_send(tables, config, past, *sid, call, *priority, meant.held)
-            }
+            Call::MqTimedSend {
+                priority,
+                bytes,
+                ..
+            } => accept_send(
+                tables, config, past, *sid, call, *priority, bytes, meant.held,
+            ),
             Call::MqGive { desc, taker } => {
                 accept_give(tables, config, past, *sid, *desc, *taker, meant.held)
             }
@@ -118,9 +127,10 @@ fn accept_send(
     sid: Sid,
     call: &Call,
     priority: u32,
+    bytes: &Bytes,
     held: Option<u64>,
 ) -> Result<(), NoMemory>
-    requires sends { send_priority (plain_call call.now) ≡ Some priority }
+    requires sends { sent_message (plain_call call.now) ≡ Some (record { priority = priority; bytes = bytes.now }) }
     requires core { IsCore config.now past.now.history tables.old }
     requires accepted { verdict config.now past.now.history (Do sid call.now) ≡ None }
     requires held { held ≡ by_description (object_by past.now.history) (Do sid call.now) }
@@ -129,7 +139,7 @@ fn accept_send(
     ensures err { OnErr result (tables.new ≡ tables.old) }
 {
     let object = object_held(config, past, sid, call, held);
-    tables.send(object, past.len() as u64, priority, sid)?;
+    tables.send(object, past.len() as u64, priority, bytes, sid)?;
     Ok(())
 }
 

@@ -1,6 +1,6 @@
 //! The state of a server: what happened so far, and the tables that say the same.
 
-ghost use Rattle.std.specs.Prelude.{◌≡◌, ◌+◌, ◌^◌, ◌<◌, ◌∷◌, length, None, [], IfOk, OnOk, OnErr};
+ghost use Rattle.std.specs.Prelude.{◌≡◌, ◌+◌, ◌^◌, ◌<◌, ◌∷◌, min, length, None, [], IfOk, OnOk, OnErr};
 ghost use Rattle.std.specs.Option.{option_map};
 ghost use Rattle.ipc_terms.specs.Timed.{plain};
 ghost use Rattle.ipc_policy.specs.Bodies.{due};
@@ -43,7 +43,7 @@ impl Model for State {
 
     ghost use Rattle.ipc_state.specs.OnTime.{IsState};
 
-    ghost view = { λ a. record { config = a.config; history = a.trail.history } };
+    ghost view = { λ a. record { config = a.config; history = a.trail.history; first = a.trail.first } };
 
     ghost invariant = { λ a. IsState a.config a.trail.history a.tables a.clock };
 }
@@ -52,7 +52,7 @@ impl State {
     /// A state in which nothing has happened. An `Err` drops the configuration.
     pub fn new(alloc: Global, config: Config) -> Result<State, NoMemory>
         requires { first_bad config.limits ≡ None }
-        ensures { IfOk result (λ state. state ≡ record { config = config; history = [] }) }
+        ensures { IfOk result (λ state. state ≡ record { config = config; history = []; first = 0 }) }
     {
         let tables = Tables::new(alloc, &config.users)?;
         Ok(State {
@@ -74,11 +74,22 @@ impl State {
         let _config = &self.config;
     }
 
-    /// Every event so far with its verdict.
+    /// Every event so far with its verdict, but for the records that were forgotten.
+    #[inline(always)]
     pub fn trail(&self) -> &Trail
-        ensures { result.now.history ≡ self.now.history }
+        ensures history { result.now.history ≡ self.now.history }
+        ensures first { result.now.first ≡ self.now.first }
     {
         &self.trail
+    }
+
+    /// Forgets the oldest record that it has, if it has one. The history stays what it was, and so does all that
+    /// the tables say. Takes no memory.
+    #[inline(always)]
+    pub fn forget_one(&mut self)
+        ensures { self.new ≡ record self.old { first = min (self.old.first + 1) (length self.old.history) } }
+    {
+        self.trail.forget_one();
     }
 
     /// The configuration that the state was made with.
@@ -126,6 +137,7 @@ impl State {
 
     /// Records the event with its verdict, and does what is accepted to the objects that it means. An
     /// `Err` changes nothing, and drops the event.
+    #[inline(always)]
     pub fn add(
         &mut self,
         alloc: Global,

@@ -21,7 +21,7 @@ use ipc_names::NameDir;
 use ipc_numbered::NumberedBoxes;
 use ipc_queue::{Queue, ReceiveOutcome, SendOutcome};
 use ipc_sem::{Sem, WaitOutcome};
-use ipc_terms::{Access, Desc, Facts, Family, Kind, Mode, Name, NoMemory, Object, Sid, Uid};
+use ipc_terms::{Access, Bytes, Desc, Facts, Family, Kind, Mode, Name, NoMemory, Object, Sid, Uid};
 use std::alloc::Global;
 use std::marker::Model;
 
@@ -256,7 +256,7 @@ impl Tables {
         Ok(())
     }
 
-    /// The session's message of this priority, whose send stands at the place `ticket`, is handed
+    /// The session's message of these bytes and this priority, whose send stands at the place `ticket`, is handed
     /// to the longest parked receive, or enters the queue, or its send parks. An `Err` changes
     /// nothing.
     pub fn send(
@@ -264,16 +264,17 @@ impl Tables {
         object: u64,
         ticket: u64,
         priority: u32,
+        bytes: &Bytes,
         sid: Sid,
     ) -> Result<(), NoMemory>
         requires { is_some (queue_at self.old.objects object) ≡ true }
-        ensures ok { OnOk result (self.new ≡ after_send self.old object (record { place = ticket; priority = priority }) sid) }
+        ensures ok { OnOk result (self.new ≡ after_send self.old object (record { place = ticket; priority = priority; bytes = bytes.now }) sid) }
         ensures err { OnErr result (self.new ≡ self.old) }
     {
         let Some(queue) = self.objects.queue_mut(object) else {
             unreachable!();
         };
-        match queue.send(ticket, priority, sid)? {
+        match queue.send_message(ticket, priority, bytes, sid)? {
             SendOutcome::Queued => {}
             SendOutcome::QueuedAndNotice(_) => {}
             SendOutcome::HandedTo(receiver) => self.sessions.set_parked(receiver, None),

@@ -1,7 +1,10 @@
 -- The lines of a page of records are a page of the lines.
-use Rattle.std.proofs.Common.{◌≡◌, ℕ, zero, suc, ◌+◌, List, [], ◌∷◌, ◌++◌, length, take, drop, refl, sym, ap, ◌∙◌, arith}
+use Rattle.std.proofs.Common.{◌≡◌, ⊎_elim, ◌<◌, ◌≤◌, ◌-◌, ℕ, zero, suc, ◌+◌, List, [], ◌∷◌, ◌++◌, length, take, drop, refl, sym, ap, ◌∙◌, arith}
 use Rattle.std.specs.Prelude.{reverse, min}
-use Rattle.std.proofs.lemmas.List.{reverse-append, reverse-reverse, length-reverse}
+use Rattle.std.proofs.lemmas.List.{reverse-append, reverse-reverse, length-reverse, length-drop, drop_all, take_min}
+use Rattle.std.proofs.lemmas.Bool.{cases_lt}
+use Rattle.std.proofs.Math.Seq.{drop-append-add}
+use Rattle.std.proofs.Math.Nat.{min-eq_left}
 use Rattle.ipc_terms.specs.History.{History}
 use Rattle.ipc_terms.specs.Lines.{line_of, lines}
 use Rattle.ipc_terms.specs.Pages.{page}
@@ -43,3 +46,34 @@ page_of_lines start count h = ap (page start count) (lines_of h) ∙ ap (take (m
 -- so of the records, the oldest first
 pub lines_of_page : (start count : ℕ) (rs : List Record) → lines_from start (page start count rs) ≡ page start count (lines (reverse rs))
 lines_of_page start count rs = ap (λ xs. lines_from start (page start count xs)) (sym (reverse-reverse rs)) ∙ sym (page_of_lines start count (reverse rs))
+
+-- a page from the oldest record that is kept on, or from one behind it, is a page of what is kept
+pub kept_page : (xs : List Record) (g : History) (n count : ℕ) → lines_from (length g + n) (take (min count 1000) (drop n xs)) ≡ page (length g + n) count (lines (reverse xs ++ g))
+kept_page xs g n count =
+    ap (λ ys. lines_from (length g + n) (take (min count 1000) ys)) (sym split)
+    ∙ lines_of_page (length g + n) count (reverse g ++ xs)
+    ∙ ap (λ h. page (length g + n) count (lines h)) turned where
+      split : drop (length g + n) (reverse g ++ xs) ≡ drop n xs
+      split = ap (λ m. drop (m + n) (reverse g ++ xs)) (sym (length-reverse g)) ∙ drop-append-add (reverse g) xs n
+
+      turned : reverse (reverse g ++ xs) ≡ reverse xs ++ g
+      turned = reverse-append (reverse g) xs ∙ ap (λ t. reverse xs ++ t) (reverse-reverse g)
+
+-- what is read, bounded by what is kept
+pub bounded : (xs : List Record) (f n m : ℕ) → lines_from (f + min n (length xs)) (take (min (length xs - min n (length xs)) m) (drop (min n (length xs)) xs)) ≡ lines_from (f + n) (take m (drop n xs))
+bounded xs f n m = ⊎_elim past within (cases_lt (length xs) n) where
+  within : n ≤ length xs → lines_from (f + min n (length xs)) (take (min (length xs - min n (length xs)) m) (drop (min n (length xs)) xs)) ≡ lines_from (f + n) (take m (drop n xs))
+  within le =
+      let least : min n (length xs) ≡ n = min-eq_left le in
+      let left : length (drop n xs) ≡ length xs - n = length-drop n xs in
+      let most : min (length xs - n) m ≡ min m (length (drop n xs)) = omega (arith, left) in
+      rw least (ap (λ k. lines_from (f + n) (take k (drop n xs))) most ∙ ap (lines_from (f + n)) (take_min m (drop n xs)))
+
+  past : length xs < n → lines_from (f + min n (length xs)) (take (min (length xs - min n (length xs)) m) (drop (min n (length xs)) xs)) ≡ lines_from (f + n) (take m (drop n xs))
+  past lt =
+      let all : min n (length xs) ≡ length xs = omega arith in
+      let none : min (length xs - length xs) m ≡ 0 = omega arith in
+      rw (all, none, drop_all n xs (omega arith), take_nil m) refl where
+        take_nil : (k : ℕ) → ◌≡◌ {A = List Record} (take k []) []
+        take_nil zero = refl
+        take_nil (suc k) = refl

@@ -1,2 +1,4 @@
+pub mod Gone
 pub mod Log
 pub mod Receipts
+pub mod Sizes

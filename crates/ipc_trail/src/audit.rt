@@ -1,11 +1,13 @@
 //! What the audit shows of a record.
 
-ghost use Rattle.std.specs.Prelude.{◌≡◌, ◌+◌, ◌^◌, ◌<◌, [], take, length, unwrap_or, IfOk};
+ghost use Rattle.std.specs.Prelude.{◌≡◌, ◌+◌, ◌^◌, ◌<◌, ◌≤◌, [], take, drop, length, unwrap_or, IfOk};
+ghost use Rattle.std.specs.VecDeque.{deque_len};
 ghost use Rattle.ipc_terms.specs.Lines.{line_of, event_name, rule_number};
 ghost use Rattle.ipc_trail.specs.Receipts.{receipt_of, lines_from};
 
 use ipc_terms::{Bytes, Event, Line, Name, NoMemory, Record, Rule, Sid};
 use std::alloc::Global;
+use std::collections::VecDeque;
 
 /// The most bytes of a name that a line shows.
 const LONGEST_NAME: usize = 256;
@@ -44,17 +46,24 @@ fn rule_number(rule: Option<Rule>) -> u16
     }
 }
 
-/// The lines of these records, which follow one another from the place `first` on.
+/// The lines of so many of these records from the one at `skipped` on, which stands at the place `first`.
 pub(crate) fn lines_from(
     alloc: Global,
     first: u64,
-    records: &[Record],
+    records: &VecDeque<Record>,
+    skipped: usize,
+    count: usize,
 ) -> Result<Vec<Line>, NoMemory>
-    requires { first + length records.now < 2 ^ 64 }
-    ensures { IfOk result (λ lines. lines.items ≡ lines_from first records.now) }
+    requires fits { first + count < 2 ^ 64 }
+    requires there { skipped + count ≤ length records.now.items }
+    requires len { deque_len records.now ≡ length records.now.items }
+    ensures { IfOk result (λ lines. lines.items ≡ lines_from first (take count (drop skipped records.now.items))) }
 {
-    let mut lines = Vec::with_capacity(alloc, records.len())?;
-    for (index, record) in records.iter().enumerate() {
+    let mut lines = Vec::with_capacity(alloc, count)?;
+    for index in 0..count {
+        let Some(record) = records.get(skipped + index) else {
+            unreachable!();
+        };
         lines.push(line_of(alloc, first + index as u64, record)?)?;
     }
     Ok(lines)

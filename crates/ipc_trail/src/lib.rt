@@ -1,9 +1,9 @@
-//! The trail: every event with the rule that refused it, in order. A message's bytes stand here, in
-//! the record of its send.
+//! The trail: every event with the rule that refused it, in order. The oldest records may be forgotten.
 #![tactic(auto)]
 
 mod audit;
 mod message;
+mod sizes;
 mod trail;
 
 pub use audit::Receipt;

@@ -19,6 +19,6 @@ Rise low [] next = low ≤ next
 Rise low ((number, call) ∷ calls) next = (low ≤ number) × Rise (number + 1) calls next
 
 -- the numbers rise below the next, and each session's stand in its bucket
-pub record InLine {T : Type 0} (caller : T → ℕ) (calls : List (ℕ × T)) (numbers : Buckets) (next : ℕ) : Type 0 where
+pub record InLine {T : Type 0} (caller : T → ℕ) (calls : List (ℕ × T)) (numbers : Buckets ℕ) (next : ℕ) : Type 0 where
   pub rising : Rise 0 calls next
   pub held : Holds numbers (λ session. numbers_of caller session calls)

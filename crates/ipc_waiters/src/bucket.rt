@@ -1,76 +1,76 @@
-//! The numbers of one key.
+//! The items of one key.
 
 ghost use Rattle.std.specs.Prelude.{◌≡◌, ◌↔◌, [], ◌∷◌, ◌++◌, drop, IsTrue, OnOk, OnErr, IsOk};
+ghost use Rattle.std.specs.Option.{option_copied};
 ghost use Rattle.ipc_terms.specs.Lists.{first};
 
 use ipc_terms::NoMemory;
 use std::alloc::Global;
 use std::collections::VecDeque;
 use std::marker::Model;
+use std::mem::replace;
 
-/// Numbers in order of entry. The first stands in the bucket itself, so one alone takes no memory.
+/// Items in order of entry. The first stands in the bucket itself, so one alone takes no memory.
 #[derive(Drop)]
-pub struct Bucket {
-    first: Option<u64>,
+pub struct Bucket<T: Drop> {
+    first: Option<T>,
     /// None where there is no first.
-    others: VecDeque<u64>,
+    others: VecDeque<T>,
 }
 
-impl Model for Bucket {
-    ghost use Rattle.std.specs.Prelude.{ℕ, List};
+impl<T: Drop> Model for Bucket<T> {
+    ghost use Rattle.std.specs.Prelude.{List};
     ghost use Rattle.ipc_waiters.specs.Bucket.{items_of, OthersFollow};
 
-    ghost Value = { List ℕ };
+    ghost Value = { List T };
 
     ghost view = { λ b. items_of b.first b.others.items };
 
     ghost invariant = { λ b. OthersFollow b.first b.others.items };
 }
 
-impl Bucket {
-    /// One number. Takes no memory.
-    pub fn of(alloc: Global, number: u64) -> Self
-        ensures { result ≡ number ∷ [] }
+impl<T: Drop> Bucket<T> {
+    /// One item. Takes no memory.
+    pub fn of(alloc: Global, item: T) -> Self
+        ensures { result ≡ item ∷ [] }
     {
         Bucket {
-            first: Some(number),
+            first: Some(item),
             others: VecDeque::new(alloc),
         }
     }
 
-    /// The number enters behind all others. An `Err` leaves all as it was.
-    pub fn push(&mut self, number: u64) -> Result<(), NoMemory>
-        ensures ok { OnOk result (self.new ≡ self.old ++ number ∷ []) }
+    /// The item enters behind all others. An `Err` leaves all as it was.
+    pub fn push(&mut self, item: T) -> Result<(), NoMemory>
+        ensures ok { OnOk result (self.new ≡ self.old ++ item ∷ []) }
         ensures err { OnErr result (self.new ≡ self.old) }
         ensures without_memory { self.old ≡ [] → IsOk result }
     {
         if self.first.is_none() {
-            self.first = Some(number);
+            self.first = Some(item);
         } else {
-            self.others.push_back(number)?;
+            self.others.push_back(item)?;
         }
         Ok(())
     }
 
-    /// The first number leaves. Takes no memory.
-    pub fn pop(&mut self) -> Option<u64>
+    /// The first item leaves. Takes no memory.
+    pub fn pop(&mut self) -> Option<T>
         ensures first { result ≡ first self.old }
         ensures rest { self.new ≡ drop 1 self.old }
     {
-        let number = self.first;
-        self.first = self.others.pop_front();
-        number
+        let next = self.others.pop_front();
+        replace(&mut self.first, next)
     }
 
-    /// The first number; `None` where there is none.
-    pub fn first(&self) -> Option<u64>
-        ensures { result ≡ first self.now }
+    /// The first item; `None` where there is none.
+    pub fn first(&self) -> Option<&T>
+        ensures { option_copied result ≡ first self.now }
     {
-        let Bucket { first, .. } = self;
-        *first
+        self.first.as_ref()
     }
 
-    /// Whether there are no numbers.
+    /// Whether there are no items.
     pub fn is_empty(&self) -> bool
         ensures { IsTrue result ↔ (self.now ≡ []) }
     {

@@ -1,7 +1,7 @@
-//! Numbers in buckets.
+//! Items in buckets.
 
 ghost use Rattle.std.specs.Prelude.{◌≡◌, ◌==◌, ℕ, List, [], None, if◌then◌else◌, OnOk, OnErr};
-ghost use Rattle.std.specs.Option.{unwrap_or};
+ghost use Rattle.std.specs.Option.{unwrap_or, option_copied, option_map};
 ghost use Rattle.ipc_terms.specs.Lists.{first};
 ghost use Rattle.ipc_waiters.specs.Buckets.{bucket_at, with_last, without_front, OthersAreFilled, EmptyStandsAlone, Holds, IsFirstOfGreatest, IsGreatestLeft};
 
@@ -11,17 +11,17 @@ use std::alloc::Global;
 use std::collections::BTreeMap;
 use std::collections::btree_map::Entry;
 
-/// Numbers under keys: each key that has numbers has a bucket, in which they stand in order of entry. The only bucket stays
-/// when it empties, so that numbers which come and go one at a time take no memory. Each call takes as long as to find a
+/// Items under keys: each key that has items has a bucket, in which they stand in order of entry. The only bucket stays
+/// when it empties, so that items which come and go one at a time take no memory. Each call takes as long as to find a
 /// bucket.
 #[derive(Drop)]
-pub struct Buckets {
+pub struct Buckets<T: Drop> {
     alloc: Global,
-    buckets: BTreeMap<u64, Bucket>,
+    buckets: BTreeMap<u64, Bucket<T>>,
 }
 
-impl Buckets {
-    /// No numbers. Takes no memory.
+impl<T: Drop> Buckets<T> {
+    /// No items. Takes no memory.
     pub fn new(alloc: Global) -> Self
         ensures none { (key : ℕ) → bucket_at result key ≡ None }
         ensures alone { EmptyStandsAlone result }
@@ -32,18 +32,18 @@ impl Buckets {
         }
     }
 
-    /// The number enters at the end of the key's bucket, which is made where there is none. An `Err`
+    /// The item enters at the end of the key's bucket, which is made where there is none. An `Err`
     /// leaves all as it was.
-    pub fn enter(&mut self, key: u64, number: u64) -> Result<(), NoMemory>
-        ensures ok { OnOk result ((q : ℕ) → bucket_at self.new q ≡ (if q == key then with_last number (bucket_at self.old q) else bucket_at self.old q)) }
+    pub fn enter(&mut self, key: u64, item: T) -> Result<(), NoMemory>
+        ensures ok { OnOk result ((q : ℕ) → bucket_at self.new q ≡ (if q == key then with_last item (bucket_at self.old q) else bucket_at self.old q)) }
         ensures err { OnErr result ((q : ℕ) → bucket_at self.new q ≡ bucket_at self.old q) }
         ensures alone { EmptyStandsAlone self.old → EmptyStandsAlone self.new }
     {
         self.drop_empty(key);
         match self.buckets.entry(key)? {
-            Entry::Occupied(bucket) => bucket.into_mut().push(number)?,
+            Entry::Occupied(bucket) => bucket.into_mut().push(item)?,
             Entry::Vacant(place) => {
-                place.insert(Bucket::of(self.alloc, number));
+                place.insert(Bucket::of(self.alloc, item));
             }
         }
         Ok(())
@@ -65,7 +65,7 @@ impl Buckets {
         }
     }
 
-    /// The first number leaves the key's bucket. An empty bucket goes, unless it is the only one. Takes no memory.
+    /// The first item leaves the key's bucket. An empty bucket goes, unless it is the only one. Takes no memory.
     pub fn leave(&mut self, key: u64)
         ensures rest { (q : ℕ) → bucket_at self.new q ≡ (if q == key then without_front (bucket_at self.old q) else bucket_at self.old q) }
         ensures alone { EmptyStandsAlone self.old → EmptyStandsAlone self.new }
@@ -79,34 +79,34 @@ impl Buckets {
         }
     }
 
-    /// The first number of the greatest key leaves; `None` where no key has any. An empty bucket goes, unless it is the
+    /// The first item of the greatest key leaves; `None` where no key has any. An empty bucket goes, unless it is the
     /// only one. Takes no memory.
-    pub fn leave_greatest(&mut self) -> Option<u64>
-        ensures { (numbers : ℕ → List ℕ) → Holds self.old numbers → IsGreatestLeft numbers self.new result }
+    pub fn leave_greatest(&mut self) -> Option<T>
+        ensures { (items : ℕ → List T) → Holds self.old items → IsGreatestLeft items self.new result }
     {
         let is_only = self.buckets.len() == 1;
         let mut last = self.buckets.last_entry()?;
         let bucket = last.get_mut();
-        let number = bucket.pop()?;
+        let item = bucket.pop()?;
         if bucket.is_empty() && !is_only {
             last.remove();
         }
-        Some(number)
+        Some(item)
     }
 
-    /// The first number of the key's bucket; `None` where it has none.
-    pub fn first_of(&self, key: u64) -> Option<u64>
-        ensures { result ≡ first (unwrap_or (bucket_at self.now key) []) }
+    /// The first item of the key's bucket; `None` where it has none.
+    pub fn first_of(&self, key: u64) -> Option<&T>
+        ensures { option_copied result ≡ first (unwrap_or (bucket_at self.now key) []) }
     {
         self.buckets.get(&key)?.first()
     }
 
-    /// The greatest key that has numbers, and the first of them; `None` where no key has any.
-    pub fn greatest(&self) -> Option<(u64, u64)>
-        ensures { (numbers : ℕ → List ℕ) → Holds self.now numbers → IsFirstOfGreatest numbers result }
+    /// The greatest key that has items, and the first of them; `None` where no key has any.
+    pub fn greatest(&self) -> Option<(u64, &T)>
+        ensures { (items : ℕ → List T) → Holds self.now items → IsFirstOfGreatest items (option_map (λ found. (found.0, found.1.now)) result) }
     {
         let (key, bucket) = self.buckets.last_key_value()?;
-        let number = bucket.first()?;
-        Some((*key, number))
+        let item = bucket.first()?;
+        Some((*key, item))
     }
 }

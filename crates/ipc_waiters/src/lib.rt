@@ -1,4 +1,4 @@
-//! What waits, in order of arrival: calls by session, and numbers in buckets by key.
+//! What waits, in order of arrival: calls by session, and items in buckets by key.
 #![tactic(auto)]
 
 mod bucket;

@@ -35,7 +35,7 @@ pub struct Waiters<T: Waiting> {
     /// By the number of the arrival.
     calls: BTreeMap<u64, T>,
     /// The numbers of each session's calls.
-    numbers: Buckets,
+    numbers: Buckets<u64>,
     /// The number of the next arrival.
     next: u64,
 }
@@ -100,6 +100,7 @@ impl<T: Waiting + Drop> Waiters<T> {
         let Some(number) = self.numbers.first_of(session.0) else {
             return false;
         };
+        let number = *number;
         self.numbers.leave(session.0);
         self.calls.remove(&number);
         true

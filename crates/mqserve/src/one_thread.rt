@@ -4,8 +4,8 @@ use crate::guidance::say;
 use crate::log::open_log;
 use crate::logged::LoggedSockets;
 use ipc_core::Config;
-use ipc_loop::Server;
-use ipc_program::{ProgramFault, Serving};
+use ipc_loop::{Keeping, Server};
+use ipc_program::{Kept, ProgramFault, Serving};
 use ipc_script::ScriptFault;
 use ipc_sockets::Sockets;
 use std::fs::File;
@@ -17,11 +17,21 @@ use std::time::Clock;
 /// Serves at most so many connections at a time, until as many as are asked for have ended.
 pub fn serve_on_one_thread<
     R: AllocGlobal + Files<File = File> + Print + Eprint + Net + Wait + Clock,
->(rt: &R, serving: &Serving, connections: usize, config: Config) -> Result<(), ProgramFault> {
+>(
+    rt: &R,
+    serving: &Serving,
+    connections: usize,
+    kept: Kept,
+    config: Config,
+) -> Result<(), ProgramFault> {
     let mut server = match Server::new(rt.alloc(), config, connections, serving.stop_after) {
         Ok(server) => server,
         Err(fault) => return Err(ScriptFault::from(fault).into()),
     };
+    server.keep(Keeping {
+        records: kept.records,
+        bytes: kept.bytes,
+    });
     let address = serving.address.as_str();
     // It may wait, at a FIFO, so it comes before anybody can connect.
     let log = open_log(rt, &serving.log, connections);

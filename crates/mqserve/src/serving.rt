@@ -50,7 +50,9 @@ pub fn serve<
             let users = users_of(rt.alloc(), &file)?;
             serve_by_workers(rt, serving, workers, config, users)?;
         }
-        Threading::OneThread(connections) => serve_on_one_thread(rt, serving, connections, config)?,
+        Threading::OneThread(connections, kept) => {
+            serve_on_one_thread(rt, serving, connections, kept, config)?
+        }
     }
     say(rt, "served", serving.stop_after.unwrap_or(u64::MAX))
 }

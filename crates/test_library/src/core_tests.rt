@@ -72,8 +72,10 @@ enum Step {
     Take(u64, usize),
     /// Its untaken answers are cleared.
     Clear(u64),
-    /// How many records the trail has.
+    /// How many events are recorded.
     Records(usize),
+    /// So many records are forgotten, and the place of the oldest that is left.
+    Forget(u64, u64),
     /// The limits are the standard ones.
     Standard,
     /// Starts again, without records.
@@ -83,7 +85,7 @@ enum Step {
 }
 
 use Asked::{Create, Give, Hangup, Hello, Interrupt, Receive, ReceiveUntil, Send, Tick, Umask};
-use Step::{Clear, Decide, Due, Least, New, Post, Records, Run, Standard, Take, Waiting};
+use Step::{Clear, Decide, Due, Forget, Least, New, Post, Records, Run, Standard, Take, Waiting};
 
 const ANN: Option<Sid> = Some(Sid(0));
 
@@ -153,6 +155,14 @@ fn starts(alloc: Global, core: &mut Core) -> Result<bool, Fail> {
     Ok(true)
 }
 
+/// Forgets so many records, and says whether the oldest that is left has this place.
+fn forgets(core: &mut Core, times: u64, first: u64) -> bool {
+    for _ in 0..times {
+        core.forget_one();
+    }
+    core.trail().first() == first
+}
+
 /// Does the step, and says whether it gave what it is to give.
 fn gives(alloc: Global, core: &mut Core, step: &Step) -> Result<bool, Fail> {
     Ok(match step {
@@ -169,6 +179,7 @@ fn gives(alloc: Global, core: &mut Core, step: &Step) -> Result<bool, Fail> {
             core.waiting(Sid(*sid)) == 0
         }
         Records(count) => core.trail().len() == *count,
+        Forget(times, first) => forgets(core, *times, *first),
         Standard => core.config().limits == Limits::STANDARD,
         New => starts(alloc, core)?,
         Run => runs(alloc, core)?,
@@ -177,7 +188,7 @@ fn gives(alloc: Global, core: &mut Core, step: &Step) -> Result<bool, Fail> {
 
 /// Answers wait in outboxes until they are taken, once; a call that parks is answered later; what is
 /// answered to nobody, or to a session that is not live, stands nowhere.
-static STEPS: [Step; 69] = [
+static STEPS: [Step; 81] = [
     Records(0),
     Post(Hello(Some(Uid(1000))), None, ANN, None),
     Post(Hello(None), Some(Rule::BadKey), Some(Sid::NOBODY), None),
@@ -246,6 +257,19 @@ static STEPS: [Step; 69] = [
     Post(ReceiveUntil(0, 1, 9), Some(Rule::TimedOut), ANN, None),
     Post(ReceiveUntil(0, 1, 10), None, None, None),
     Records(12),
+    // What was forgotten is decided on and answered as if it were there; a message stays.
+    New,
+    Post(Hello(Some(Uid(1000))), None, ANN, None),
+    Post(Create(0, b"/q"), None, ANN, None),
+    Post(Send(0, 0, 3, b"hi"), None, ANN, None),
+    Forget(2, 2),
+    Forget(9, 3),
+    Records(3),
+    Waiting(0, 3),
+    Post(Receive(0, 0), None, ANN, None),
+    Decide(Receive(0, 1), Some(Rule::BadDescr)),
+    Forget(0, 3),
+    Records(4),
     // A run answers each event, and what was answered waits.
     New,
     Run,

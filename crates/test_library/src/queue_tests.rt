@@ -1,7 +1,7 @@
 //! Queues, as a table of steps.
 
 use ipc_queue::{Queue, ReceiveOutcome, SendOutcome};
-use ipc_terms::{Desc, NoMemory, Sid};
+use ipc_terms::{Bytes, Desc, NoMemory, Sid};
 use std::alloc::Global;
 use std::test::Fail;
 
@@ -312,4 +312,17 @@ fn all_give(alloc: Global, queue: &mut Queue, steps: &[Step]) -> Result<(), Fail
 fn worked_queues(rt: HostRuntime) -> Result<(), Fail> {
     let mut queue = Queue::new(rt.alloc(), 1, 8);
     all_give(rt.alloc(), &mut queue, &STEPS)
+}
+
+#[test]
+fn a_message_stands_with_its_bytes(rt: HostRuntime) -> Result<(), Fail> {
+    let mut queue = Queue::new(rt.alloc(), 1, 8);
+    let bytes = Bytes::from_slice(rt.alloc(), b"build-7")?;
+    assert!(rt; queue.send_message(4, 5, &bytes, ANN)? == SendOutcome::Queued);
+    let Some(next) = queue.next_message() else {
+        return Err(Fail::new("no message"));
+    };
+    assert!(rt; next.place == 4 && next.priority == 5);
+    assert!(rt; next.bytes.as_slice() == b"build-7".as_slice());
+    Ok(())
 }

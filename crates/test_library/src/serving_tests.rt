@@ -3,7 +3,7 @@
 use crate::made::shows;
 use ipc_access::UserFault;
 use ipc_core::{Field, Limits};
-use ipc_program::{ProgramFault, Task, Threading, task_of_words};
+use ipc_program::{Kept, ProgramFault, Task, Threading, task_of_words};
 use ipc_script::ScriptFault;
 use std::alloc::Global;
 use std::io;
@@ -13,8 +13,14 @@ use std::test::Fail;
 /// On what threads a server serves, after how many connections it ends, and its limits.
 type Told = (Threading, Option<u64>, Limits);
 
+/// The records that one thread keeps where nothing is told of them.
+const STANDARD_KEPT: Kept = Kept {
+    records: Some(1_000_000),
+    bytes: Some(268_435_456),
+};
+
 /// The words behind `mqserve serve users.txt 127.0.0.1:7000`, and what they tell the server.
-static TOLD: [(&[&str], Told); 14] = [
+static TOLD: [(&[&str], Told); 16] = [
     (&[], (Threading::Workers(4), None, Limits::STANDARD)),
     (
         &["--workers", "1"],
@@ -79,11 +85,53 @@ static TOLD: [(&[&str], Told); 14] = [
     ),
     (
         &["--one-thread"],
-        (Threading::OneThread(10_000), None, Limits::STANDARD),
+        (
+            Threading::OneThread(10_000, STANDARD_KEPT),
+            None,
+            Limits::STANDARD,
+        ),
     ),
     (
         &["--connections", "1", "--stop-after", "2", "--one-thread"],
-        (Threading::OneThread(1), Some(2), Limits::STANDARD),
+        (
+            Threading::OneThread(1, STANDARD_KEPT),
+            Some(2),
+            Limits::STANDARD,
+        ),
+    ),
+    (
+        &[
+            "--one-thread",
+            "--keep-bytes",
+            "0",
+            "--keep-records",
+            "1000",
+        ],
+        (
+            Threading::OneThread(
+                10_000,
+                Kept {
+                    records: Some(1_000),
+                    bytes: Some(0),
+                },
+            ),
+            None,
+            Limits::STANDARD,
+        ),
+    ),
+    (
+        &["--keep-all", "--one-thread"],
+        (
+            Threading::OneThread(
+                10_000,
+                Kept {
+                    records: None,
+                    bytes: None,
+                },
+            ),
+            None,
+            Limits::STANDARD,
+        ),
     ),
     (
         &["--stop-after", "3", "--workers", "2"],

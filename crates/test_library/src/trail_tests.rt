@@ -123,6 +123,46 @@ fn all_stand(trail: &Trail) -> Result<(), Fail> {
     Ok(())
 }
 
+#[test]
+fn the_oldest_are_forgotten(rt: HostRuntime) -> Result<(), Fail> {
+    let mut trail = trail_of(rt.alloc(), &PUSHED)?;
+    for place in 1..=PUSHED.len() {
+        trail.forget_one();
+        if !begins_at(rt.alloc(), &trail, place)? {
+            return Err(Fail::new(format_args!("the trail from {place}")));
+        }
+    }
+    trail.forget_one();
+    assert!(rt; begins_at(rt.alloc(), &trail, PUSHED.len())?);
+    assert!(rt; trail.bytes() == 0);
+    Ok(())
+}
+
+#[test]
+fn a_record_counts_with_its_message(rt: HostRuntime) -> Result<(), Fail> {
+    let mut trail = trail_of(rt.alloc(), &[Send(0, b"7 bytes", None)])?;
+    let sent = trail.bytes();
+    let _is_free = pushes(rt.alloc(), &mut trail, &Tick(9))?;
+    let both = trail.bytes();
+    trail.forget_one();
+    assert!(rt; trail.bytes().saturating_add(sent) == both);
+    assert!(rt; trail.bytes().saturating_add(7) <= sent);
+    Ok(())
+}
+
+/// Whether the trail has the records from the place on, and as many places as before.
+fn begins_at(alloc: Global, trail: &Trail, first: usize) -> Result<bool, NoMemory> {
+    for (place, pushed) in PUSHED.iter().enumerate() {
+        if stands(trail, place, pushed) != (place >= first) {
+            return Ok(false);
+        }
+    }
+    let page = trail.page(alloc, 0, 1)?;
+    let shown = page.as_slice().first().map(|line| line.place);
+    let oldest = trail.get(first).map(|_| first as u64);
+    Ok(shown == oldest && trail.first() == first as u64 && trail.len() == PUSHED.len())
+}
+
 /// Session, event and rule that the audit shows of each of `PUSHED`.
 static SHOWN: [(u64, u8, u16); 11] = [
     (u64::MAX, 1, 0),

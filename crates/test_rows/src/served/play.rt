@@ -4,7 +4,7 @@ use anyhow::{Result, bail};
 use ipc_client::frame_of_words;
 use ipc_core::Config;
 use ipc_lines::words_of;
-use ipc_loop::{Ending, Server};
+use ipc_loop::{Ending, Keeping, Server};
 use ipc_terms::{Answer, Bytes};
 use ipc_wire::{Request, read_answer, remove_front, write_request};
 use ipc_words::{WordFault, put_fault, put_line, read_decimal};
@@ -66,10 +66,12 @@ fn ending_of(is_live: bool) -> Option<Ending> {
 }
 
 impl Play {
-    pub fn new(alloc: Global, config: Config, cut: Cut) -> Result<Play> {
+    pub fn new(alloc: Global, config: Config, cut: Cut, keeping: Keeping) -> Result<Play> {
+        let mut server = Server::new(alloc, config, CONNECTIONS, None)?;
+        server.keep(keeping);
         Ok(Play {
             alloc,
-            server: Server::new(alloc, config, CONNECTIONS, None)?,
+            server,
             host: Recorder::new(alloc, cut),
             peers: Vec::new(alloc),
             newest: BTreeMap::new(alloc),

@@ -9,16 +9,18 @@
 //! - a call or a hang-up of a label without a live session: no link is there to send it by. It is left out, and counted
 //! - a tick that ends no call: the loop makes none, so none is recorded
 //!
+//! Each is served by a server that keeps all records, and one that shows no records also by a server that keeps one at most.
+//!
 //! A script whose outcome hangs by what is left out is one of `LEFT_OUT`, and one that ends before its steps has none to serve.
 
 use crate::files::{first_difference, read_or};
 use crate::scripts::{ROWS, words_of};
 use crate::served::play::Play;
-use crate::served::serving::CUTS;
 use anyhow::{Result, bail};
 use ipc_access::Users;
 use ipc_core::{Config, Limits};
 use ipc_lines::{LineFault, Lines};
+use ipc_loop::Keeping;
 use ipc_program::{Task, task_of_words};
 use std::alloc::Global;
 use std::fs;
@@ -34,6 +36,19 @@ const LEFT_OUT: [&str; 6] = [
     "audit_pages",
     "ticks_in_the_audit",
     "tick_words",
+];
+
+/// One record is kept, and none once another is made.
+const FEWEST: Keeping = Keeping {
+    records: Some(1),
+    bytes: Some(0),
+};
+
+/// How links are cut, and how many records are kept.
+const WAYS: [(Cut, Keeping); 3] = [
+    (Cut::Whole, Keeping::ALL),
+    (Cut::Pieces(1), Keeping::ALL),
+    (Cut::Pieces(2), FEWEST),
 ];
 
 /// The next line, and `None` at the end, or where it is at fault: there a script stops too.
@@ -82,14 +97,19 @@ fn play_all(play: &mut Play, lines: &mut Lines<&[u8]>) -> Result<()> {
 }
 
 /// What the script writes where it is served, and how many calls are left out. `None` where it has no steps.
-fn served(alloc: Global, cut: Cut, limits: Limits, input: &[u8]) -> Result<Option<(String, u64)>> {
+fn served(
+    alloc: Global,
+    (cut, keeping): (Cut, Keeping),
+    limits: Limits,
+    input: &[u8],
+) -> Result<Option<(String, u64)>> {
     let Ok(mut lines) = Lines::new(alloc, input) else {
         bail!("no memory");
     };
     let Some(users) = users_in(alloc, &mut lines)? else {
         return Ok(None);
     };
-    let Ok(mut play) = Play::new(alloc, Config { users, limits }, cut) else {
+    let Ok(mut play) = Play::new(alloc, Config { users, limits }, cut, keeping) else {
         return Ok(None);
     };
     let played = play_all(&mut play, &mut lines);
@@ -109,18 +129,55 @@ fn judge(rt: &(impl Files + AllocGlobal), name: &str) -> Result<String> {
         return Ok(String::from_str(alloc, "no steps")?);
     };
     let mut verdict = String::from_str(alloc, "as written")?;
-    for (number, cut) in CUTS.iter().enumerate() {
-        let Some((given, left_out)) = served(alloc, *cut, limits, &input)? else {
+    for (number, way) in WAYS.iter().enumerate() {
+        if way.1 == FEWEST && shows_records(wanted.as_str()) {
+            continue;
+        }
+        let Some((given, left_out)) = served(alloc, *way, limits, &input)? else {
             return Ok(String::from_str(alloc, "no steps")?);
         };
         if let Some(difference) = first_difference(alloc, given.as_str(), wanted.as_str())? {
-            return Ok(format!(in alloc; "cut {number}: {difference}")?);
+            return Ok(format!(in alloc; "way {number}: {difference}")?);
         }
         if left_out > 0 {
             verdict = format!(in alloc; "as written; calls without a session: {left_out}")?;
         }
     }
     Ok(verdict)
+}
+
+/// Whether a session is shown records of the trail.
+fn shows_records(lines: &str) -> bool {
+    for line in lines.lines() {
+        if line.split_once(" records ").is_some() {
+            return true;
+        }
+    }
+    false
+}
+
+/// Steps of user 0, and what they write where the newest record alone is kept: an audit begins at the oldest that is left when it
+/// is stepped, and never before.
+const AUDITS: &str =
+    "root:k:0:0::\n.\nr hello k\nr umask 027\nr umask 022\nr audit 0 5\nr audit 2 5\nr audit 9 5\n";
+
+const WRITTEN: &str =
+    "r started 0\nr mask 022\nr mask 027\nr records 1 2:0:umask:0:hex:\nr records 1 3:0:audit:0:hex:\nr records 0\n";
+
+/// Whether audits begin at the oldest record that is kept.
+fn judge_audits(alloc: Global) -> Result<String> {
+    let keeping = Keeping {
+        records: Some(1),
+        bytes: None,
+    };
+    let way = (Cut::Whole, keeping);
+    let Some((given, _)) = served(alloc, way, Limits::STANDARD, AUDITS.as_bytes())? else {
+        return Ok(String::from_str(alloc, "no steps")?);
+    };
+    match first_difference(alloc, given.as_str(), WRITTEN)? {
+        Some(difference) => Ok(difference),
+        None => Ok(String::from_str(alloc, "as written")?),
+    }
 }
 
 /// Prints for each script whether it is answered by the loop as it must be.
@@ -133,5 +190,7 @@ pub fn run(rt: &HostRuntime) -> Result<()> {
         let verdict = judge(rt, format!(in rt.alloc(); "scripts/{name}")?.as_str())?;
         println!(rt; "served {name}: {verdict}")?;
     }
+    let verdict = judge_audits(rt.alloc())?;
+    println!(rt; "served audits of the newest record: {verdict}")?;
     Ok(())
 }

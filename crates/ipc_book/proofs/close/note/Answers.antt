@@ -20,4 +20,4 @@ bounds-counts-at-2 c =
 pub returns-clause-counted : goal.returns-clause-counted
 returns-clause-counted c ks h =
     let s : IsInTrail c.args.core.now.history c.args.entry.now = search rules in
-    counted_hit c.args.core.now.history c.args.counts.now ks c.args.entry.now c.up.result c.requires s c.up.ensures h
+    counted_hit c.args.core.now.history c.args.counts.now ks c.args.entry.now c.up.result c.requires.counts s c.up.ensures h

@@ -1,5 +1,5 @@
-use Rattle.std.proofs.Common.{◌≡◌, ◌+◌, ◌<◌, ℕ, List, [], ◌∷◌, ◌++◌, length, take, get_or, sym, ap, ◌∙◌, arith}
-use Rattle.std.proofs.lemmas.List.{take_more, length-take-le}
+use Rattle.std.proofs.Common.{◌≡◌, ◌+◌, ◌<◌, ℕ, List, [], ◌∷◌, ◌++◌, length, take, drop, get_or, sym, ap, ◌∙◌, arith}
+use Rattle.std.proofs.lemmas.List.{take_more, length-take-le, length-drop, get_or-drop}
 use Rattle.ipc_terms.specs.Lines.{line_of}
 use Rattle.ipc_terms.specs.declared.line.Line.{Line}
 use Rattle.ipc_terms.specs.declared.record.Record.{Record}
@@ -18,4 +18,8 @@ one_more place i rs r was line lt known made at =
       here = length-take-le i rs (omega arith)
 
 pub loop-index-preserved : goal.loop-index-preserved
-loop-index-preserved c = c.in_ok-push.ensures.items ∙ one_more c.args.first c.loop-index.index c.args.records.now c.index-records-index.result c.loop-index.lines.items c.in_ok-line_of.field-0 c.loop-index-test.true c.loop-index.invariant c.in_ok-line_of.ensures c.index-records-index.is
+loop-index-preserved c =
+    let rs = drop c.args.skipped c.args.records.now.items in
+    let left = length-drop c.args.skipped c.args.records.now.items in
+    let lt : c.loop-index.index < length rs = omega (arith, left, c.requires.there, c.loop-index-test.true) in
+    c.in_ok-push.ensures.items ∙ one_more c.args.first c.loop-index.index rs c.in-Some.record.now c.loop-index.lines.items c.in_ok-line_of.field-0 lt c.loop-index.invariant c.in_ok-line_of.ensures (c.in-Some.ensures.lookup ∙ sym (get_or-drop c.args.skipped c.args.records.now.items c.loop-index.index c.in-Some.record.now))

@@ -32,8 +32,8 @@ returns-in_err-wait-clause-continues g c = subst (λ (s : Server). Continues s.p
 pub answer_all-requires : goal.answer_all-requires
 answer_all-requires g c = λ i.
     c.give_turns.ensures.marks i
-    (subst (λ (zs : List (Option Port)). IsUpToDateByMark c.make_ticks.new.hub (open_at zs) i) (sym c.start_round.ensures.all)
-    (c.make_ticks.ensures.marks (open_at c.accept_some.new.ports.all) i (c.accept_some.ensures.marks i (c.note_all-is_told.ensures.marks i (c.self.invariant.marked i)))))
+    (subst (λ (zs : List (Option Port)). IsUpToDateByMark c.forget_old.new.hub (open_at zs) i) (sym c.start_round.ensures.all)
+    (c.forget_old.ensures.marks (open_at c.accept_some.new.ports.all) i (c.make_ticks.ensures.marks (open_at c.accept_some.new.ports.all) i (c.accept_some.ensures.marks i (c.note_all-is_told.ensures.marks i (c.self.invariant.marked i))))))
 
 pub invariant_of-self-2 : goal.invariant_of-self-2
 invariant_of-self-2 g c =
@@ -48,7 +48,8 @@ invariant_of-self-2 g c =
           let noted = c.note_all-is_told.ensures.serves.closed i (c.self.invariant.closed i) in
           let accepted = c.accept_some.ensures.serves.closed i noted in
           let ticked = (c.make_ticks.ensures.serves (g.H.Host.moves c.accept_some.new.host) (port_at c.accept_some.new.ports.all)).closed i accepted in
-          let started = subst (λ (zs : List (Option Port)). LeavesNothing c.make_ticks.new.hub (port_at zs) i) (sym c.start_round.ensures.all) ticked in
+          let forgot = (c.forget_old.ensures.serves (g.H.Host.moves c.accept_some.new.host) (port_at c.accept_some.new.ports.all)).closed i ticked in
+          let started = subst (λ (zs : List (Option Port)). LeavesNothing c.forget_old.new.hub (port_at zs) i) (sym c.start_round.ensures.all) forgot in
           c.answer_all.ensures.serves.closed i (c.give_turns.ensures.serves.closed i started);
     }
 
@@ -57,9 +58,9 @@ returns-clause-serves g c =
     let noted = moved_so c.self.inside.hub c.note_all-is_told.new.hub (g.H.Host.moves c.wait.new.self) (g.H.Host.moves c.note_all-is_told.new.host) (g.H.Host.moves c.args.host.now) (g.H.Host.moves c.note_all-is_told.new.host) (port_at c.self.inside.ports.all) (port_at c.note_all-is_told.new.ports.all) (c.wait.ensures.moved ∙ c.moment-now.ensures.moved) refl c.note_all-is_told.ensures.serves in
     let begun = closes_goes _ _ c.note_all-is_told.ensures.closes in
     let accepted = opens_both _ _ _ _ _ _ _ _ _ begun c.accept_some.ensures.continues (opens_none _ _ _ _ _ _ c.note_all-is_told.ensures.closes.count noted) c.accept_some.ensures.serves in
-    let ticked = c.make_ticks.ensures.serves (g.H.Host.moves c.accept_some.new.host) (port_at c.accept_some.new.ports.all) in
+    let ticked = serves_both _ _ _ _ _ _ _ _ _ (c.make_ticks.ensures.serves (g.H.Host.moves c.accept_some.new.host) (port_at c.accept_some.new.ports.all)) (c.forget_old.ensures.serves (g.H.Host.moves c.accept_some.new.host) (port_at c.accept_some.new.ports.all)) in
     let turns = moved_so _ _ _ _ (g.H.Host.moves c.accept_some.new.host) _ _ _ c.moment-later.ensures.moved refl c.give_turns.ensures.serves in
-    let turned = subst (λ (zs : List (Option Port)). Serves c.make_ticks.new.hub (g.H.Host.moves c.accept_some.new.host) (port_at zs) c.give_turns.new.hub (g.H.Host.moves c.give_turns.new.host) (port_at c.give_turns.new.ports.all)) c.start_round.ensures.all turns in
+    let turned = subst (λ (zs : List (Option Port)). Serves c.forget_old.new.hub (g.H.Host.moves c.accept_some.new.host) (port_at zs) c.give_turns.new.hub (g.H.Host.moves c.give_turns.new.host) (port_at c.give_turns.new.ports.all)) c.start_round.ensures.all turns in
     let rest = serves_both _ _ _ _ _ _ _ _ _ (serves_both _ _ _ _ _ _ _ _ _ ticked turned) c.answer_all.ensures.serves in
     let closes = closes_both _ _ _ (closes_same _ _ c.start_round.ensures.all) (closes_both _ _ _ c.give_turns.ensures.closes c.answer_all.ensures.closes) in
     let all = opens_both _ _ _ _ _ _ _ _ _ (goes_both _ _ _ begun c.accept_some.ensures.continues) (closes_goes _ _ closes) accepted (opens_none _ _ _ _ _ _ closes.count rest) in

@@ -1,7 +1,7 @@
 use Rattle.std.proofs.Common.{[], ◌∷◌, length-append, arith}
 use Rattle.ipc_waiters.proofs.Holding.{still_held, entered}
-use Rattle.ipc_queue.specs.Contents.{present, places_of}
-use Rattle.ipc_queue.proofs.Standing.{places_push}
+use Rattle.ipc_queue.specs.Contents.{present, of_priority}
+use Rattle.ipc_queue.proofs.Standing.{priority_push}
 use Rattle.ipc_queue.proofs.contents.Contents.push.Goals as goal
 
 pub invariant_of-self : goal.invariant_of-self
@@ -12,5 +12,5 @@ invariant_of-self-2 c =
     let tickets = present c.self.inside.past.value in
     let longer = length-append tickets (c.args.ticket ∷ []) in
     let count = c.self.invariant.1 in
-    rw (c.of-2.ensures, c.of.ensures)
-    (entered c.self.inside.buckets c.enter.new.self (λ q. places_of q tickets) _ c.args.ticket.priority c.args.ticket.place c.self.invariant.0 c.in_ok-enter.ensures.ok c.in_ok-enter.ensures.alone (λ q. places_push q tickets c.args.ticket), omega arith)
+    rw (c.of-2.ensures, c.of.ensures, c.of-entered.ensures)
+    (entered c.self.inside.buckets c.enter.new.self (λ q. of_priority q tickets) _ c.args.ticket.priority c.args.ticket c.self.invariant.0 c.in_ok-enter.ensures.ok c.in_ok-enter.ensures.alone (λ q. priority_push q tickets c.args.ticket), omega arith)

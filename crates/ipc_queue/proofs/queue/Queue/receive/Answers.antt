@@ -1,5 +1,6 @@
-use Rattle.std.proofs.Common.{length, ap, sym, ◌∙◌, arith}
-use Rattle.ipc_queue.specs.Tickets.{Tickets}
+use Rattle.std.proofs.Common.{[], ◌∷◌, ◌++◌, length, ap, sym, ◌∙◌, arith}
+use Rattle.std.specs.Option.{option_copied}
+use Rattle.ipc_queue.specs.Tickets.{Tickets, without_next}
 use Rattle.ipc_queue.proofs.Leaving.{none_left, none_leaves, some_left, taken, let_in}
 use Rattle.ipc_queue.proofs.queue.Queue.receive.Goals as goal
 
@@ -7,7 +8,7 @@ pub invariant_of-self-in-Some : goal.invariant_of-self-in-Some
 invariant_of-self-in-Some c =
     let inside = c.self.inside in
     let queue : Tickets = record { maxmsg = inside.maxmsg; msgsize = inside.msgsize; tickets = inside.contents; senders = inside.senders; receivers = inside.receivers; registered = inside.registered } in
-    let_in queue c.pop_and_push.new.self c.serve.new.self c.in-Some.sender c.serve.result c.self.invariant (some_left inside.contents c.in_ok-place.place c.in_ok-place.ensures.next) (sym c.first.ensures ∙ sym c.copied.ensures ∙ c.in-Some.is) c.in_ok-place.ensures.ok c.serve.ensures.first c.serve.ensures.rest
+    let_in queue c.pop_and_push.new.self c.serve.new.self c.in-Some.sender.now c.serve.result c.self.invariant (some_left inside.contents c.in_ok-place.place c.in_ok-place.ensures.next) (sym c.first.ensures ∙ ap option_copied c.in-Some.is) (c.in_ok-place.ensures.ok ∙ ap (λ t. without_next inside.contents ++ t ∷ []) c.in_ok-ticket.ensures.cases) c.serve.ensures.first c.serve.ensures.rest
 
 pub returns-in_err-park-clause-without_memory : goal.returns-in_err-park-clause-without_memory
 returns-in_err-park-clause-without_memory c =
@@ -31,4 +32,4 @@ pub invariant_of-self-in-Some-pop : goal.invariant_of-self-in-Some-pop
 invariant_of-self-in-Some-pop c =
     let inside = c.self.inside in
     let queue : Tickets = record { maxmsg = inside.maxmsg; msgsize = inside.msgsize; tickets = inside.contents; senders = inside.senders; receivers = inside.receivers; registered = inside.registered } in
-    taken queue c.pop.new.self c.self.invariant (some_left inside.contents c.in-Some-pop.place c.in-Some-pop.ensures.next) (sym c.first.ensures ∙ sym c.copied.ensures ∙ c.in_default.is) c.pop.ensures.rest
+    taken queue c.pop.new.self c.self.invariant (some_left inside.contents c.in-Some-pop.place c.in-Some-pop.ensures.next) (sym c.first.ensures ∙ ap option_copied c.in_default.is) c.pop.ensures.rest

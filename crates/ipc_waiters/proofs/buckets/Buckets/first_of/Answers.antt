@@ -2,4 +2,4 @@ use Rattle.std.proofs.Common.{rules}
 use Rattle.ipc_waiters.proofs.buckets.Buckets.first_of.Goals as goal
 
 pub returns : goal.returns
-returns c = search rules
+returns g c = search rules

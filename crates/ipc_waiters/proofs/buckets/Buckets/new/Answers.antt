@@ -3,4 +3,4 @@ use Rattle.ipc_waiters.proofs.Holding.{filled_of_none, alone_of_filled}
 use Rattle.ipc_waiters.proofs.buckets.Buckets.new.Goals as goal
 
 pub returns-clause-alone : goal.returns-clause-alone
-returns-clause-alone c = alone_of_filled _ (filled_of_none _ (rw c.new.ensures.empty (omega arith)))
+returns-clause-alone g c = alone_of_filled _ (filled_of_none _ (rw c.new.ensures.empty (omega arith)))

@@ -1,0 +1,60 @@
+//! Which records are kept.
+
+ghost use Rattle.std.specs.Prelude.{◌≡◌, ◌<◌, ◌≤◌, max, true, ℕ, List, Option};
+ghost use Rattle.ipc_loop.specs.Keeping.{AreWithin};
+ghost use Rattle.ipc_loop.specs.Moves.{Moved};
+ghost use Rattle.ipc_loop.specs.Ports.{Port};
+ghost use Rattle.ipc_loop.specs.Serving.{Serves, KeepsUpToDate};
+
+use ipc_hub::Hub;
+
+/// How many records are forgotten at most for each that was made.
+const FORGOTTEN_FOR_ONE: usize = 2;
+
+/// How many records are kept. Where more are, the oldest are forgotten, a few in each round.
+#[derive(Clone, Copy, PartialEq, Eq)]
+pub struct Keeping {
+    /// So many of the newest, if there is a bound.
+    pub records: Option<u64>,
+    /// As many of the newest as take about so many bytes, if there is a bound: 128 each, and the messages in them.
+    pub bytes: Option<u64>,
+}
+
+impl Keeping {
+    /// All records are kept.
+    pub const ALL: Keeping = Keeping {
+        records: None,
+        bytes: None,
+    };
+
+    /// Whether more records are kept than are to be.
+    fn is_exceeded(&self, hub: &Hub) -> bool
+        ensures { result ≡ true → (place : ℕ) → AreWithin self.now place hub.now.core.history → hub.now.core.first < place }
+    {
+        let recorded = hub.recorded() as u64;
+        let kept = recorded - hub.first_kept();
+        let too_many = match self.records {
+            Some(most) => most < kept,
+            None => false,
+        };
+        let too_large = match self.bytes {
+            Some(most) => most < hub.record_bytes(),
+            None => false,
+        };
+        too_many || too_large
+    }
+}
+
+/// Forgets the oldest records while more are kept than are to be, at most two for each of so many that were made: so no round
+/// pauses for it.
+pub fn forget_old(hub: &mut Hub, keeping: Keeping, made: usize)
+    ensures newest { (place : ℕ) → AreWithin keeping place hub.old.core.history → hub.new.core.first ≤ max hub.old.core.first place }
+    ensures serves { (moves : Option (List Moved)) (ports : ℕ → Option Port) → Serves hub.old moves ports hub.new moves ports }
+    ensures marks { (ports : ℕ → Option Port) → KeepsUpToDate hub.old ports hub.new ports }
+{
+    let mut left = made.saturating_mul(FORGOTTEN_FOR_ONE);
+    while left > 0 && keeping.is_exceeded(hub) {
+        hub.forget_one();
+        left -= 1;
+    }
+}

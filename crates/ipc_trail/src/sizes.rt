@@ -1,0 +1,24 @@
+//! How much memory records take.
+
+ghost use Rattle.std.specs.Prelude.{◌≡◌};
+ghost use Rattle.ipc_trail.specs.Sizes.{event_bytes};
+
+use ipc_terms::{Call, Event};
+
+/// About how many bytes a record takes without its message: with its share of the list that it stands in, and with the name
+/// in it, if it has one.
+const RECORD: u64 = 128;
+
+/// About how many bytes the record of the event takes, with the message that it sends, if it sends one.
+#[inline(always)]
+pub(crate) fn event_bytes(event: &Event) -> u64
+    ensures { result ≡ event_bytes event.now }
+{
+    match event {
+        Event::Do {
+            call: Call::MqSend { bytes, .. } | Call::MqTimedSend { bytes, .. },
+            ..
+        } => bytes.as_slice().len() as u64 + RECORD,
+        _ => RECORD,
+    }
+}
