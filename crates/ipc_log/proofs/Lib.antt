@@ -1,0 +1,10 @@
+pub mod ChecksumLemmas
+pub mod EntryLemmas
+pub mod EventLemmas
+pub mod HeadLemmas
+pub mod SpellingLemmas
+pub mod SumLemmas
+pub mod TableLemmas
+pub mod TrailLemmas
+pub mod VerdictLemmas
+pub mod WritingLemmas

@@ -1,0 +1,5 @@
+pub mod Checksum
+pub mod Summed
+pub mod Fields
+pub mod Trail
+pub mod Given
