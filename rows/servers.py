@@ -293,8 +293,7 @@ def without_memory(programs, address, *words):
 
 def keeps_the_newest(programs, address, *words):
     """A server that keeps few records answers more calls than there is room for; an audit begins at the oldest that is kept."""
-    keeping = ["--keep-records", str(FEW_RECORDS), "--stop-after", "2"]
-    with serving(programs, address, *keeping, *words, memory=LITTLE_MEMORY) as server:
+    with serving(programs, address, "--stop-after", "2", *words, memory=LITTLE_MEMORY) as server:
         with connect(address) as stream:
             stream.sendall(frame(HELLO, b"\0\3ka1"))
             is_answer(stream, STARTED)
@@ -585,6 +584,11 @@ def no_socket(programs, address, *words):
 
 KINDS = {"workers": [], "one thread": ONE_THREAD}
 ONE_AT_A_TIME = {"workers": ["--workers", "1"], "one thread": [*ONE_THREAD, "--connections", "1"]}
+# A record of a umask counts as 128 bytes.
+FEW_KEPT = {
+    "by number": [*ONE_THREAD, "--keep-records", str(FEW_RECORDS)],
+    "by bytes": [*ONE_THREAD, "--keep-bytes", str(128 * FEW_RECORDS)],
+}
 ANYWHERE = {
     "two clients": (two_clients, KINDS),
     f"{MANY} clients at once": (many_at_once, {"one thread": ONE_THREAD}),
@@ -593,7 +597,7 @@ ANYWHERE = {
     "a receive until a moment": (timed, KINDS),
     "no memory": (without_memory, {"one thread": ONE_THREAD}),
     "a stream in two parts": (in_two_parts, {"workers": ["--workers", "2"], "one thread": ONE_THREAD}),
-    "few records are kept": (keeps_the_newest, {"one thread": ONE_THREAD}),
+    "few records are kept": (keeps_the_newest, FEW_KEPT),
     "a log at the end of a file": (log, KINDS),
     "a log in a FIFO": (log_in_a_fifo, KINDS),
     "much behind a bad key": (much_behind, {"one thread": ONE_THREAD}),
