@@ -17,7 +17,7 @@ import time
 
 from programs import CRATES, NAMES, TOP, below, is_current, uses
 
-TESTS = ["test_library", "test_server", "test_client", "test_log"]
+TESTS = ["test_scripts", "test_words", "test_core", "test_library", "test_server", "test_client", "test_log"]
 # What a test may take: 60 seconds are too few for the longest ones beside other work.
 SECONDS = "600"
 # What a failed part is told of at most.

@@ -1,11 +1,11 @@
 //! Directories, as tables of steps, and what has the form of a name.
 
-use crate::made::{joined, name};
 use ipc_access::DirFacts;
 use ipc_names::{NameDir, check, has_form, is_long};
 use ipc_terms::{Family, Gid, Mode, Name, NoMemory, Rule, Uid};
 use std::alloc::{AllocError, Global};
 use std::test::Fail;
+use test_made::{joined, name};
 
 /// One step on a directory, and what it is to give.
 enum Step {

@@ -1,12 +1,12 @@
 //! Bytes, names, flags, rules, and the numbers of calls and answers.
 
-use crate::made::{joined, name, names};
 use bitflags::Flags;
 use ipc_terms::{
     Answer, AnswerOp, Bytes, Call, CallOp, Desc, Event, Names, NoMemory, OpenFlags, Rule,
 };
 use std::alloc::Global;
 use std::test::Fail;
+use test_made::{joined, name, names};
 
 /// Whether a copy of the bytes is equal to them, and they come back as they went in.
 fn keeps_bytes(alloc: Global, text: &str) -> Result<bool, NoMemory> {

@@ -1,10 +1,10 @@
 //! Trails: what was pushed stands at its place, and a send's message with it.
 
-use crate::made::{act, name, send, timed_send};
 use ipc_terms::{Call, Event, Line, NoMemory, Record, Rule, Sid, Uid};
 use ipc_trail::{Receipt, Trail};
 use std::alloc::Global;
 use std::test::Fail;
+use test_made::{act, name, send, timed_send};
 
 /// A record, and what is to stand at its place.
 #[derive(Drop)]

@@ -1,6 +1,6 @@
 //! The texts of faults, and the statuses that they end a program by.
 
-use crate::made::shows;
+use crate::shown::shows;
 use ipc_access::UserFault;
 use ipc_core::{CoreFault, Field};
 use ipc_script::ScriptFault;

@@ -1,6 +1,5 @@
 //! Answers and their lines.
 
-use crate::made::{name, names};
 use ipc_terms::{
     Answer, Attributes, Bytes, Desc, EVERY_RULE, Facts, Gid, Line, Lines, Mode, NoMemory, Rule,
     Sid, Uid,
@@ -8,6 +7,7 @@ use ipc_terms::{
 use ipc_words::{WordFault, line_of_answer, put_fault, put_line};
 use std::alloc::Global;
 use std::test::Fail;
+use test_made::{name, names};
 
 /// An answer, without memory of its own.
 enum Said {

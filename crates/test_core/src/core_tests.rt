@@ -1,12 +1,13 @@
 //! The core's calls: what is posted, what stands in outboxes, and what a run gives.
 
-use crate::made::{act, config, core_of, open, receive, send};
+use crate::cores::{config, core_of};
 use bitflags::Flags;
 use ipc_core::{Core, CoreFault, Field, Limits, laws};
 use ipc_terms::{Answer, Call, Desc, Event, Mode, NoMemory, OpenFlags, Rule, Sid, Uid};
 use std::alloc::Global;
 use std::mem;
 use std::test::Fail;
+use test_made::{act, open, receive, send};
 
 const FILE: &[u8] = b"root:r00t:0:0::\nann:ka1:1000:1000:50:\nbob:kb1:1001:1001:50,51:\n";
 

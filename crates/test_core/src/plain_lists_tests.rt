@@ -1,11 +1,12 @@
 //! Many events of three sessions, against lists that are kept without any table.
 
-use crate::made::{act, core_of, open, receive, send};
+use crate::cores::core_of;
 use ipc_core::Core;
 use ipc_descr::Descrs;
 use ipc_terms::{Access, Answer, Call, Desc, Event, NoMemory, OpenFlags, Rule, Sid, Uid};
 use std::alloc::Global;
 use std::test::Fail;
+use test_made::{act, open, receive, send};
 
 const FILE: &[u8] = b"ann:ka1:1000:1000::\n";
 

@@ -1,6 +1,6 @@
 //! The arguments of a server, and how a program ends that can't serve.
 
-use crate::made::shows;
+use crate::shown::shows;
 use ipc_access::UserFault;
 use ipc_core::{Field, Limits};
 use ipc_program::{Kept, ProgramFault, Task, Threading, task_of_words};

@@ -1,6 +1,6 @@
 //! Commands as request frames, and the client's faults.
 
-use crate::made::shows;
+use crate::shown::shows;
 use ipc_client::{ClientFault, ProgramFault, encode_lines, frame_of_words};
 use ipc_words::WordFault;
 use std::alloc::{AllocError, Global};

@@ -1,6 +1,5 @@
 //! Frames: streams of requests in whatever pieces they come, answers, and the memory that they take.
 
-use crate::made::{act, send};
 use ipc_terms::{
     Answer, Bytes, Call, Desc, Event, Family, Gid, Name, NoMemory, Rule, Sid, Target, Uid,
 };
@@ -11,6 +10,7 @@ use ipc_wire::{
 use std::alloc::Global;
 use std::fs;
 use std::test::Fail;
+use test_made::{act, send};
 
 /// What a stream gives: its bytes, how many requests, how many of the bytes these are, and the fault.
 struct Stream {
