@@ -28,12 +28,23 @@ use std::marker::Model;
 
 /// The configuration, every event so far with its verdict, and the tables, which say the same so
 /// that nobody need look back over the trail.
-#[derive(Drop)]
 pub struct State {
     config: Config,
     trail: Trail,
     tables: Tables,
     clock: Clock,
+}
+
+// A derived `drop` is written out, and proved anew, at each exit of each function that has a state; this one is called.
+impl Drop for State {
+    fn drop(self) {
+        let State {
+            config: _config,
+            trail: _trail,
+            tables: _tables,
+            clock: _clock,
+        } = self;
+    }
 }
 
 impl Model for State {
