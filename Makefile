@@ -78,6 +78,7 @@ test:
 rows:
 	@rows/run.py
 	@rows/servers.py
+	@rows/user_sockets.py
 
 # Plays random scripts through a script and through a server, and compares every answer. `make ways SCRIPTS=1000` plays more.
 SCRIPTS = 50

@@ -31,7 +31,7 @@ import sys
 import tempfile
 
 from programs import Fault, Program
-from served import Client, Loopback, Server, UnixSocket, answers_of, frame, short_talk
+from served import Client, Loopback, Server, UnixSocket, UsersSockets, answers_of, frame, short_talk
 from tries import tries_differences
 
 HERE = pathlib.Path(__file__).resolve().parent
@@ -57,6 +57,8 @@ SERVERS = [
     ("mqserve serve --one-thread", ("--one-thread",), Loopback),
     ("mqserve serve unix:PATH --one-thread", ("--one-thread",), UnixSocket),
 ]
+if os.geteuid() == 0:  # who else may not give files away
+    SERVERS.append(("mqserve serve unix-users:DIR --one-thread", ("--one-thread",), UsersSockets))
 
 # How many connections a server has whose allocations are counted, and how many allocations more a hundred may leave.
 FEW, MANY, LEFT = 10, 110, 20

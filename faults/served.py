@@ -5,6 +5,7 @@ import dataclasses
 import itertools
 import os
 import pathlib
+import shutil
 import socket
 import subprocess
 import tempfile
@@ -37,6 +38,9 @@ PORT = free_port()
 class Loopback:
     """An address over TCP."""
 
+    # How many of a client's requests the server says itself.
+    said = 0
+
     def __init__(self):
         self.host = own_address()
         self.told = f"{self.host}:{PORT}".encode()
@@ -51,22 +55,28 @@ class Loopback:
         pass
 
 
+def connect_to(path, seconds):
+    stream = socket.socket(socket.AF_UNIX)
+    stream.settimeout(seconds)
+    try:
+        stream.connect(str(path))
+    except BaseException:
+        stream.close()
+        raise
+    return stream
+
+
 class UnixSocket:
     """A socket that is a file."""
+
+    said = 0
 
     def __init__(self):
         self.path = pathlib.Path(_room.name, f"{next(_numbers)}.socket")
         self.told = b"unix:%s" % os.fsencode(self.path)
 
     def connect(self, seconds):
-        stream = socket.socket(socket.AF_UNIX)
-        stream.settimeout(seconds)
-        try:
-            stream.connect(str(self.path))
-        except BaseException:
-            stream.close()
-            raise
-        return stream
+        return connect_to(self.path, seconds)
 
     def is_left(self):
         return self.path.exists()
@@ -75,6 +85,26 @@ class UnixSocket:
         """Takes away what a server left that was stopped, and what stands beside its socket."""
         for left in self.path.parent.glob(f"{self.path.name}*"):
             left.unlink()
+
+
+class UsersSockets:
+    """A folder with a socket for each user. Clients are ann, whose hello the server says."""
+
+    said = 1
+
+    def __init__(self):
+        self.path = pathlib.Path(_room.name, f"{next(_numbers)}.sockets")
+        self.path.mkdir()
+        self.told = b"unix-users:%s" % os.fsencode(self.path)
+
+    def connect(self, seconds):
+        return connect_to(self.path / "ann", seconds)
+
+    def is_left(self):
+        return any(self.path.iterdir())
+
+    def remove(self):
+        shutil.rmtree(self.path)
 
 
 def frame(body):
@@ -161,7 +191,8 @@ class Server(Program):
                 files = files_of(server)
                 for one in self.talks if first else ():
                     # What the session's number is doesn't stand in a request.
-                    got.append(exchange(address, requests_of(one(0)), SECONDS if is_patient else PATIENCE))
+                    requests = requests_of(one(0)[address.said :])
+                    got.append(exchange(address, requests, SECONDS if is_patient else PATIENCE))
                     is_idle = not is_patient and not got[-1] and server.poll() is None and files_of(server) == files
                     if is_idle:
                         server.kill()

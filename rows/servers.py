@@ -68,9 +68,9 @@ def is_same(what, found, wanted):
 
 
 @contextlib.contextmanager
-def started(programs, address, *words, prepare=None):
+def started(programs, address, *words, prepare=None, users=USERS):
     """A server, which may serve already. `prepare` is called in its process before. It is ended if it hasn't ended by itself."""
-    command = programs.command("mqserve", ["serve", str(USERS), address, *words])
+    command = programs.command("mqserve", ["serve", str(users), address, *words])
     with subprocess.Popen(command, stdout=subprocess.PIPE, stderr=subprocess.PIPE, preexec_fn=prepare) as server:
         try:
             yield server
@@ -79,7 +79,7 @@ def started(programs, address, *words, prepare=None):
 
 
 @contextlib.contextmanager
-def serving(programs, address, *words, memory=None, mask=None):
+def serving(programs, address, *words, memory=None, mask=None, users=USERS):
     """A server that says that it serves, within so many bytes of memory, and with this mask for files."""
 
     def prepare():
@@ -88,7 +88,7 @@ def serving(programs, address, *words, memory=None, mask=None):
         if mask is not None:
             os.umask(mask)
 
-    with started(programs, address, *words, prepare=prepare) as server:
+    with started(programs, address, *words, prepare=prepare, users=users) as server:
         says_so(server, address)
         yield server
 
@@ -642,12 +642,17 @@ def judged(programs, case, place, words):
     return ""
 
 
-def main():
-    parser = argparse.ArgumentParser(description=__doc__)
+def programs_given(about):
+    """The programs that the arguments name."""
+    parser = argparse.ArgumentParser(description=about)
     parser.add_argument("--programs", type=pathlib.Path, help="where mqserve and mqctl are")
     parser.add_argument("--calls", default="", help="words in front of each command")
     given = parser.parse_args()
-    programs = Programs(given.programs and given.programs.resolve(), shlex.split(given.calls))
+    return Programs(given.programs and given.programs.resolve(), shlex.split(given.calls))
+
+
+def main():
+    programs = programs_given(__doc__)
     cases = list(all_cases())
     failed = 0
     for name, case, place, words in cases:

@@ -71,8 +71,9 @@ def main(words):
         print("programs.py USERS ADDRESS [OPTIONS]", file=sys.stderr)
         return 2
     users, address, *options = words
-    if address.startswith("unix:"):
-        address = "unix:" + os.path.abspath(address[len("unix:") :])
+    for front in ("unix:", "unix-users:"):
+        if address.startswith(front):
+            address = front + os.path.abspath(address[len(front) :])
     command, folder = server(os.path.abspath(users), address, options)
     if not proved("mqserve"):
         print(NOT_PROVED)

@@ -28,6 +28,7 @@ WRONG_LAYOUT = ("rt: formatted ", "rt: note: must-fail/")
 BY_PROVED = {
     "rows of proved programs": "rows/run.py",
     "servers": "rows/servers.py",
+    "users' sockets": "rows/user_sockets.py",
     "random scripts two ways": "rows/two_ways.py",
     "demo": "demo/run.py",
     "clients": "make -ks --no-print-directory clients-test",

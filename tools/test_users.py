@@ -1,6 +1,8 @@
 #!/usr/bin/env python3
 """The tests of tools/users: what it prints of this machine's users and of others, and who may read what it writes. Where a built server is
-there, it reads the file. The last line has the counts."""
+there, it reads the file; and as root the test makes two users and a third, of which two share a queue without keys, and removes them again.
+The last line has the counts."""
+import contextlib
 import importlib.machinery
 import importlib.util
 import os
@@ -8,6 +10,8 @@ import pathlib
 import pty
 import pwd
 import re
+import secrets
+import shutil
 import stat
 import subprocess
 import sys
@@ -17,12 +21,17 @@ from unittest import mock
 
 TOP = pathlib.Path(__file__).resolve().parent.parent
 PROGRAM = TOP / "tools/users"
-BUILT = TOP / "crates/mqserve/out/mqserve"
+BUILT = pathlib.Path(os.environ.get("MQSERVED", TOP / "crates/mqserve/out/mqserve")).resolve()
+CLIENT = BUILT.parent.parent.parent / "mqctl/out/mqctl"
+SECONDS = 60
 # docs/SCRIPTS.md, "The user file".
 NUMBER = "(?:0|[1-9][0-9]*)"
 LINE = re.compile(rf"([a-z0-9_-]{{1,32}}):([A-Za-z0-9]{{1,64}}):({NUMBER}):({NUMBER}):((?:{NUMBER}(?:,{NUMBER}){{0,63}})?):({NUMBER}?)")
 
 sys.dont_write_bytecode = True
+sys.path.insert(0, str(TOP / "clients/python"))
+import mqserve  # noqa: E402
+
 loader = importlib.machinery.SourceFileLoader("users", str(PROGRAM))
 users = importlib.util.module_from_spec(importlib.util.spec_from_loader("users", loader))
 loader.exec_module(users)
@@ -47,12 +56,12 @@ def person(name, uid, gid=None, shell="/bin/sh"):
 class Made(unittest.TestCase):
     """Of users that the test makes up."""
 
-    def make(self, people, groups=None, names=(), limit=""):
+    def make(self, people, groups=None, names=(), limit="", **where):
         by_name = {user.pw_name: user for user in people}
         groups_of = lambda name, gid: (groups or {}).get(name, []) + [gid]
         with mock.patch.object(users.pwd, "getpwall", lambda: people), mock.patch.object(users.pwd, "getpwnam", by_name.__getitem__), \
                 mock.patch.object(users.os, "getgrouplist", groups_of):
-            return users.user_file(names, limit)
+            return users.user_file(names, limit, **where)
 
     def refused(self, *words, **named):
         with self.assertRaises(users.Refused) as caught:
@@ -65,6 +74,16 @@ class Made(unittest.TestCase):
                   person("off", 1002, shell="/bin/false"), person("plain", 1003, shell=""), person("root", 0), person("bob", 1001)]
         self.assertEqual([(name, uid, gid) for name, _, uid, gid, _, _ in fields(self.make(people))],
                          [("root", "0", "0"), ("ann", "1000", "50"), ("bob", "1001", "1001"), ("plain", "1003", "1003")])
+
+    def test_range(self):
+        people = [person("root", 0), person("www", 33), person("off", 34, shell="/bin/false"), person("ann", 1000), person("bob", 1001)]
+        for where, wanted in (({"first": 33}, ["root", "www", "ann", "bob"]), ({"last": 1000}, ["root", "ann"]),
+                              ({"first": 1001, "last": 1001}, ["root", "bob"]), ({"first": 2, "last": 1}, ["root"])):
+            with self.subTest(where=where):
+                self.assertEqual([row[0] for row in fields(self.make(people, **where))], wanted)
+        self.assertEqual((users.user_id("0"), users.user_id("4294967294")), (0, 4294967294))
+        for word in ("", "01", "-1", "+1", "4294967295", "9" * 20, "1\n", "\u0661"):
+            self.assertRaises(users.argparse.ArgumentTypeError, users.user_id, word)
 
     def test_named(self):
         people = [person("root", 0), person("www", 33, shell="/bin/false"), person("ann", 1000)]
@@ -151,6 +170,13 @@ class Written(unittest.TestCase):
         self.assertEqual(done.stderr, b"users: 'no-such-user-here': there is no such user\n")
         self.assertFalse(self.path.exists())
 
+    def test_range_beside_names(self):
+        for words in (("--from", "1", "root"), ("root", "--to", "1")):
+            done = run(*words)
+            self.assertEqual((done.returncode, done.stdout), (2, b""))
+        done = run("--from", "0", "--to", "0")
+        self.assertEqual([row[0] for row in fields(done.stdout)], ["root"])
+
     def test_disk_that_is_full(self):
         with mock.patch.object(users.os, "fchmod", side_effect=OSError(28, "No space left on device")):
             self.assertRaises(OSError, users.write_new, str(self.path), "text")
@@ -184,6 +210,100 @@ class Written(unittest.TestCase):
         script += b".\na hello %s\n" % script.split(b":")[1]
         done = subprocess.run([str(BUILT)], input=script, stdout=subprocess.PIPE, stderr=subprocess.PIPE, timeout=60, check=False)
         self.assertEqual((done.returncode, done.stdout, done.stderr), (0, b"a started 0\n", b""))
+
+
+@contextlib.contextmanager
+def accounts(count):
+    """So many users of this machine, which are removed at the end."""
+    names = [f"mqs-{secrets.token_hex(4)}" for _ in range(count)]
+    made = []
+    try:
+        for name in names:
+            subprocess.run(["useradd", "--no-create-home", "--user-group", name], check=True, timeout=SECONDS, stdout=subprocess.DEVNULL)
+            made.append(name)
+        yield names
+    finally:
+        for name in made:
+            subprocess.run(["userdel", name], check=True, timeout=SECONDS, stdout=subprocess.DEVNULL, stderr=subprocess.DEVNULL)
+
+
+@unittest.skipUnless(BUILT.exists() and os.geteuid() == 0 and shutil.which("useradd"), "it takes a built server, root and useradd")
+class WithoutKeys(unittest.TestCase):
+    """Users who were made for it, at a server over a folder with a socket for each but the last."""
+
+    def setUp(self):
+        self.room = pathlib.Path(self.enter(tempfile.TemporaryDirectory()))
+        self.room.chmod(0o755)
+        self.folder = self.room / "sockets"
+        self.folder.mkdir(mode=0o755)
+        self.ann, self.bob, self.eve = self.enter(accounts(3))
+        file = self.room / "users"
+        self.assertEqual(run("--output", str(file), "root", self.ann, self.bob).returncode, 0)
+        words = [str(BUILT), "serve", str(file), f"unix-users:{self.folder}", "--one-thread"]
+        server = subprocess.Popen(words, stdout=subprocess.PIPE, stderr=subprocess.PIPE)
+        self.addCleanup(server.communicate)
+        self.addCleanup(server.kill)
+        self.assertEqual(server.stdout.readline(), b"serving unix-users:%s\n" % os.fsencode(self.folder))
+
+    def enter(self, context):
+        entered = context.__enter__()
+        self.addCleanup(context.__exit__, None, None, None)
+        return entered
+
+    def become(self, name):
+        user = pwd.getpwnam(name)
+        os.initgroups(name, user.pw_gid)
+        os.setgid(user.pw_gid)
+        os.setuid(user.pw_uid)
+
+    def ask(self, name, act, place=""):
+        """What the function of a client says as this user, or what it raises."""
+        reading, writing = os.pipe()
+        child = os.fork()
+        if child == 0:
+            try:
+                self.become(name)
+                mqserve.use(f"unix-user:{self.folder}{place}")
+                said = repr(act())
+            except (mqserve.Error, OSError) as error:
+                said = f"{type(error).__name__}: {error}"
+            os.write(writing, said.encode())
+            os._exit(0)
+        os.close(writing)
+        with open(reading) as told:
+            said = told.read()
+        os.waitpid(child, 0)
+        return said
+
+    def test_two_share_a_queue(self):
+        self.assertEqual(self.ask(self.ann, lambda: mqserve.MessageQueue("/shared", mqserve.O_CREX, mode=0o644).send("hi", priority=5)), "None")
+        self.assertEqual(self.ask(self.bob, lambda: mqserve.MessageQueue("/shared", write=False).receive(5)), "(b'hi', 5)")
+        self.assertEqual(self.ask(self.bob, lambda: mqserve.MessageQueue("/shared")),
+                         "PermissionsError: refused by rule 15, ModeDenied")
+
+    def test_others_do_not_connect(self):
+        make = lambda: mqserve.MessageQueue(None, mqserve.O_CREX)
+        for who, name in ((self.eve, self.ann), (self.eve, self.bob), (self.eve, "root"), (self.bob, self.ann), (self.ann, "root")):
+            with self.subTest(who=who, name=name):
+                self.assertEqual(self.ask(who, make, f"/{name}"), "PermissionError: [Errno 13] Permission denied")
+        self.assertEqual(self.ask(self.eve, make), "FileNotFoundError: [Errno 2] No such file or directory")
+        self.assertIn("MessageQueue", self.ask("root", make, f"/{self.ann}"))
+
+    def told(self, name, *words):
+        """What the command says as this user, on both streams."""
+        done = subprocess.run(words, preexec_fn=lambda: self.become(name), cwd="/", stdin=subprocess.DEVNULL, stdout=subprocess.PIPE,
+                              stderr=subprocess.PIPE, timeout=SECONDS, check=False)
+        return done.stdout.decode(), done.stderr.decode().strip()
+
+    @unittest.skipUnless(CLIENT.exists(), "it takes a built mqctl")
+    def test_mqctl(self):
+        client = shutil.copy(CLIENT, self.room)     # the built one may be where others don't get
+        own = f"unix-user:{self.folder}"
+        self.assertEqual(self.told(self.ann, client, own, "mq-open", "/a", "rw", "--create"), ("opened 0\n", ""))
+        self.assertEqual(self.told(self.bob, client, own, "receive", "/a"), ("refused 15 EACCES ModeDenied\n", ""))
+        self.assertEqual(self.told("root", client, f"{own}/{self.bob}", "receive", "/a"), ("refused 15 EACCES ModeDenied\n", ""))
+        for place in (own, f"{own}/{self.ann}"):
+            self.assertEqual(self.told(self.eve, client, place, "receive", "/a"), ("", "mqctl: net"))
 
 
 if __name__ == "__main__":

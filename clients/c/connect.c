@@ -8,9 +8,12 @@
 #include <netinet/in.h>
 #include <netinet/tcp.h>
 #include <poll.h>
+#include <pwd.h>
+#include <stdio.h>
 #include <stdlib.h>
 #include <string.h>
 #include <sys/socket.h>
+#include <sys/stat.h>
 #include <sys/un.h>
 #include <unistd.h>
 
@@ -35,6 +38,27 @@ static int split(const char *address, struct place *place)
     place->host[host_size] = 0;
     memcpy(place->port, colon + 1, port_size + 1);
     return 0;
+}
+
+/* What stands behind unix-user:, or NULL: the user is known by the socket, and no key is wanted. */
+static const char *behind_unix_user(const char *address)
+{
+    static const char front[] = "unix-user:";
+    return strncmp(address, front, sizeof front - 1) ? NULL : address + sizeof front - 1;
+}
+
+/* The socket of the process's user: in a folder it has the user's name, and anything else is the socket itself. */
+static int find_own(const char *place, char *path, size_t room)
+{
+    struct stat found;
+    if (stat(place, &found) < 0) return errno == ENOENT ? mqsi_fail(ECONNREFUSED) : -1;
+    if (!S_ISDIR(found.st_mode)) return snprintf(path, room, "%s", place) < (int)room ? 0 : mqsi_fail(EINVAL);
+    char text[4096];
+    struct passwd entry, *user;
+    int error = getpwuid_r(getuid(), &entry, text, sizeof text, &user);
+    if (error) return mqsi_fail(error);
+    if (!user) return mqsi_fail(ENXIO);
+    return snprintf(path, room, "%s/%s", place, user->pw_name) < (int)room ? 0 : mqsi_fail(EINVAL);
 }
 
 /* ---- The socket ---- */
@@ -123,9 +147,17 @@ static int dial_path(const char *path, int bound_ms)
     return -1;
 }
 
+static int dial_own(const char *place, int bound_ms)
+{
+    char path[sizeof ((struct sockaddr_un *)NULL)->sun_path];
+    return find_own(place, path, sizeof path) < 0 ? -1 : dial_path(path, bound_ms);
+}
+
 static int dial(const char *address, int bound_ms)
 {
     struct place place;
+    const char *own = behind_unix_user(address);
+    if (own) return dial_own(own, bound_ms);
     if (!strncmp(address, "unix:", 5)) return dial_path(address + 5, bound_ms);
     if (split(address, &place) < 0) return -1;
     struct addrinfo hints = { .ai_socktype = SOCK_STREAM }, *all;
@@ -141,12 +173,21 @@ static int dial(const char *address, int bound_ms)
 
 /* ---- The session ---- */
 
-static int say_hello(struct mqs *c, const char *key)
+static int say_hello(struct mqs *c, const char *key, struct answer *a)
 {
     struct request hello = mqsi_request(HELLO);
-    struct answer a;
     if (mqsi_put_text(&hello, key) < 0) return mqsi_fail(EINVAL);
-    if (mqsi_ask(c, &hello, &a, STARTED) < 0) {
+    return mqsi_ask(c, &hello, a, STARTED);
+}
+
+/* Without a key the server has said the hello itself. */
+static int start(struct mqs *c, const char *key)
+{
+    struct answer a;
+    int r;
+    if (key) r = say_hello(c, key, &a);
+    else if ((r = mqsi_await_front(c, mqsi_deadline(c))) == 0) r = mqsi_take(c, &a, STARTED);
+    if (r < 0) {
         /* A busy server lets clients connect, and is silent until a worker is free. */
         if (c->lost == ECONNABORTED) errno = ETIMEDOUT;
         return -1;
@@ -175,7 +216,7 @@ struct mqs *mqs_attach(int fd, const char *key, int answer_ms)
     c->shares_clock = is_peer_here(fd);
     int one = 1;
     setsockopt(fd, IPPROTO_TCP, TCP_NODELAY, &one, sizeof one);   /* fails where it isn't TCP, which is no matter */
-    if (say_hello(c, key) == 0) return c;
+    if (start(c, key) == 0) return c;
     int error = errno;
     mqs_disconnect(c);
     errno = error;
@@ -184,6 +225,11 @@ struct mqs *mqs_attach(int fd, const char *key, int answer_ms)
 
 struct mqs *mqs_connect(const char *address, const char *key, int answer_ms)
 {
+    if (behind_unix_user(address)) key = NULL;
+    else if (!key) {
+        errno = EINVAL;
+        return NULL;
+    }
     int fd = dial(address, answer_ms);
     return fd < 0 ? NULL : mqs_attach(fd, key, answer_ms);
 }

@@ -47,14 +47,18 @@ struct mqs;
 /* ---- Connections ---- */
 
 /* Connects to `address` and starts a session with `key`. The address is HOST:PORT (a name, or an IP address; [HOST]:PORT for
- * IPv6), or unix:PATH (a socket's path of 1 to 107 bytes). `answer_ms` is the connection's bound, and that of this call but for
+ * IPv6), or unix:PATH (a socket's path of 1 to 107 bytes), or unix-user:PATH. This last is a socket of the process's user's own, of a
+ * server that listens at unix-users:DIR: PATH is the socket, or the folder in which it has the user's name (getpwuid of getuid). Who can
+ * open it is its user: `key` isn't used there, and may be NULL. `answer_ms` is the connection's bound, and that of this call but for
  * the look-up of a name.
- * Errors: EINVAL (address, or a key of more than 65,535 bytes), connect's (ECONNREFUSED also where PATH isn't there),
+ * Errors: EINVAL (address, a key of more than 65,535 bytes, or none where one is wanted), connect's (ECONNREFUSED also where PATH isn't
+ * there; EACCES also where the socket is another user's), ENXIO (PATH is a folder, and the process's user has no passwd entry),
  * EACCES (rule 31: no user has the key),
  * ETIMEDOUT (no answer to the hello: all workers of the server are busy, or this is no server). */
 struct mqs *mqs_connect(const char *address, const char *key, int answer_ms);
 
-/* The same over a connected stream socket, which then belongs to the connection; where the call fails it is closed. */
+/* The same over a connected stream socket, which then belongs to the connection; where the call fails it is closed. Without a key (NULL)
+ * no hello is sent, and the server's `started` is waited for, as at a socket of a user's own. */
 struct mqs *mqs_attach(int fd, const char *key, int answer_ms);
 
 /* Ends the session: the server withdraws its call that blocks and closes all that it had open. NULL does nothing. */

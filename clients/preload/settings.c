@@ -47,8 +47,10 @@ static char *first_line(const char *path)
     return line;
 }
 
-static const char *find_key(void)
+/* At a socket of the user's own none is wanted. */
+static const char *find_key(const char *address)
 {
+    if (!strncmp(address, "unix-user:", 10)) return "";
     const char *text = getenv("MQSERVE_KEY"), *path = getenv("MQSERVE_KEY_FILE");
     if (text) return strdup(text);
     if (!path) {
@@ -71,7 +73,7 @@ __attribute__((constructor)) static void begin(void)
     read_number("MQSERVE_SHARED_CLOCK", 0, 1, &settings.shared_clock);
     read_number("MQSERVE_TIMEOUT_MS", 1, INT_MAX, &settings.hello_ms);
     read_number("MQSERVE_ANSWER_MS", 1, INT_MAX, &settings.answer_ms);
-    settings.key = find_key();
+    settings.key = find_key(address);
     owner = getpid();
     if (watch_forks() == 0) settings.address = strdup(address);
     if (!settings.address) say("start", "no memory; the system's own calls stay");

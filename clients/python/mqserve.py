@@ -2,6 +2,7 @@
 
     import mqserve
     mqserve.use("127.0.0.1:7000", "ka1")            # or the variables MQSERVE and MQSERVE_KEY or MQSERVE_KEY_FILE
+    mqserve.use("unix-user:/run/mqserve")     # or this: a socket of the user's own, which wants no key
     queue = mqserve.MessageQueue("/jobs", mqserve.O_CREX)
     queue.send(b"build-7", priority=5)
     queue.receive(timeout=1)                        # (b"build-7", 5)
@@ -22,6 +23,7 @@ from __future__ import annotations
 import errno
 import math
 import os
+import pwd
 import random
 import select
 import signal
@@ -119,12 +121,27 @@ def _text(name: Union[str, bytes]) -> bytes:
     return struct.pack(">H", len(data)) + data
 
 
+_OWN = "unix-user:"
+
+
+def _own_path(place: str) -> str:
+    """The socket of the process's user: in a folder it has the user's name, and anything else is the socket itself."""
+    if not os.path.isdir(place):
+        return place
+    try:
+        return os.path.join(place, pwd.getpwuid(os.getuid()).pw_name)
+    except KeyError:
+        raise Error(f"user {os.getuid()} has no passwd entry, so unix-user: needs the path of a socket") from None
+
+
 def _dial(address: str, seconds: float) -> socket.socket:
+    if address.startswith(_OWN):
+        return _dial_path(_own_path(address[len(_OWN):]), seconds)
     if address.startswith("unix:"):
         return _dial_path(address[5:], seconds)
     host, colon, port = address.rpartition(":")
     if not colon or not port.isdigit():
-        raise ValueError("the address must be HOST:PORT or unix:PATH")
+        raise ValueError("the address must be HOST:PORT, unix:PATH or unix-user:PATH")
     dialled = socket.create_connection((host.strip("[]"), int(port)), seconds)
     dialled.setsockopt(socket.IPPROTO_TCP, socket.TCP_NODELAY, 1)
     return dialled
@@ -180,7 +197,7 @@ class _Call:
 class _Connection:
     """One connection, one session, for one thread at a time."""
 
-    def __init__(self, address: str, key: str, seconds: float, shared_clock: Optional[bool] = None) -> None:
+    def __init__(self, address: str, key: Optional[str], seconds: float, shared_clock: Optional[bool] = None) -> None:
         self.socket = _dial(address, seconds)
         self.shared_clock = _is_here(self.socket) if shared_clock is None else shared_clock
         self.data = bytearray()
@@ -191,7 +208,10 @@ class _Connection:
         self.opened: "weakref.WeakKeyDictionary[_Thing, int]" = weakref.WeakKeyDictionary()
         self.bound = seconds
         try:
-            self.ask(_HELLO, _text(key), _STARTED)
+            if key is not None:
+                self.write(_HELLO, _text(key))
+            self.await_answer()
+            self.take(_STARTED)
             self.bound = _ANSWER_S
             self.ask(_UMASK, b"\0\0", _MASK)
         except BaseException as error:
@@ -368,7 +388,7 @@ class _Connection:
 class _Server:
     """The connections of this process: home for what doesn't block, and sides for what does."""
 
-    def __init__(self, address: str, key: str, spares: int, shared_clock: Optional[bool]) -> None:
+    def __init__(self, address: str, key: Optional[str], spares: int, shared_clock: Optional[bool]) -> None:
         self.address, self.key, self.spares, self.shared_clock = address, key, spares, shared_clock
         self.lock = threading.RLock()
         self.home: Optional[_Connection] = None
@@ -553,11 +573,16 @@ class _Server:
 _server: Optional[_Server] = None
 
 
-def use(address: str, key: str, spares: int = 1, shared_clock: Optional[bool] = None) -> None:
-    """The server, HOST:PORT or unix:PATH, and the key for all that is opened from now on. spares: connections that are kept open for calls
+def use(address: str, key: Optional[str] = None, spares: int = 1, shared_clock: Optional[bool] = None) -> None:
+    """The server, HOST:PORT or unix:PATH, and the key for all that is opened from now on. Or unix-user:PATH, a socket of the process's user's
+    own, or a folder in which it has the user's name: there no key is used. spares: connections that are kept open for calls
     that will block; each takes a worker of the server. shared_clock: whether the server's clock is this machine's; None: it is with
-    unix:PATH and a loopback address. Say False where such an address leads to another machine, as through a tunnel."""
+    a path and a loopback address. Say False where such an address leads to another machine, as through a tunnel."""
     global _server
+    if address.startswith(_OWN):
+        key = None
+    elif key is None:
+        raise PermissionsError("no key: call use, or set MQSERVE_KEY or MQSERVE_KEY_FILE")
     _server = _Server(address, key, spares, shared_clock)
 
 
@@ -566,11 +591,9 @@ def _current() -> _Server:
         address, key, path = (os.environ.get(name) for name in ("MQSERVE", "MQSERVE_KEY", "MQSERVE_KEY_FILE"))
         if not address:
             raise Error("no server: call use, or set MQSERVE")
-        if key is None and path:
+        if key is None and path and not address.startswith(_OWN):
             with open(path) as file:
                 key = file.readline().rstrip("\r\n")
-        if key is None:
-            raise PermissionsError("no key: call use, or set MQSERVE_KEY or MQSERVE_KEY_FILE")
         use(address, key)
     assert _server is not None
     return _server

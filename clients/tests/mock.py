@@ -1,6 +1,8 @@
 #!/usr/bin/env python3
-"""mock.py serve USERS ADDRESS [--workers N]: answers as docs/POLICY.md says, for tests where no server is built. ADDRESS is HOST:PORT or
-unix:PATH. Not the product: nothing here is proved, and set-limit and audit are left out."""
+"""mock.py serve USERS ADDRESS [--workers N]: answers as docs/POLICY.md says, for tests where no server is built. ADDRESS is HOST:PORT,
+unix:PATH or unix-users:DIR. Not the product: nothing here is proved, and set-limit and audit are left out."""
+import os
+import select
 import socket
 import struct
 import sys
@@ -418,12 +420,13 @@ def read_frame(stream):
         return b""
 
 
-def serve(connection, users):
+def serve(connection, users, user):
     stream = connection.makefile("rb")
-    hello = read_frame(stream)
-    user = users.get(hello[3:]) if hello[:1] == b"\1" else None
     if user is None:
-        return connection.sendall(struct.pack(">IBH", 3, 76, 31)) if hello else None
+        hello = read_frame(stream)
+        user = users.get(hello[3:]) if hello[:1] == b"\1" else None
+        if user is None:
+            return connection.sendall(struct.pack(">IBH", 3, 76, 31)) if hello else None
     with lock:
         s = Session(connection, user)
         s.answer(65, struct.pack(">Q", s.number))
@@ -436,44 +439,58 @@ def serve(connection, users):
 
 
 def read_users(path):
-    users = {}
+    users, names = {}, {}
     for line in open(path, "rb").read().splitlines():
-        _, key, uid, gid, groups, limit = line.split(b":")
-        users[key] = (int(uid), int(gid), [int(group) for group in groups.split(b",") if group])
+        name, key, uid, gid, groups, limit = line.split(b":")
+        users[key] = names[name.decode()] = (int(uid), int(gid), [int(group) for group in groups.split(b",") if group])
         limits[int(uid)] = int(limit or 819200)
-    return users
+    return users, names
 
 
-def listen(address):
+def listen_at(path):
+    listener = socket.socket(socket.AF_UNIX)
+    listener.bind(path)
+    return listener
+
+
+def listen(address, names):
+    """The listeners, each with the user that who connects there is, or None where that is told by a key."""
+    if address.startswith("unix-users:"):
+        listeners = {listen_at(os.path.join(address[11:], name)): user for name, user in names.items()}
+        for listener, user in listeners.items():
+            os.chmod(listener.getsockname(), 0o600)
+            os.chown(listener.getsockname(), *user[:2])
+            listener.listen(128)
+        return listeners
     if address.startswith("unix:"):
-        listener = socket.socket(socket.AF_UNIX)
-        listener.bind(address[5:])
+        listener = listen_at(address[5:])
         listener.listen(128)
-        return listener
+        return {listener: None}
     host, port = address.rsplit(":", 1)
-    return socket.create_server((host, int(port)), backlog=128)
+    return {socket.create_server((host, int(port)), backlog=128): None}
 
 
 def main():
-    users = read_users(sys.argv[2])
+    users, names = read_users(sys.argv[2])
     workers = threading.Semaphore(int(sys.argv[5]) if len(sys.argv) > 5 else 4)
-    listener = listen(sys.argv[3])
+    listeners = listen(sys.argv[3], names)
     threading.Thread(target=keep_time, daemon=True).start()
     print("serving", sys.argv[3], flush=True)
 
-    def work(connection):
+    def work(connection, user):
         try:
-            serve(connection, users)
+            serve(connection, users, user)
         except OSError:
             pass
         connection.close()
         workers.release()
     while True:
-        connection, _ = listener.accept()
-        if connection.family != socket.AF_UNIX:
-            connection.setsockopt(socket.IPPROTO_TCP, socket.TCP_NODELAY, 1)
-        workers.acquire()
-        threading.Thread(target=work, args=(connection,), daemon=True).start()
+        for listener in select.select(list(listeners), [], [])[0]:
+            connection, _ = listener.accept()
+            if connection.family != socket.AF_UNIX:
+                connection.setsockopt(socket.IPPROTO_TCP, socket.TCP_NODELAY, 1)
+            workers.acquire()
+            threading.Thread(target=work, args=(connection, listeners[listener]), daemon=True).start()
 
 
 if __name__ == "__main__":

@@ -7,6 +7,10 @@ use Rattle.ipc_words.specs.Numbers.{is_octal_digit}
 abbrev pub is_unix : List ℕ → Bool
 is_unix address = starts_with nat_eq address (codes "unix:")
 
+-- the path of a folder with a socket for each user stands behind `unix-users:`
+abbrev pub is_unix_users : List ℕ → Bool
+is_unix_users address = starts_with nat_eq address (codes "unix-users:")
+
 -- the permission bits that a word writes, as 0600: a zero and three octal digits
 abbrev pub mode_of_word : List ℕ → Option ℕ
 mode_of_word word =

@@ -1,5 +1,5 @@
 -- The task that the program's words ask for.
-use Rattle.std.specs.Prelude.{◌-◌, ◌^◌, ◌&&◌, ◌||◌, ℕ, Bool, nat_le, not, List, Option, Some, None, Ok, Err, codes, is_some, unwrap_or, if◌then◌else◌}
+use Rattle.std.specs.Prelude.{◌-◌, ◌^◌, ◌&&◌, ◌||◌, ℕ, Bool, true, nat_le, not, List, Option, Some, None, Ok, Err, codes, is_some, unwrap_or, if◌then◌else◌}
 use Rattle.std.specs.Option.{option_map_or}
 use Rattle.std.specs.Str.{bytes_eq}
 use Rattle.clap.specs.Simple.{subcommand_of}
@@ -8,7 +8,7 @@ use Rattle.ipc_policy.specs.declared.config.Limits.{Limits}
 use Rattle.ipc_policy.specs.declared.config.TheConstants.Limits.{STANDARD}
 use Rattle.ipc_words.specs.Numbers.{decimal_within}
 use Rattle.ipc_words.specs.Readings.{Meaning, ◌>>=◌, is_given, of_argument, option_at}
-use Rattle.ipc_program.specs.Addresses.{is_unix, mode_of_word}
+use Rattle.ipc_program.specs.Addresses.{is_unix, is_unix_users, mode_of_word}
 use Rattle.ipc_program.specs.Options.{app_of_program}
 use Rattle.ipc_program.specs.Servers.{Serving}
 use Rattle.ipc_program.specs.declared.tasks.Kept.{Kept}
@@ -92,6 +92,17 @@ threading_given rows =
     then (if has (codes "workers") rows then Err (codes "one-thread") else connections_given rows >>= λ connections. kept_given rows >>= λ kept. Ok (OneThread connections kept))
     else crew_given rows
 
+-- one thread serves any address, and workers any but users' sockets
+abbrev pub serves : Text → Threading → Bool
+serves address (OneThread _ _) = true
+serves address (Workers _) = not (is_unix_users address)
+
+-- one thread without workers, or workers, at this address
+abbrev pub threading_at : Text → List Row → Meaning Threading
+threading_at address rows =
+    threading_given rows >>= λ threading.
+    if serves address threading then Ok threading else Err (codes "address")
+
 -- the permission bits of a socket's file, which stand at no other address, and where none are given 0600
 abbrev pub socket_mode_given : Text → List Row → Meaning ℕ
 socket_mode_given address rows =
@@ -103,7 +114,7 @@ abbrev pub serving_given : List Row → Meaning Serving
 serving_given rows =
     word_at (codes "users") rows >>= λ users.
     word_at (codes "address") rows >>= λ address.
-    threading_given rows >>= λ threading.
+    threading_at address rows >>= λ threading.
     option_at (decimal_within (2 ^ 64 - 1)) (codes "stop-after") rows >>= λ stop_after.
     socket_mode_given address rows >>= λ socket_mode.
     limits_given rows >>= λ limits.

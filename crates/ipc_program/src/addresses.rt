@@ -3,13 +3,20 @@
 ghost use Rattle.std.specs.Prelude.{◌≡◌, ◌≤◌, ◌-◌};
 ghost use Rattle.std.specs.List.{list_all};
 ghost use Rattle.ipc_words.specs.Numbers.{is_octal_digit};
-ghost use Rattle.ipc_program.specs.Addresses.{is_unix, mode_of_word};
+ghost use Rattle.ipc_program.specs.Addresses.{is_unix, is_unix_users, mode_of_word};
 
 /// Whether the address is that of a file: `unix:` and its path.
 pub fn is_unix(address: &str) -> bool
     ensures { result ≡ is_unix address.now }
 {
     address.as_bytes().starts_with(b"unix:")
+}
+
+/// Whether the address is that of a folder with a socket for each user: `unix-users:` and its path.
+pub fn is_unix_users(address: &str) -> bool
+    ensures { result ≡ is_unix_users address.now }
+{
+    address.as_bytes().starts_with(b"unix-users:")
 }
 
 /// The permission bits that a word writes, as `0600`: a zero and three octal digits.

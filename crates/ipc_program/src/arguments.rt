@@ -8,9 +8,9 @@ ghost use Rattle.ipc_words.specs.Grammar.{flag};
 ghost use Rattle.ipc_words.specs.Readings.{Reads, is_given};
 ghost use Rattle.ipc_program.specs.Options.{Adds, IsSubcommand, app_of_program, limit_options, place, script_shape, serve_shape, server_options, thread_options, value_option};
 ghost use Rattle.ipc_program.specs.Servers.{IsEnough, IsWithin};
-ghost use Rattle.ipc_program.specs.Tasks.{connections_given, crew_given, has, kept_given, limits_given, newest_given, threading_given, serving_given, socket_mode_given, task_asked, task_given, task_of, workers_given};
+ghost use Rattle.ipc_program.specs.Tasks.{connections_given, crew_given, has, kept_given, limits_given, newest_given, serves, threading_at, threading_given, serving_given, socket_mode_given, task_asked, task_given, task_of, workers_given};
 
-use crate::addresses::{is_unix, read_mode};
+use crate::addresses::{is_unix, is_unix_users, read_mode};
 use crate::fault::ProgramFault;
 use crate::tasks::{Kept, Serving, Task, Threading};
 use clap::error::ErrorKind;
@@ -30,7 +30,8 @@ mqserve [script [--msg-max <N>] [--msgsize-max <N>] [--queues-max <N>]]
 
 const USERS_HELP: &str = "The user file";
 
-const ADDRESS_HELP: &str = "Where to listen, as 127.0.0.1:7000 or unix:/run/mqserve/socket";
+const ADDRESS_HELP: &str =
+    "Where to listen, as 127.0.0.1:7000, unix:/run/mqserve/socket or unix-users:/run/mqserve";
 
 const ONE_THREAD_HELP: &str = "Serve all connections on one thread, without workers";
 
@@ -89,8 +90,8 @@ const STANDARD_MODE: u32 = 0o600;
 /// 4,294,967,295, or of `--stop-after` and the two of records 18,446,744,073,709,551,615, that of `--workers` isn't 1 to 64,
 /// that of `--connections` is 0, that of `--keep-records` is below 1,000, or OCTAL isn't a zero and three octal digits; where
 /// `--workers` stands beside `--one-thread`, `--connections` or what tells of records without it, `--keep-all` beside the other
-/// two, or `--socket-mode` at an address that isn't `unix:PATH`; and where they ask for help or the
-/// version.
+/// two, `--socket-mode` at an address that isn't `unix:PATH`, or `unix-users:DIR` without `--one-thread`; and where they ask for
+/// help or the version.
 pub fn task_of_words<'a, S: AsStr>(
     alloc: Global,
     help: &'a str,
@@ -128,6 +129,7 @@ fn what_is_wanted(fault: WordFault) -> &'static str {
     match fault {
         WordFault::BadValue("workers") => "N is 1 to 64, decimal, without sign and leading zeros",
         WordFault::BadValue("one-thread") => "it has no workers",
+        WordFault::BadValue("address") => "unix-users:DIR stands with --one-thread",
         WordFault::BadValue("connections") =>
             "N is 1 to 4294967295, decimal, without sign and leading zeros, and stands with --one-thread",
         WordFault::BadValue("keep-records") =>
@@ -280,7 +282,7 @@ fn serving_of(alloc: Global, options: &ArgMatches) -> Result<Serving, WordFault>
     let Some(address) = optional_word(options, "address") else {
         return Err(WordFault::BadValue("address"));
     };
-    let threading = threading_of(options)?;
+    let threading = threading_at(options, address)?;
     let stop_after = optional_number(options, "stop-after")?;
     let log = log_of(alloc, options)?;
     let socket_mode = socket_mode_of(options, address)?;
@@ -304,6 +306,27 @@ fn log_of(alloc: Global, options: &ArgMatches) -> Result<Option<String>, AllocEr
         return Ok(None);
     };
     Ok(Some(String::from_str(alloc, path)?))
+}
+
+/// On what threads this address is served. Users' sockets are served by one thread.
+fn threading_at(options: &ArgMatches, address: &str) -> Result<Threading, WordFault>
+    ensures reads { Reads (threading_at address.now (rows_of (found_of options.now))) result }
+    ensures in_range { IfOk result IsWithin }
+{
+    let threading = threading_of(options)?;
+    if !serves(address, threading) {
+        return Err(WordFault::BadValue("address"));
+    }
+    Ok(threading)
+}
+
+fn serves(address: &str, threading: Threading) -> bool
+    ensures { result ≡ serves address.now threading }
+{
+    match threading {
+        Threading::OneThread(..) => true,
+        Threading::Workers(_) => !is_unix_users(address),
+    }
 }
 
 /// One thread, where its flag is given, and else workers. An option of the other is refused.

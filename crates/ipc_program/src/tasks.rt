@@ -17,9 +17,10 @@ pub enum Task {
 pub struct Serving {
     /// The path of the user file.
     pub users: String,
-    /// Where it listens, as `127.0.0.1:7000`, or behind `unix:` the path of a socket's file.
+    /// Where it listens, as `127.0.0.1:7000`, or behind `unix:` the path of a socket's file, or behind `unix-users:` that of a folder
+    /// with a socket for each user.
     pub address: String,
-    /// The permission bits of that file.
+    /// The permission bits of the one file.
     pub socket_mode: u32,
     pub threading: Threading,
     /// After how many connections it ends.

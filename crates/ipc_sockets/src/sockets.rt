@@ -1,12 +1,20 @@
 //! Sockets by their numbers, and what waits for them.
 
+ghost use Rattle.std.specs.Prelude.{◌≡◌, [], ◌∷◌, ◌++◌, None, IfOk, OnOk};
+ghost use Rattle.ipc_sockets.specs.Greetings.{IsOneOf};
+ghost use Rattle.ipc_sockets.specs.Hellos.{beginnings, hellos};
+
 use crate::clock::moment;
-use crate::files::{SocketFile, listen_at_file, path_of};
+use crate::files::{SocketFiles, listen_at_file, path_of};
+use crate::folder::{UserSocket, listen_in_folder};
+use crate::greeting::Greeting;
 use crate::lingering::LingeringStreams;
-use crate::streams::{Listener, Stream};
+use crate::link::Link;
+use crate::listeners::Listeners;
+use crate::streams::Listener;
 use ipc_loop::{Ending, Host, Ready};
 use ipc_numbered::Numbered;
-use ipc_terms::Uid;
+use ipc_terms::{Bytes, Uid};
 use mio::event::Event;
 use mio::net::UnixListener;
 use mio::{Events, Poll, Token};
@@ -22,23 +30,21 @@ use std::time::{Clock, Duration};
 /// How many sources one wait tells of at most.
 const MOST_EVENTS: usize = 1_024;
 
-/// No connection has this number.
-const LISTENER: Token = Token(usize::MAX);
-
-/// A listener, the connections that it accepted, and the system's clock. What a socket carried isn't known to contracts.
+/// Listeners, the connections that they accepted, and the system's clock. What a socket carried isn't known to contracts.
 #[derive(Drop)]
 pub struct Sockets<'a, R> {
     rt: &'a R,
     poll: Poll,
-    listener: Listener,
-    /// The file that is listened at, if it is one.
-    file: Option<SocketFile>,
+    listeners: Listeners,
+    /// The files that are listened at, if there are any.
+    files: Option<SocketFiles>,
     /// By their numbers, of which none is used twice. None while its accept isn't done.
-    links: Numbered<Option<Stream>>,
+    links: Numbered<Option<Link>>,
     /// Links that were closed while bytes of their peers may have been unread.
     lingering: LingeringStreams,
     events: Events,
-    /// What the last wait found and isn't told yet, the last first.
+    /// What is ready and isn't told yet, the last first: what the last wait found, and links that were accepted since and have a
+    /// greeting to be read.
     ready: Vec<Ready>,
 }
 
@@ -46,68 +52,136 @@ impl<'a, R: Files<File = File> + Net> Sockets<'a, R> {
     /// Listens at `HOST:PORT`, the first that can be bound, or at `unix:PATH`, a file which gets these permission bits (see
     /// `listen_at_file`). No connection can be lost for want of room in the kernel's queue before the system's own limit.
     /// An `Err` leaves no file.
-    pub fn bind(rt: &'a R, alloc: Global, address: &str, mode: u32) -> io::Result<Self> {
-        let events = Events::with_capacity(alloc, MOST_EVENTS)?;
-        let ready = Vec::with_capacity(alloc, MOST_EVENTS)?;
-        let lingering = LingeringStreams::new(alloc)?;
-        let poll = Poll::new(rt)?;
-        let (listener, file) = match path_of(address) {
-            Some(path) => at_file(rt, alloc, &poll, path, mode)?,
-            None => (over_tcp(rt, &poll, address)?, None),
+    pub fn bind(rt: &'a R, alloc: Global, address: &str, mode: u32) -> io::Result<Self>
+        ensures { IfOk result (λ sockets. beginnings sockets ≡ None ∷ []) }
+    {
+        let mut sockets = Sockets::without_listeners(rt, alloc, 1)?;
+        let Some(path) = path_of(address) else {
+            sockets.add(Listener::over_tcp(rt, address)?, None)?;
+            return Ok(sockets);
         };
+        let (listener, files) = listen_at_file(rt, alloc, path, mode)?;
+        match sockets.add_unix(listener, None) {
+            Ok(()) => {
+                sockets.files = Some(files);
+                Ok(sockets)
+            }
+            Err(error) => {
+                files.remove(rt);
+                Err(error)
+            }
+        }
+    }
+
+    /// Listens at a socket of each user's own in this folder: a connection there begins with the user's hello, whatever
+    /// its peer sends. Errors are as of `listen_in_folder`. An `Err` leaves no file.
+    pub fn bind_for_users(
+        rt: &'a R,
+        alloc: Global,
+        folder: &str,
+        users: &[UserSocket],
+    ) -> io::Result<Self>
+        ensures { IfOk result (λ sockets. beginnings sockets ≡ hellos users.now) }
+    {
+        let mut sockets = Sockets::without_listeners(rt, alloc, users.len())?;
+        let (listeners, files) = listen_in_folder(rt, alloc, folder, users)?;
+        match sockets.add_all(listeners, users) {
+            Ok(()) => {
+                sockets.files = Some(files);
+                Ok(sockets)
+            }
+            Err(error) => {
+                files.remove(rt);
+                Err(error)
+            }
+        }
+    }
+
+    /// No socket yet, and room for so many listeners.
+    fn without_listeners(rt: &'a R, alloc: Global, room: usize) -> io::Result<Self>
+        ensures { IfOk result (λ sockets. beginnings sockets ≡ []) }
+    {
         Ok(Sockets {
             rt,
-            poll,
-            listener,
-            file,
+            poll: Poll::new(rt)?,
+            listeners: Listeners::new(alloc, room)?,
+            files: None,
             links: Numbered::new(alloc),
-            lingering,
-            events,
-            ready,
+            lingering: LingeringStreams::new(alloc)?,
+            events: Events::with_capacity(alloc, MOST_EVENTS)?,
+            ready: Vec::with_capacity(alloc, MOST_EVENTS)?,
         })
     }
 }
 
-/// A listener over TCP, of which a wait tells.
-fn over_tcp<N: Net>(net: &N, poll: &Poll, address: &str) -> io::Result<Listener> {
-    let mut listener = Listener::over_tcp(net, address)?;
-    listener.register(poll.registry(), LISTENER)?;
-    Ok(listener)
-}
+impl<R> Sockets<'_, R> {
+    fn add(&mut self, listener: Listener, greeting: Option<Bytes>) -> io::Result<()>
+        ensures { OnOk result (beginnings self.new ≡ beginnings self.old ++ greeting ∷ []) }
+    {
+        self.listeners.add(self.poll.registry(), listener, greeting)
+    }
 
-/// A listener at a file, of which a wait tells.
-fn at_file<R: Files<File = File> + Net>(
-    rt: &R,
-    alloc: Global,
-    poll: &Poll,
-    path: &str,
-    mode: u32,
-) -> io::Result<(Listener, Option<SocketFile>)> {
-    let (listener, file) = listen_at_file(rt, alloc, path, mode)?;
-    match prepared(listener, poll) {
-        Ok(listener) => Ok((listener, Some(file))),
-        Err(error) => {
-            file.remove(rt);
-            Err(error)
+    /// Adds a listener, which never waits from now on.
+    fn add_unix(
+        &mut self,
+        listener: unix::net::UnixListener,
+        greeting: Option<Bytes>,
+    ) -> io::Result<()>
+        ensures { OnOk result (beginnings self.new ≡ beginnings self.old ++ greeting ∷ []) }
+    {
+        listener.set_nonblocking(true)?;
+        self.add(Listener::Unix(UnixListener::from_std(listener)), greeting)
+    }
+
+    /// Adds the listener of each user.
+    fn add_all(
+        &mut self,
+        listeners: Vec<unix::net::UnixListener>,
+        users: &[UserSocket],
+    ) -> io::Result<()>
+        ensures { OnOk result (beginnings self.new ≡ beginnings self.old ++ hellos users.now) }
+    {
+        let mut listeners = listeners.into_iter();
+        for user in users {
+            let Some(listener) = listeners.next() else {
+                return Err(io::Error::from(ErrorKind::InvalidInput));
+            };
+            self.add_unix(listener, Some(user.hello.clone()?))?;
         }
+        Ok(())
+    }
+
+    /// Accepts the next connection under this number. A link with a greeting is told to be ready.
+    fn accept_link(&mut self, number: u64) -> io::Result<Link>
+        ensures { IfOk result (λ link. IsOneOf (beginnings self.old) link.greeting) }
+    {
+        // The room is made first, so that nobody is dropped for want of it, and the next wait needs none.
+        self.ready.reserve(MOST_EVENTS + 1)?;
+        let (mut stream, hello) = self.listeners.accept()?;
+        stream.register(self.poll.registry(), Token(number as usize))?;
+        let Some(hello) = hello else {
+            return Ok(Link {
+                stream,
+                greeting: None,
+            });
+        };
+        self.ready.push(to_be_read(number))?;
+        Ok(Link {
+            stream,
+            greeting: Some(Greeting::new(hello)),
+        })
     }
 }
 
-/// The listener, which never waits, and of which a wait tells.
-fn prepared(listener: unix::net::UnixListener, poll: &Poll) -> io::Result<Listener> {
-    listener.set_nonblocking(true)?;
-    let mut listener = Listener::Unix(UnixListener::from_std(listener));
-    listener.register(poll.registry(), LISTENER)?;
-    Ok(listener)
-}
-
 impl<R: Files + Clock> Sockets<'_, R> {
-    /// Removes the file that was listened at, if it is still there, and waits until no stream lingers: a second at most.
+    /// Removes the files that were listened at, if they are still there, and waits until no stream lingers: a second at most.
     pub fn finish(&mut self) {
-        if let Some(file) = self.file.take() {
-            file.remove(self.rt);
+        if let Some(files) = self.files.take() {
+            files.remove(self.rt);
         }
         for _ in 0..u64::MAX {
+            // Nobody is told any more.
+            self.ready.clear();
             if self.lingering.is_empty() || self.wait(None).is_err() {
                 return;
             }
@@ -119,12 +193,12 @@ impl<R> Sockets<'_, R> {
     /// Who is at the other end of the connection of this number, where that is known: not at a Unix socket.
     pub fn peer(&self, number: u64) -> Option<SocketAddr> {
         match self.links.get(number as usize) {
-            Some(Some(link)) => link.peer(),
+            Some(Some(link)) => link.stream.peer(),
             _ => None,
         }
     }
 
-    fn link(&mut self, number: u64) -> io::Result<&mut Stream> {
+    fn link(&mut self, number: u64) -> io::Result<&mut Link> {
         match self.links.get_mut(number as usize) {
             Some(Some(link)) => Ok(link),
             _ => Err(io::Error::from(ErrorKind::NotFound)),
@@ -140,8 +214,7 @@ impl<R: Clock> Host for Sockets<'_, R> {
                 return Err(io::Error::from(ErrorKind::OutOfMemory));
             };
         }
-        let mut link = self.listener.accept()?;
-        link.register(self.poll.registry(), Token(number as usize))?;
+        let link = self.accept_link(number)?;
         if let Some(place) = self.links.get_mut(number as usize) {
             *place = Some(link);
         }
@@ -158,7 +231,7 @@ impl<R: Clock> Host for Sockets<'_, R> {
             // The system would fail where the peer is gone, though what it sent is still to be read.
             return Ok(0);
         }
-        link.write(bytes)
+        link.stream.write(bytes)
     }
 
     fn greeted(&mut self, _number: u64, _user: Uid) {}
@@ -166,22 +239,22 @@ impl<R: Clock> Host for Sockets<'_, R> {
     fn close(&mut self, number: u64, _requests: u64, ending: Ending) {
         if let Some(Some(link)) = self.links.take(number as usize) {
             if may_leave_unread(ending) {
-                self.lingering.add(self.rt, number, link);
+                self.lingering.add(self.rt, number, link.stream);
             }
         }
     }
 
     fn wait(&mut self, pause: Option<Duration>) -> io::Result<()> {
-        self.ready.clear();
-        let pause = self.lingering.shorten(self.rt, pause);
+        let pause = if self.ready.is_empty() {
+            self.lingering.shorten(self.rt, pause)
+        } else {
+            // What is ready already is told at once.
+            Some(Duration::ZERO)
+        };
         self.poll.poll(&mut self.events, pause)?;
         for event in self.events.iter().rev() {
-            keep(
-                ready(event),
-                &self.links,
-                &mut self.lingering,
-                &mut self.ready,
-            )?;
+            let found = ready(event, &mut self.listeners);
+            keep(found, &self.links, &mut self.lingering, &mut self.ready)?;
         }
         self.lingering.go_on(self.rt);
         Ok(())
@@ -199,7 +272,7 @@ impl<R: Clock> Host for Sockets<'_, R> {
 /// Keeps what is to be told. A link that was closed may linger, and isn't told of.
 fn keep(
     found: Ready,
-    links: &Numbered<Option<Stream>>,
+    links: &Numbered<Option<Link>>,
     lingering: &mut LingeringStreams,
     kept: &mut Vec<Ready>,
 ) -> io::Result<()> {
@@ -221,9 +294,19 @@ fn may_leave_unread(ending: Ending) -> bool {
     }
 }
 
+/// A link that can be read, whatever its socket says.
+fn to_be_read(number: u64) -> Ready {
+    Ready::Link {
+        number,
+        is_readable: true,
+        is_writable: false,
+        has_ended: false,
+    }
+}
+
 /// An error, and an end of what can be written, come as something to read too: the read says why.
-fn ready(event: &Event) -> Ready {
-    if event.token() == LISTENER {
+fn ready(event: &Event, listeners: &mut Listeners) -> Ready {
+    if listeners.note(event.token()) {
         return Ready::Listener;
     }
     let has_failed = event.is_error() || event.is_write_closed();

@@ -3,9 +3,13 @@
 ghost use Rattle.std.specs.Prelude.{◌≤◌, length};
 
 use crate::connection::{connect_over_tcp, connect_to_file};
-use ipc_client::{ClientFault, LONGEST_KEY, ProgramFault, client_session};
+use crate::own_socket::own_path;
+use ipc_client::{ClientFault, LONGEST_KEY, ProgramFault, WithoutFront, client_session};
 use std::alloc::{AllocError, Global};
 use std::io::{Read, Write};
+
+/// How many bytes the frame of a hello with an empty key has.
+const EMPTY_HELLO: usize = 7;
 
 /// Speaks to the server at the address: the command that these words are, or each line of standard input.
 pub fn talk(
@@ -14,11 +18,33 @@ pub fn talk(
     key: &str,
     command: &[String],
 ) -> Result<bool, ProgramFault> {
-    // A line feed in a word would part the command into two.
-    if key.len() > LONGEST_KEY || command.iter().any(|word| word.contains('\n')) {
+    if key.len() > LONGEST_KEY || !is_one_line(command) {
         return Err(ProgramFault::Arguments);
     }
     Ok(talk_as(rt, address, key.as_bytes(), command)?)
+}
+
+/// Speaks at the socket of a user's own, which is at this path or in this folder. The server has said the hello.
+pub fn talk_as_owner(
+    rt: &HostRuntime,
+    place: &str,
+    command: &[String],
+) -> Result<bool, ProgramFault> {
+    if !is_one_line(command) {
+        return Err(ProgramFault::Arguments);
+    }
+    let path = own_path(rt, place)?;
+    let stream = connect_to_file(rt, path.as_str())?;
+    let writer = WithoutFront {
+        writer: &stream,
+        left_out: EMPTY_HELLO,
+    };
+    Ok(talk_over(rt, &stream, writer, b"", command)?)
+}
+
+/// A line feed in a word would part the command into two.
+fn is_one_line(command: &[String]) -> bool {
+    !command.iter().any(|word| word.contains('\n'))
 }
 
 /// Speaks as the user with this key, to `HOST:PORT` or `unix:PATH`.

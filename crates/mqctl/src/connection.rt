@@ -26,7 +26,8 @@ pub fn connect_to_file(rt: &HostRuntime, path: &str) -> Result<UnixStream, Clien
     }
 }
 
-fn fault_of(error: &io::Error) -> ClientFault {
+/// The fault of a file or a connection that can't be had.
+pub fn fault_of(error: &io::Error) -> ClientFault {
     match error.kind() {
         ErrorKind::OutOfMemory => ClientFault::Memory,
         _ => ClientFault::Net,

@@ -18,6 +18,7 @@ Usage:
   mqctl                       prints the frame of each line of standard input, in hexadecimal
   mqctl --help                prints this
   mqctl --key-file FILE ADDRESS [COMMAND]   takes the key from the first line of FILE
+  mqctl unix-user:PATH [COMMAND]   speaks as who may open the socket at PATH, or in the folder PATH the socket of its own
 KEY - stands for the value of the variable MQSERVE_KEY.
 
 An answer is a line. Those of a command end with the first that is neither a notice nor `taken`.

@@ -220,7 +220,7 @@ fn words_tell_the_mode_of_a_socket(rt: HostRuntime) -> Result<(), Fail> {
 }
 
 /// The words behind `mqserve`, and the first line of why they ask for nothing.
-static REFUSED: [(&[&str], &str); 38] = [
+static REFUSED: [(&[&str], &str); 41] = [
     (&["serve"], MISSING),
     (&["serve", "u"], MISSING),
     (&["serve", "--workers", "4"], MISSING),
@@ -290,6 +290,30 @@ static REFUSED: [(&[&str], &str); 38] = [
         ],
         STOP_AFTER,
     ),
+    (
+        &[
+            "serve",
+            "u",
+            "unix-users:a",
+            "--one-thread",
+            "--socket-mode",
+            "0600",
+        ],
+        SOCKET_MODE,
+    ),
+    (&["serve", "u", "unix-users:a"], ADDRESS),
+    (
+        &[
+            "serve",
+            "u",
+            "unix-users:",
+            "--workers",
+            "2",
+            "--stop-after",
+            "x",
+        ],
+        ADDRESS,
+    ),
     (&["serve", "u", "a", "--stop-after", "x"], STOP_AFTER),
     (&["serve", "u", "a", "--stop-after", "01"], STOP_AFTER),
     (&["serve", "u", "a", "--stop-after", "+1"], STOP_AFTER),
@@ -339,6 +363,8 @@ const WORKERS: &str =
     "error: invalid value workers: N is 1 to 64, decimal, without sign and leading zeros";
 
 const ONE_THREAD: &str = "error: invalid value one-thread: it has no workers";
+
+const ADDRESS: &str = "error: invalid value address: unix-users:DIR stands with --one-thread";
 
 const CONNECTIONS: &str =
     "error: invalid value connections: N is 1 to 4294967295, decimal, without sign and leading zeros, and stands with --one-thread";

@@ -1,0 +1,4 @@
+pub mod Folders
+pub mod Greetings
+pub mod Hellos
+pub mod Owners
