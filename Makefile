@@ -76,9 +76,11 @@ test:
 
 # Runs the programs that make test or make build left, over inputs whose outcome is known: both streams, and statuses.
 rows:
+	@rows/trails.py --check
 	@rows/run.py
 	@rows/servers.py
 	@rows/user_sockets.py
+	@rows/served_trails.py
 
 # Plays random scripts through a script and through a server, and compares every answer. `make ways SCRIPTS=1000` plays more.
 SCRIPTS = 50

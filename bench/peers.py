@@ -48,16 +48,38 @@ PEERS = {
     "beanstalkd": "beanstalkd",
 }
 
+# The same with what happens in a file; asked for by --peers or --saving.
+SAVING = {
+    "trail": "mqserve --one-thread --trail-file",
+    "trail-sync": "mqserve --one-thread --trail-file --trail-sync",
+    "redis-everysec": "Redis, appendfsync everysec",
+    "redis-always": "Redis, appendfsync always",
+    "beanstalkd-file": "beanstalkd -b",
+    "beanstalkd-always": "beanstalkd -b -f0",
+}
+SHOWN = {**PEERS, **SAVING}
+# Those that save nothing, to compare with.
+BESIDE = ["one-thread", "redis", "beanstalkd"]
+
 # mqserve's words, and whether it listens at a file; None stands for as many workers as are wanted.
 OURS = {
     "mqserve": (None, False),
     "unix": (None, True),
     "one-thread": (["--one-thread"], False),
     "one-thread-unix": (["--one-thread"], True),
+    "trail": (["--one-thread", "--trail-file", "saved/trail"], False),
+    "trail-sync": (["--one-thread", "--trail-file", "saved/trail", "--trail-sync"], False),
 }
 
 # Those that come from elsewhere: Debian's packages have the same names.
 SERVERS = {"redis": "redis-server", "beanstalkd": "beanstalkd"}
+# What their saving kinds are told besides.
+KINDS = {
+    "redis-everysec": ("redis", ["--dir", "saved", "--save", "", "--appendonly", "yes", "--appendfsync", "everysec"]),
+    "redis-always": ("redis", ["--dir", "saved", "--save", "", "--appendonly", "yes", "--appendfsync", "always"]),
+    "beanstalkd-file": ("beanstalkd", ["-b", "saved"]),
+    "beanstalkd-always": ("beanstalkd", ["-b", "saved", "-f0"]),
+}
 
 WANTED = """\
 {missing}: not found on PATH. They are Debian's packages of these names:
@@ -79,11 +101,11 @@ class Work(NamedTuple):
     aim_of: str
 
 
-ALONE = tuple(peer for peer in PEERS if peer != "echo")
+ALONE = tuple(peer for peer in SHOWN if peer != "echo")
 WORKS = (
-    Work("One connection, a request at a time", "serial", 1, tuple(PEERS), 0.9, "echo"),
-    Work("One connection, by 8", "batch", 1, tuple(PEERS), 2.0, "redis"),
-    Work("64 connections, each by 8", "batch", 64, tuple(PEERS), 3.0, "redis"),
+    Work("One connection, a request at a time", "serial", 1, tuple(SHOWN), 0.9, "echo"),
+    Work("One connection, by 8", "batch", 1, tuple(SHOWN), 2.0, "redis"),
+    Work("64 connections, each by 8", "batch", 64, tuple(SHOWN), 3.0, "redis"),
     Work("Ping-pong of two processes", "pong", 1, ALONE, 1.5, "redis"),
 )
 
@@ -103,13 +125,14 @@ def command_of(peer, room, program, port, connections):
         address = f"unix:{room / 'socket'}" if is_at_file(peer) else f"127.0.0.1:{port}"
         words = OURS[peer][0] or ["--workers", max(4, connections)]
         return [program, "serve", room / "users", address, *words]
+    kind, saving = KINDS.get(peer, (peer, ["--save", "", "--appendonly", "no"] if peer == "redis" else []))
     return {
         "kernel": None,
         "echo": [room / "echo_server", port],
         "least": [room / "least_server", port],
-        "redis": [SERVERS["redis"], "--bind", "127.0.0.1", "--port", port, "--save", "", "--appendonly", "no"],
-        "beanstalkd": [SERVERS["beanstalkd"], "-l", "127.0.0.1", "-p", port],
-    }[peer]
+        "redis": [SERVERS["redis"], "--bind", "127.0.0.1", "--port", port, *saving],
+        "beanstalkd": [SERVERS["beanstalkd"], "-l", "127.0.0.1", "-p", port, *saving],
+    }[kind]
 
 
 def free_port():
@@ -168,13 +191,15 @@ def measured(peer, work, room, program, seconds):
     """One figure, of a server that is started for it."""
     port = free_port()
     place = room / "socket" if is_at_file(peer) else port
-    protocol = "mqserve" if peer == "least" or peer in OURS else peer
+    protocol = "mqserve" if peer == "least" or peer in OURS else KINDS.get(peer, (peer,))[0]
+    shutil.rmtree(room / "saved", ignore_errors=True)
+    (room / "saved").mkdir()
     words = [room / "client", protocol, str(place), work.word, str(work.connections), str(seconds)]
     with serving(command_of(peer, room, program, port, work.connections), place, room) as server:
         before = processor_seconds(server)
         client = subprocess.run(words, capture_output=True, text=True, timeout=MOST_SECONDS)
         if client.returncode:
-            sys.exit(f"{PEERS[peer]}, {work.shown}: status {client.returncode}: {client.stderr.strip()}")
+            sys.exit(f"{SHOWN[peer]}, {work.shown}: status {client.returncode}: {client.stderr.strip()}")
         spent = processor_seconds(server) - before
     rate, messages = map(float, client.stdout.split())
     return Figure(rate, spent / messages * 1e6)
@@ -216,10 +241,10 @@ def table(figures):
     ]
     for work in WORKS:
         lines.append(f"| **{work.shown}** | | | | | |")
-        for peer in (peer for peer in PEERS if (work, peer) in figures):
+        for peer in (peer for peer in SHOWN if (work, peer) in figures):
             rates = [it.rate for it in figures[work, peer]]
             cells = [
-                PEERS[peer],
+                SHOWN[peer],
                 shown_count(statistics.median(rates)),
                 f"{shown_count(min(rates))} to {shown_count(max(rates))}",
                 shown_ratio(ratio(figures, work, peer, "echo")),
@@ -259,9 +284,10 @@ def versions(peers):
 
 def check_programs(peers, program):
     """Ends the program where a server is missing."""
-    missing = [SERVERS[peer] for peer in peers if peer in SERVERS and not shutil.which(SERVERS[peer])]
+    wanted = {SERVERS[kind] for kind in {KINDS.get(peer, (peer,))[0] for peer in peers} if kind in SERVERS}
+    missing = [server for server in sorted(wanted) if not shutil.which(server)]
     if missing:
-        sys.exit(WANTED.format(missing=" and ".join(missing), all=",".join(PEERS)))
+        sys.exit(WANTED.format(missing=" and ".join(missing), all=",".join(SHOWN)))
     if set(OURS) & set(peers) and not program.exists():
         sys.exit("no program was built yet: run `make build` first")
 
@@ -271,17 +297,18 @@ def arguments():
     parser.add_argument("room", type=Path, help=argparse.SUPPRESS)
     parser.add_argument("--rounds", type=int, default=7, help="7 where nothing is given")
     parser.add_argument("--short", action="store_true", help=f"{SHORT} s each in place of {SECONDS} s, for trying")
-    parser.add_argument("--peers", default=",".join(PEERS), help="these alone, of %(default)s")
+    parser.add_argument("--peers", default=",".join(PEERS), help=f"these alone, of %(default)s,{','.join(SAVING)}")
+    parser.add_argument("--saving", action="store_true", help="those that keep in a file what happens, beside some that don't")
     parser.add_argument("--program", type=Path, default=PROGRAM, help="the mqserve that is measured")
     parser.add_argument("--plot", type=Path, help="peers.svg beside this file; no plot where --short is given")
     given = parser.parse_args()
-    given.peers = given.peers.split(",")
-    unknown = [peer for peer in given.peers if peer not in PEERS]
+    given.peers = [*BESIDE, *SAVING] if given.saving else given.peers.split(",")
+    unknown = [peer for peer in given.peers if peer not in SHOWN]
     if unknown:
         parser.error(f"no such peer: {', '.join(unknown)}")
     if given.rounds < 1:
         parser.error("at least one round")
-    if given.plot is None and not given.short:
+    if given.plot is None and not given.short and not given.saving:
         given.plot = HERE / "peers.svg"
     return given
 

@@ -29,6 +29,7 @@ BY_PROVED = {
     "rows of proved programs": "rows/run.py",
     "servers": "rows/servers.py",
     "users' sockets": "rows/user_sockets.py",
+    "trails of servers": "rows/served_trails.py",
     "random scripts two ways": "rows/two_ways.py",
     "demo": "demo/run.py",
     "clients": "make -ks --no-print-directory clients-test",
@@ -120,6 +121,7 @@ def parts_for(crate):
         yield tests_of(name)
     if stand_on_it("test_rows"):
         yield Part("streams", "tools/quick.py --part streams", streams)
+    yield by_command("files of trails", "rows/trails.py --check")
     yield Part("layout", "tools/quick.py --part layout", lambda: layout([crate] if crate else lines))
     yield by_command("documents", "tools/documents.py")
     if not crate:

@@ -25,7 +25,7 @@ use Rattle.ipc_policy.proofs.Outcomes.Outboxes.{outbox_after}
 use Rattle.ipc_state.specs.StateView.{StateView}
 use Rattle.ipc_core.specs.Outboxes.{with_more, starts, with_box, added, untaken_after, after_step, after_steps, IsSuffix, BoxesAgree, Stand}
 use Rattle.ipc_core.specs.CoreView.{CoreView}
-use Rattle.ipc_core.proofs.BoxTables.{box_past, first_same, first_changed, more_first}
+use Rattle.ipc_core.proofs.BoxTables.{box_past, box_first, count_first, first_same, first_changed, more_first}
 use Rattle.ipc_terms.proofs.Lists.{slice_get_push, slice_past, changed_if, at_changed, count_changed}
 
 for_more : (s : ℕ) (p : Sid × Answer) (ps : List (Sid × Answer)) → for_session s (p ∷ ps) ≡ cond (eqb p.0.0 s) (p.1 ∷ for_session s ps) (for_session s ps)
@@ -246,6 +246,19 @@ boxes_taken c h boxes i a = record {
 pub stand_new : (c : Config) (untaken : ℕ → List Answer) → ((s : ℕ) → untaken s ≡ []) → Stand c [] untaken
 unfolding hellos
 stand_new c untaken none = record { unstarted = λ s le. none s; agree = boxes_new c }
+
+-- nor where nothing is untaken that was answered before
+pub fresh_box : (n : ℕ) (untaken : ℕ → List Answer) (s : ℕ) → ((t : ℕ) → untaken t ≡ []) → box_at (of_first n untaken) s ≡ []
+fresh_box n untaken s none = box_first n untaken s (λ t le. none t) ∙ none s
+
+pub stand_fresh : (c : Config) (h : History) (untaken : ℕ → List Answer) → ((s : ℕ) → untaken s ≡ []) → Stand c h untaken
+stand_fresh c h untaken none = record {
+  unstarted = λ s le. none s;
+  agree = record {
+    count = count_first (hellos h) untaken;
+    suffix = λ s. subst (λ box. IsSuffix box (outbox c h s)) (sym (fresh_box (hellos h) untaken s none)) (suffix_none (outbox c h s));
+  };
+}
 
 pub state_new : (c : Config) (untaken : ℕ → List Answer) → ◌≡◌ {A = CoreView} (record { config = c; history = []; untaken = of_first (hellos []) untaken; first = 0 }) (record { config = c; history = []; untaken = []; first = 0 })
 unfolding hellos

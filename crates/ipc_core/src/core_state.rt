@@ -1,6 +1,6 @@
 //! The core.
 
-ghost use Rattle.std.specs.Prelude.{◌≡◌, ◌≤◌, ◌+◌, min, ◌||◌, ◌++◌, [], None, IfOk, IfErr, OnOk, OnErr, filter, length, map, take, MatchOption};
+ghost use Rattle.std.specs.Prelude.{◌≡◌, ℕ, ◌≤◌, ◌+◌, min, ◌||◌, ◌++◌, [], None, IfOk, IfErr, OnOk, OnErr, filter, length, map, take, MatchOption};
 ghost use Rattle.std.specs.Option.{option_map, option_to_list};
 ghost use Rattle.ipc_terms.specs.Timed.{plain};
 ghost use Rattle.ipc_policy.specs.Bodies.{due};
@@ -9,7 +9,7 @@ ghost use Rattle.ipc_state.specs.OnTime.{ended_call};
 ghost use Rattle.ipc_state.specs.NextDeadline.{IsNextDeadline, EndsOncePast};
 ghost use Rattle.ipc_terms.specs.Lists.{changed};
 ghost use Rattle.ipc_core.specs.Boxes.{box_at, taken};
-ghost use Rattle.ipc_policy.specs.Sessions.{live};
+ghost use Rattle.ipc_policy.specs.Sessions.{hellos, live};
 ghost use Rattle.ipc_policy.specs.Verdict.{verdict, answers, Legal, all_answers};
 ghost use Rattle.ipc_core.specs.Outboxes.{BoxesAgree, starts, told_list, session_at, after_step, after_steps};
 ghost use Rattle.ipc_state.specs.Meetings.{by_description, by_name, object_by, object_bound};
@@ -81,6 +81,19 @@ impl Core {
         })
     }
 
+    /// A core that goes on from a state. Nothing is untaken, whoever was answered what. Takes no memory.
+    pub fn of_state(alloc: Global, state: State) -> Core
+        ensures config { result.config ≡ state.config }
+        ensures history { result.history ≡ state.history }
+        ensures first { result.first ≡ state.first }
+        ensures nothing { (s : ℕ) → box_at result.untaken s ≡ [] }
+    {
+        Core {
+            state,
+            outboxes: Outboxes::new(alloc),
+        }
+    }
+
     /// The configuration that the core was made with.
     pub fn config(&self) -> &Config
         ensures { result.now ≡ self.now.config }
@@ -114,6 +127,13 @@ impl Core {
         ensures in_range { first_bad self.now.config.limits ≡ None }
     {
         self.state.is_legal();
+    }
+
+    /// How many sessions ever started.
+    pub fn sessions(&self) -> usize
+        ensures { result ≡ hellos self.now.history }
+    {
+        self.state.tables().session_count()
     }
 
     /// The rule of the lowest number that forbids the event, if one does. Takes no memory.

@@ -1,5 +1,5 @@
 -- Stepping frames marks whom it answers, and stops in time.
-use Rattle.std.proofs.Common.{◌≡◌, ℕ, ◌+◌, ◌≤◌, true, false, cond, [], ◌∷◌, slice_get, Option, Some, None, refl, sym, ap, ◌∙◌, arith}
+use Rattle.std.proofs.Common.{◌≡◌, ℕ, ◌+◌, ◌≤◌, true, false, cond, [], ◌∷◌, Option, Some, None, refl, sym, ap, ◌∙◌, arith}
 use Rattle.std.specs.Prelude.{is_none, unwrap_or}
 use Rattle.std.proofs.lemmas.Bool.{leb-false}
 use Rattle.ipc_terms.specs.declared.ids.Sid.{Sid}
@@ -12,7 +12,7 @@ use Rattle.ipc_hub.specs.declared.fed.Fed.{Fed}
 use Rattle.ipc_hub.specs.declared.fed.Fed.TheVariants.{Full, Over}
 use Rattle.ipc_hub.specs.declared.fed.End.TheVariants.{BadKey}
 use Rattle.ipc_hub.specs.Hub.{session_or_next, is_hello_refused}
-use Rattle.ipc_hub.specs.Marking.{is_set}
+use Rattle.ipc_hub.specs.Marking.{is_set, owner_of}
 use Rattle.ipc_hub.specs.MarkedCore.{MarkedView, Follows, GainsAtMostTwo}
 use Rattle.ipc_hub.specs.Stepping.{Starts, Goes, Ends, IsWithin, is_full, count_of}
 use Rattle.ipc_hub.proofs.MarkedLemmas.{follows_self, follows_both}
@@ -45,7 +45,7 @@ starts_on a b i s t u f h stays k = record {
   marked_at none sid e None is = k.marked is sid e
   marked_at none sid e (Some own) is = f.kept i (h.marked none own is)
 
-  owner_at : s ≡ None → (sid : Sid) → u ≡ Some sid → (w : Option Sid) → t ≡ w → slice_get b.owners sid.0 ≡ Some i
+  owner_at : s ≡ None → (sid : Sid) → u ≡ Some sid → (w : Option Sid) → t ≡ w → owner_of b.owners sid.0 ≡ Some i
   owner_at none sid e None is = k.owner is sid e
   owner_at none sid e (Some own) is = f.owners sid.0 i (h.owner none sid (is ∙ sym (stays own is) ∙ e))
 

@@ -14,7 +14,7 @@ use Rattle.ipc_hub.specs.declared.fed.Fed.{Fed}
 use Rattle.ipc_hub.specs.declared.fed.Fed.TheVariants.{Done, Short, Full, Over}
 use Rattle.ipc_hub.specs.declared.fed.End.TheVariants.{Wire, BadKey}
 use Rattle.ipc_hub.specs.Hub.{Connection, Hub, Marks, new_connection, untaken_of, untaken, untaken_at, hang_up_of, IsOutcome, core_after_take}
-use Rattle.ipc_hub.specs.Marking.{is_set}
+use Rattle.ipc_hub.specs.Marking.{is_set, owner_of}
 use Rattle.ipc_hub.specs.MarkedCore.{MarkedView, Follows}
 use Rattle.ipc_hub.specs.Sessions.{Stands}
 use Rattle.ipc_hub.specs.Stepping.{Starts, Ends, IsWithin, is_full, count_of}
@@ -136,13 +136,13 @@ was_there m xs i x was = ap (left_there m.core) was
 
 -- ---- whose sessions are whose
 
-changed_owned : (m n : MarkedView) (xs : List Connection) (i : ℕ) (x y : Connection) → Stands m xs → slice_get xs i ≡ Some x → ((s j : ℕ) → slice_get m.owners s ≡ Some j → slice_get n.owners s ≡ Some j) → Starts n i x.session y.session → ((sid : Sid) → x.session ≡ Some sid → y.session ≡ Some sid) → (j : ℕ) (z : Connection) (sid : Sid) → slice_get (set xs i y) j ≡ Some z → z.session ≡ Some sid → slice_get n.owners sid.0 ≡ Some j
+changed_owned : (m n : MarkedView) (xs : List Connection) (i : ℕ) (x y : Connection) → Stands m xs → slice_get xs i ≡ Some x → ((s j : ℕ) → owner_of m.owners s ≡ Some j → owner_of n.owners s ≡ Some j) → Starts n i x.session y.session → ((sid : Sid) → x.session ≡ Some sid → y.session ≡ Some sid) → (j : ℕ) (z : Connection) (sid : Sid) → slice_get (set xs i y) j ≡ Some z → z.session ≡ Some sid → owner_of n.owners sid.0 ≡ Some j
 changed_owned m n xs i x y w there keeps starts stays j z sid e k = at (which xs i x y j z there e) where
-  own : y.session ≡ Some sid → (s : Option Sid) → x.session ≡ s → slice_get n.owners sid.0 ≡ Some i
+  own : y.session ≡ Some sid → (s : Option Sid) → x.session ≡ s → owner_of n.owners sid.0 ≡ Some i
   own now None none = starts.owner none sid now
   own now (Some was) is = keeps sid.0 i (w.owned i x sid there (is ∙ ap Some (some_sid was sid (sym (stays was is) ∙ now))))
 
-  at : Which xs i y j z → slice_get n.owners sid.0 ≡ Some j
+  at : Which xs i y j z → owner_of n.owners sid.0 ≡ Some j
   at (Own same is) = own (ap (λ (v : Connection). v.session) is ∙ k) x.session refl ∙ ap Some same
   at (Other ne stood) = keeps sid.0 j (w.owned j z sid stood k)
 
@@ -180,7 +180,7 @@ taken_stands m n xs i x y w there now is =
     record {
       sessions = taken_sessions m.core n.core xs i x y w.sessions there (ap (λ (z : MarkedView). z.core) now) is;
       count = ap (λ (z : MarkedView). length z.marked) now ∙ w.count ∙ count_set xs i y;
-      owned = changed_owned m n xs i x y w there (λ s j e. ap (λ (z : MarkedView). slice_get z.owners s) now ∙ e) (no_start n i x y same) (λ sid e. same ∙ e);
+      owned = changed_owned m n xs i x y w there (λ s j e. ap (λ (z : MarkedView). owner_of z.owners s) now ∙ e) (no_start n i x y same) (λ sid e. same ∙ e);
     }
 
 pub opened_stands : (m n : MarkedView) (xs ys : List Connection) (x : Connection) → Stands m xs → x ≡ new_connection → ys ≡ xs ++ x ∷ [] → n ≡ record m { marked = m.marked ++ false ∷ [] } → Stands n ys
@@ -195,7 +195,7 @@ opened_stands m n xs ys x w new all now = subst (λ (k : MarkedView). Stands k y
   one_more (b ∷ bs) [] e = absurd (omega arith)
   one_more (b ∷ bs) (z ∷ zs) e = ap suc (one_more bs zs (omega arith))
 
-  at : (i : ℕ) (z : Connection) (sid : Sid) → z.session ≡ Some sid → AfterOpening xs i z → slice_get m.owners sid.0 ≡ Some i
+  at : (i : ℕ) (z : Connection) (sid : Sid) → z.session ≡ Some sid → AfterOpening xs i z → owner_of m.owners sid.0 ≡ Some i
   at i z sid k (Fresh past is) = absurd (fresh_has_none z sid is k)
   at i z sid k (Stood e) = w.owned i z sid e k
 

@@ -1,10 +1,10 @@
 -- Marks are set and taken away.
-use Rattle.std.proofs.Common.{◌≡◌, ℕ, zero, suc, ◌+◌, ◌<◌, ◌≤◌, Bool, true, false, eqb, cond, List, [], ◌∷◌, ◌++◌, length, get_or, set, slice_get, Some, refl, sym, ap, ◌∙◌, arith}
+use Rattle.std.proofs.Common.{◌≡◌, ℕ, zero, suc, ◌+◌, ◌<◌, ◌≤◌, Bool, true, false, eqb, cond, List, [], ◌∷◌, ◌++◌, length, get_or, set, Option, Some, None, refl, sym, ap, ◌∙◌, arith}
 use Rattle.ipc_terms.specs.Lists.{Each}
 use Rattle.ipc_terms.specs.declared.ids.Sid.{Sid}
 use Rattle.std.proofs.lemmas.Bool.{ne_eqb, eq-eqb, eqb-true}
 use Rattle.ipc_terms.proofs.Lists.{eqb_suc}
-use Rattle.ipc_hub.specs.Marking.{is_set, how_many_set, times, AreListed, MarksView, MarksOwners}
+use Rattle.ipc_hub.specs.Marking.{is_set, how_many_set, times, owner_of, AreListed, MarksView, MarksOwners}
 
 -- ---- flags
 
@@ -141,20 +141,17 @@ less_marked xs js i lt off h =
 pub none_marked : (m : MarksView) → MarksOwners m [] m
 none_marked m = record { same = refl; count = refl; kept = λ i on. on; none = λ s i e off. tt }
 
-stands_within : {X : Type 0} (xs : List X) (i : ℕ) (x : X) → slice_get xs i ≡ Some x → i < length xs
-stands_within [] i x e = absurd cc
-stands_within (y ∷ ys) zero x e = omega arith
-stands_within (y ∷ ys) (suc i) x e = let lt = stands_within ys i x e in omega arith
-
-pub past_marked : (m : MarksView) (sid : Sid) → length m.owners ≤ sid.0 → MarksOwners m (sid ∷ []) m
-past_marked m sid le = record {
+pub none_owns : (m : MarksView) (sid : Sid) → owner_of m.owners sid.0 ≡ None → MarksOwners m (sid ∷ []) m
+none_owns m sid none = record {
   same = refl;
   count = refl;
   kept = λ i on. on;
-  none = λ s i e off. (ne_eqb sid.0 s (λ (q : sid.0 ≡ s). let lt = stands_within m.owners s i e in omega arith), tt);
-}
+  none = λ s i e off. (ne_eqb sid.0 s (λ (q : sid.0 ≡ s). owned i (sym none ∙ ap (owner_of m.owners) q ∙ e)), tt);
+} where
+  owned : (i : ℕ) → ◌≡◌ {A = Option ℕ} None (Some i) → ⊥
+  owned i e = absurd cc
 
-pub owner_marked : (m : MarksView) (sid : Sid) (i : ℕ) → slice_get m.owners sid.0 ≡ Some i → i < length m.marked → MarksOwners m (sid ∷ []) (record m { marked = set m.marked i true })
+pub owner_marked : (m : MarksView) (sid : Sid) (i : ℕ) → owner_of m.owners sid.0 ≡ Some i → i < length m.marked → MarksOwners m (sid ∷ []) (record m { marked = set m.marked i true })
 owner_marked m sid i own lt = record {
   same = refl;
   count = set_count m.marked i true;
@@ -168,10 +165,10 @@ owner_marked m sid i own lt = record {
   some_is : (j k : ℕ) → Some j ≡ Some k → j ≡ k
   some_is j k e = cc
 
-  at : (s j : ℕ) → slice_get m.owners s ≡ Some j → is_set (set m.marked i true) j ≡ false → (b : Bool) → eqb sid.0 s ≡ b → eqb sid.0 s ≡ false
+  at : (s j : ℕ) → owner_of m.owners s ≡ Some j → is_set (set m.marked i true) j ≡ false → (b : Bool) → eqb sid.0 s ≡ b → eqb sid.0 s ≡ false
   at s j e off false k = k
   at s j e off true k =
-      let same : i ≡ j = some_is i j (sym own ∙ ap (slice_get m.owners) (eqb-true sid.0 s k) ∙ e) in
+      let same : i ≡ j = some_is i j (sym own ∙ ap (owner_of m.owners) (eqb-true sid.0 s k) ∙ e) in
       absurd (let on : true ≡ false = sym (ap (λ b. cond b true (is_set m.marked j)) (eq-eqb i j same)) ∙ sym (set_at m.marked i true j lt) ∙ off in cc)
 
 each_both : {X : Type 0} (P : X → Type 0) (xs ys : List X) → Each P xs → Each P ys → Each P (xs ++ ys)
@@ -184,7 +181,7 @@ both_marked a b c xs ys h k = record {
   same = k.same ∙ ap (λ (m : MarksView). record m { marked = c.marked }) h.same;
   count = k.count ∙ h.count;
   kept = λ i on. k.kept i (h.kept i on);
-  none = λ s i e off. each_both (λ (sid : Sid). eqb sid.0 s ≡ false) xs ys (h.none s i e (before (is_set b.marked i) refl (λ on. sym (k.kept i on) ∙ off))) (k.none s i (ap (λ (m : MarksView). slice_get m.owners s) h.same ∙ e) off);
+  none = λ s i e off. each_both (λ (sid : Sid). eqb sid.0 s ≡ false) xs ys (h.none s i e (before (is_set b.marked i) refl (λ on. sym (k.kept i on) ∙ off))) (k.none s i (ap (λ (m : MarksView). owner_of m.owners s) h.same ∙ e) off);
 } where
   before : (p : Bool) {q : Bool} → q ≡ p → (q ≡ true → true ≡ false) → q ≡ false
   before false e f = e

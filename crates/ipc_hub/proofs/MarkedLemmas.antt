@@ -1,9 +1,9 @@
 -- A core steps, and whom it answers is marked.
-use Rattle.std.proofs.Common.{◌≡◌, ℕ, zero, suc, ◌+◌, ◌<◌, ◌≤◌, Bool, true, false, eqb, cond, List, [], ◌∷◌, ◌++◌, length, map, set, slice_get, Option, Some, None, refl, sym, ap, subst, ◌∙◌, arith}
-use Rattle.std.specs.Prelude.{is_some}
+use Rattle.std.proofs.Common.{◌≡◌, ℕ, zero, suc, ◌+◌, ◌-◌, ◌<◌, ◌≤◌, Bool, true, false, eqb, cond, List, [], ◌∷◌, ◌++◌, length, map, set, slice_get, Option, Some, None, refl, sym, ap, subst, ◌∙◌, arith}
+use Rattle.std.specs.Prelude.{is_some, nat_lt}
 use Rattle.std.specs.List.{filter}
 use Rattle.std.specs.Option.{option_to_list}
-use Rattle.std.proofs.lemmas.Bool.{eq-eqb}
+use Rattle.std.proofs.lemmas.Bool.{eq-eqb, ltb-true}
 use Rattle.std.proofs.lemmas.List.{append-nil}
 use Rattle.ipc_terms.specs.declared.ids.Sid.{Sid}
 use Rattle.ipc_terms.specs.declared.ids.Uid.{Uid}
@@ -24,7 +24,7 @@ use Rattle.ipc_core.specs.CoreView.{CoreView}
 use Rattle.ipc_core.proofs.BoxTables.{box_past}
 use Rattle.ipc_core.proofs.LawLemmas.{each_is_added}
 use Rattle.ipc_hub.specs.Hub.{untaken_of}
-use Rattle.ipc_hub.specs.Marking.{is_set, MarksView, MarksOwners, NoneIs}
+use Rattle.ipc_hub.specs.Marking.{is_set, owner_of, sessions_in, with_owner, Owners, MarksView, MarksOwners, NoneIs}
 use Rattle.ipc_hub.specs.MarkedCore.{MarkedView, Follows, MarksAnswered, GainsAtMostTwo}
 use Rattle.ipc_hub.proofs.MarkLemmas.{set_at, set_count, both_marked}
 
@@ -145,7 +145,7 @@ follows_both a b c h k = record {
 pub answered_follows : (a b : CoreView) (m n : MarksView) → MarksAnswered a m b n → Follows (marked_view a m) (marked_view b n)
 answered_follows a b m n h = record {
   count = h.count;
-  owners = λ s i e. ap (λ (z : MarksView). slice_get z.owners s) h.same ∙ e;
+  owners = λ s i e. ap (λ (z : MarksView). owner_of z.owners s) h.same ∙ e;
   kept = h.kept;
   silent = h.silent;
 }
@@ -162,13 +162,23 @@ end_stands [] i (suc s) e = absurd (omega arith)
 end_stands (x ∷ xs) i zero e = absurd (omega arith)
 end_stands (x ∷ xs) i (suc s) e = end_stands xs i s (omega arith)
 
-pub own_owner : (owners now : List ℕ) (own s : ℕ) → now ≡ owners ++ own ∷ [] → s ≡ length owners → slice_get now s ≡ Some own
-own_owner owners now own s e at = ap (λ (xs : List ℕ). slice_get xs s) e ∙ end_stands owners own s at
+pub own_owner : (owners now : Owners) (own s : ℕ) → now ≡ with_owner own owners → s ≡ sessions_in owners → owner_of now s ≡ Some own
+own_owner owners now own s e is = ap (λ (o : Owners). owner_of o s) e ∙ at (nat_lt s owners.before) refl where
+  at : (b : Bool) → nat_lt s owners.before ≡ b → cond b None (slice_get (owners.list ++ own ∷ []) (s - owners.before)) ≡ Some own
+  at true k = absurd (let lt : s < owners.before = ltb-true s owners.before k in omega arith)
+  at false k = end_stands owners.list own (s - owners.before) (omega arith)
+
+-- who has a session keeps it where a next one comes
+pub owner_stays : (owners : Owners) (own s i : ℕ) → owner_of owners s ≡ Some i → owner_of (with_owner own owners) s ≡ Some i
+owner_stays owners own s i = at (nat_lt s owners.before) where
+  at : (b : Bool) → cond b None (slice_get owners.list (s - owners.before)) ≡ Some i → cond b None (slice_get (owners.list ++ own ∷ []) (s - owners.before)) ≡ Some i
+  at true e = absurd cc
+  at false e = front_stands owners.list (own ∷ []) (s - owners.before) i e
 
 pub own_marked : (n : List Bool) (own : ℕ) → own < length n → is_set (set n own true) own ≡ true
 own_marked n own lt = set_at n own true own lt ∙ ap (λ b. cond b true (is_set n own)) (eq-eqb own own refl)
 
-hello_follows_to : (a b : CoreView) (m n : MarksView) (own : ℕ) (owners : List ℕ) → MarksAnswered a m b n → own < length m.marked → ((s i : ℕ) → slice_get m.owners s ≡ Some i → slice_get owners s ≡ Some i) → Follows (marked_view a m) (record { core = b; owners = owners; marked = set n.marked own true })
+hello_follows_to : (a b : CoreView) (m n : MarksView) (own : ℕ) (owners : Owners) → MarksAnswered a m b n → own < length m.marked → ((s i : ℕ) → owner_of m.owners s ≡ Some i → owner_of owners s ≡ Some i) → Follows (marked_view a m) (record { core = b; owners = owners; marked = set n.marked own true })
 hello_follows_to a b m n own owners h lt keeps = record {
   count = set_count n.marked own true ∙ h.count;
   owners = keeps;
@@ -188,11 +198,11 @@ hello_follows_to a b m n own owners h lt keeps = record {
 
 -- of a hello that is refused
 pub refused_follows : (a b : CoreView) (m n : MarksView) (own : ℕ) → MarksAnswered a m b n → own < length m.marked → Follows (marked_view a m) (record { core = b; owners = n.owners; marked = set n.marked own true })
-refused_follows a b m n own h lt = hello_follows_to a b m n own n.owners h lt (λ s i e. ap (λ (z : MarksView). slice_get z.owners s) h.same ∙ e)
+refused_follows a b m n own h lt = hello_follows_to a b m n own n.owners h lt (λ s i e. ap (λ (z : MarksView). owner_of z.owners s) h.same ∙ e)
 
 -- of one that is accepted
-pub accepted_follows : (a b : CoreView) (m n : MarksView) (own : ℕ) → MarksAnswered a m b n → own < length m.marked → Follows (marked_view a m) (record { core = b; owners = n.owners ++ own ∷ []; marked = set n.marked own true })
-accepted_follows a b m n own h lt = hello_follows_to a b m n own (n.owners ++ own ∷ []) h lt (λ s i e. front_stands n.owners (own ∷ []) s i (ap (λ (z : MarksView). slice_get z.owners s) h.same ∙ e))
+pub accepted_follows : (a b : CoreView) (m n : MarksView) (own : ℕ) → MarksAnswered a m b n → own < length m.marked → Follows (marked_view a m) (record { core = b; owners = with_owner own n.owners; marked = set n.marked own true })
+accepted_follows a b m n own h lt = hello_follows_to a b m n own (with_owner own n.owners) h lt (λ s i e. owner_stays n.owners own s i (ap (λ (z : MarksView). owner_of z.owners s) h.same ∙ e))
 
 -- with room for a session more, and as the core is seen
 abbrev pub seen_so : MarkedView → CoreView → MarksView → MarksView → Type 0
@@ -209,11 +219,11 @@ as_seen old a k m new is h = subst (λ (z : MarkedView). Follows z new) (ap (λ 
 pub hello_refused_follows : (old : MarkedView) (a b : CoreView) (k m n now : MarksView) (own : ℕ) → seen_so old a k m → MarksAnswered a m b n → now ≡ record n { marked = set n.marked own true } → own < length old.marked → Follows old (marked_view b now)
 hello_refused_follows old a b k m n now own is h e lt = subst (λ (z : MarksView). Follows old (marked_view b z)) (sym e) (as_seen old a k m (record { core = b; owners = n.owners; marked = set n.marked own true }) is (refused_follows a b m n own h (within_too old a k m own is lt)))
 
-pub hello_accepted_follows : (old : MarkedView) (a b : CoreView) (k m n now last : MarksView) (own : ℕ) → seen_so old a k m → MarksAnswered a m b n → now ≡ record n { marked = set n.marked own true } → last.owners ≡ now.owners ++ own ∷ [] → last.marked ≡ now.marked → own < length old.marked → Follows old (marked_view b last)
+pub hello_accepted_follows : (old : MarkedView) (a b : CoreView) (k m n now last : MarksView) (own : ℕ) → seen_so old a k m → MarksAnswered a m b n → now ≡ record n { marked = set n.marked own true } → last.owners ≡ with_owner own now.owners → last.marked ≡ now.marked → own < length old.marked → Follows old (marked_view b last)
 hello_accepted_follows old a b k m n now last own is h e owners marked lt =
-    let o : last.owners ≡ n.owners ++ own ∷ [] = owners ∙ ap (λ (z : MarksView). z.owners ++ own ∷ []) e in
+    let o : last.owners ≡ with_owner own n.owners = owners ∙ ap (λ (z : MarksView). with_owner own z.owners) e in
     let f : last.marked ≡ set n.marked own true = marked ∙ ap (λ (z : MarksView). z.marked) e in
-    subst (λ (bs : List Bool). Follows old (record { core = b; owners = last.owners; marked = bs })) (sym f) (subst (λ (js : List ℕ). Follows old (record { core = b; owners = js; marked = set n.marked own true })) (sym o) (as_seen old a k m (record { core = b; owners = n.owners ++ own ∷ []; marked = set n.marked own true }) is (accepted_follows a b m n own h (within_too old a k m own is lt))))
+    subst (λ (bs : List Bool). Follows old (record { core = b; owners = last.owners; marked = bs })) (sym f) (subst (λ (js : Owners). Follows old (record { core = b; owners = js; marked = set n.marked own true })) (sym o) (as_seen old a k m (record { core = b; owners = with_owner own n.owners; marked = set n.marked own true }) is (accepted_follows a b m n own h (within_too old a k m own is lt))))
 
 pub hello_marks : (old : MarkedView) (a b : CoreView) (k m n now : MarksView) (own : ℕ) → seen_so old a k m → MarksAnswered a m b n → now ≡ record n { marked = set n.marked own true } → own < length old.marked → is_set now.marked own ≡ true
 hello_marks old a b k m n now own is h e lt =
@@ -224,8 +234,11 @@ hello_marks old a b k m n now own is h e lt =
 pub owners_kept : (a b : CoreView) (k m n now : MarksView) (own : ℕ) → m ≡ record k { room = m.room } → MarksAnswered a m b n → now ≡ record n { marked = set n.marked own true } → now.owners ≡ k.owners
 owners_kept a b k m n now own e h f = ap (λ (z : MarksView). z.owners) f ∙ ap (λ (z : MarksView). z.owners) h.same ∙ ap (λ (z : MarksView). z.owners) e
 
-pub owners_more : (owners now : List ℕ) (own k n : ℕ) → now ≡ owners ++ own ∷ [] → length owners ≡ k → n ≡ k + 1 → length now ≡ n
-owners_more owners now own k n e count more = let l : length now ≡ length owners + 1 = ap (λ (xs : List ℕ). length xs) e ∙ length_both owners (own ∷ []) in omega arith
+pub owners_more : (owners now : Owners) (own k n : ℕ) → now ≡ with_owner own owners → sessions_in owners ≡ k → n ≡ k + 1 → sessions_in now ≡ n
+owners_more owners now own k n e count more =
+    let l : sessions_in now ≡ owners.before + length (owners.list ++ own ∷ []) = ap sessions_in e in
+    let one : length (owners.list ++ own ∷ []) ≡ length owners.list + 1 = length_both owners.list (own ∷ []) in
+    omega arith
 
 -- a session that starts has at most two untaken answers
 pub few_started : (a b : CoreView) (w : Option Sid) (s : ℕ) → BoxesAgree a.config a.history a.untaken → GainsAtMostTwo a b → w ≡ Some (record { 0 = s }) → s ≡ hellos a.history → length (untaken_of b w) ≤ 2

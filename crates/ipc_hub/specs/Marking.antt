@@ -1,5 +1,5 @@
 -- Which connections were answered since they were last named.
-use Rattle.std.specs.Prelude.{◌≡◌, ◌==◌, ◌<◌, ◌≤◌, Bool, true, false, ℕ, ◌+◌, List, [], ◌∷◌, length, slice_get, Some, unwrap_or, if◌then◌else◌}
+use Rattle.std.specs.Prelude.{◌≡◌, ◌==◌, ◌<◌, ◌≤◌, Bool, true, false, ℕ, ◌+◌, ◌-◌, List, [], ◌∷◌, ◌++◌, length, nat_lt, slice_get, Option, Some, None, unwrap_or, if◌then◌else◌}
 use Rattle.ipc_terms.specs.Lists.{Each}
 use Rattle.ipc_terms.specs.declared.ids.Sid.{Sid}
 
@@ -22,18 +22,36 @@ pub record AreListed (flags : List Bool) (list : List ℕ) : Type 0 where
   pub once : (i : ℕ) → times i list ≡ (if is_set flags i then 1 else 0)
   pub count : length list ≡ how_many_set flags
 
--- what is seen of marks. owners: the connection of each session, by the sessions' numbers. marked: whether each connection
--- was answered since it was last named. room: for how many more sessions there is room
+-- whose each session is. before: how many sessions began before the first that has a connection. list: the connections of the
+-- others, by the sessions' numbers
+pub record Owners : Type 0 where
+  pub before : ℕ
+  pub list : List ℕ
+
+-- the connection of session s, if it has one
+abbrev pub owner_of : Owners → ℕ → Option ℕ
+owner_of owners s = if nat_lt s owners.before then None else slice_get owners.list (s - owners.before)
+
+-- how many sessions there are
+abbrev pub sessions_in : Owners → ℕ
+sessions_in owners = owners.before + length owners.list
+
+-- the next session is connection i's
+abbrev pub with_owner : ℕ → Owners → Owners
+with_owner i owners = record owners { list = owners.list ++ i ∷ [] }
+
+-- what is seen of marks. owners: whose each session is. marked: whether each connection was answered since it was last named.
+-- room: for how many more sessions there is room
 pub record MarksView : Type 0 where
-  pub owners : List ℕ
+  pub owners : Owners
   pub marked : List Bool
   pub room : ℕ
 
 -- the flags that are set are listed, the list has room for all, and each session's connection has a flag
-pub record AreMarks (owners : List ℕ) (flags : List Bool) (list : List ℕ) (capacity : ℕ) : Type 0 where
+pub record AreMarks (owners : Owners) (flags : List Bool) (list : List ℕ) (capacity : ℕ) : Type 0 where
   pub listed : AreListed flags list
   pub fits : length flags ≤ capacity
-  pub within : (s i : ℕ) → slice_get owners s ≡ Some i → i < length flags
+  pub within : (s i : ℕ) → owner_of owners s ≡ Some i → i < length flags
 
 -- no session of this number is among them
 abbrev pub NoneIs : ℕ → List Sid → Type 0
@@ -44,4 +62,4 @@ pub record MarksOwners (old : MarksView) (sids : List Sid) (new : MarksView) : T
   pub same : new ≡ record old { marked = new.marked }
   pub count : length new.marked ≡ length old.marked
   pub kept : (i : ℕ) → is_set old.marked i ≡ true → is_set new.marked i ≡ true
-  pub none : (s i : ℕ) → slice_get old.owners s ≡ Some i → is_set new.marked i ≡ false → NoneIs s sids
+  pub none : (s i : ℕ) → owner_of old.owners s ≡ Some i → is_set new.marked i ≡ false → NoneIs s sids

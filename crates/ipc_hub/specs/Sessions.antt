@@ -4,6 +4,7 @@ use Rattle.ipc_terms.specs.declared.ids.Sid.{Sid}
 use Rattle.ipc_policy.specs.Sessions.{hellos, live}
 use Rattle.ipc_core.specs.CoreView.{CoreView}
 use Rattle.ipc_hub.specs.Hub.{Connection}
+use Rattle.ipc_hub.specs.Marking.{owner_of}
 use Rattle.ipc_hub.specs.MarkedCore.{MarkedView}
 
 -- the session was started, and is live exactly as long as the connection is not over
@@ -21,4 +22,4 @@ pub record EachHasItsOwn (a : CoreView) (xs : List Connection) : Type 0 where
 pub record Stands (m : MarkedView) (xs : List Connection) : Type 0 where
   pub sessions : EachHasItsOwn m.core xs
   pub count : length m.marked ≡ length xs
-  pub owned : (i : ℕ) (x : Connection) (sid : Sid) → slice_get xs i ≡ Some x → x.session ≡ Some sid → slice_get m.owners sid.0 ≡ Some i
+  pub owned : (i : ℕ) (x : Connection) (sid : Sid) → slice_get xs i ≡ Some x → x.session ≡ Some sid → owner_of m.owners sid.0 ≡ Some i

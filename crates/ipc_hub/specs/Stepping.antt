@@ -1,6 +1,6 @@
 -- Stepping the frames in front of a connection's bytes: from core a, session s and bytes w to core b, session t and the
 -- rest of the bytes.
-use Rattle.std.specs.Prelude.{◌≡◌, Bool, true, false, ℕ, ◌≤◌, ◌+◌, ◌-◌, leb, max, List, [], length, drop, take, slice_get, Option, Some, None, is_none, ⊤}
+use Rattle.std.specs.Prelude.{◌≡◌, Bool, true, false, ℕ, ◌≤◌, ◌+◌, ◌-◌, leb, max, List, [], length, drop, take, Option, Some, None, is_none, ⊤}
 use Rattle.ipc_terms.specs.declared.ids.Sid.{Sid}
 use Rattle.ipc_core.specs.Outboxes.{after_steps}
 use Rattle.ipc_core.specs.CoreView.{CoreView}
@@ -10,7 +10,7 @@ use Rattle.ipc_wire.specs.Streams.{cut, after}
 use Rattle.ipc_hub.specs.declared.fed.Fed.{Fed}
 use Rattle.ipc_hub.specs.declared.fed.Fed.TheVariants.{Done, Short, Full, Over}
 use Rattle.ipc_hub.specs.declared.fed.End.TheVariants.{Wire, BadKey}
-use Rattle.ipc_hub.specs.Marking.{is_set}
+use Rattle.ipc_hub.specs.Marking.{is_set, owner_of}
 use Rattle.ipc_hub.specs.MarkedCore.{MarkedView, Follows}
 use Rattle.ipc_hub.specs.Hub.{Connection, untaken_of, Steps, events_of, is_hello_refused, hang_up_of}
 
@@ -50,7 +50,7 @@ StepsFrames (Over BadKey) a s w b t rest = RefusesHello a s w b t
 -- where its session starts, the connection is marked, and the session is its own
 pub record Starts (new : MarkedView) (i : ℕ) (s t : Option Sid) : Type 0 where
   pub marked : s ≡ None → (sid : Sid) → t ≡ Some sid → is_set new.marked i ≡ true
-  pub owner : s ≡ None → (sid : Sid) → t ≡ Some sid → slice_get new.owners sid.0 ≡ Some i
+  pub owner : s ≡ None → (sid : Sid) → t ≡ Some sid → owner_of new.owners sid.0 ≡ Some i
 
 -- whether so many are untaken as are allowed; never, where all are
 abbrev pub is_full : Option ℕ → ℕ → Bool

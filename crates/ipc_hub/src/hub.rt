@@ -1,6 +1,6 @@
 //! The hub.
 
-ghost use Rattle.std.specs.Prelude.{◌≡◌, ◌<◌, ◌≤◌, ◌+◌, ◌++◌, ℕ, List, false, true, is_some, slice_get, None, Some, length, min, max, option_map, IfOk, IfErr, IfSome, IfNone, OnOk, OnErr, MatchOption};
+ghost use Rattle.std.specs.Prelude.{◌≡◌, ◌<◌, ◌≤◌, ◌+◌, ◌++◌, [], ℕ, List, false, true, is_some, slice_get, None, Some, length, min, max, option_map, IfOk, IfErr, IfSome, IfNone, OnOk, OnErr, MatchOption};
 ghost use Rattle.ipc_state.specs.Ranges.{first_bad};
 ghost use Rattle.ipc_state.specs.NextDeadline.{IsNextDeadline, EndsOncePast};
 ghost use Rattle.ipc_trail.specs.Sizes.{kept_bytes};
@@ -16,8 +16,9 @@ ghost use Rattle.ipc_hub.specs.declared.fed.HubFault.TheVariants.{NoMemory as Re
 use crate::connection::Connection;
 use crate::fed::{Fed, HubFault};
 use crate::marked_core::MarkedCore;
-use ipc_core::{Config, CoreFault};
+use ipc_core::{Config, Core, CoreFault};
 use ipc_terms::{Event, Record, Uid};
+use ipc_trail::Trail;
 use std::alloc::Global;
 use std::marker::Model;
 
@@ -52,11 +53,19 @@ impl Hub {
         ensures in_range { OnOk result (first_bad config.limits ≡ None) }
         ensures bad { IfErr result (λ fault. MatchOption (first_bad config.limits) (fault ≡ CoreFault.NoMemory) (λ field. fault ≡ CoreFault.BadConfig field)) }
     {
-        let core = MarkedCore::new(alloc, config)?;
-        Ok(Hub {
-            core,
+        let core = Core::new(alloc, config)?;
+        Ok(Hub::of_core(alloc, core))
+    }
+
+    /// A hub that goes on over a core, without a connection: of the sessions that the core has none is a connection's. Takes no
+    /// memory.
+    pub fn of_core(alloc: Global, core: Core) -> Hub
+        ensures { result ≡ record { core = core; connections = []; marked = [] } }
+    {
+        Hub {
+            core: MarkedCore::of_core(alloc, core),
             connections: Vec::new(alloc),
-        })
+        }
     }
 
     /// The trail is legal, what is untaken is the last of what each session was answered while it was live, no
@@ -223,6 +232,14 @@ impl Hub {
         let connection = &mut self.connections[i];
         connection.discard(&mut self.core);
         Ok(())
+    }
+
+    /// The trail of all connections.
+    pub fn trail(&self) -> &Trail
+        ensures history { result.now.history ≡ self.now.core.history }
+        ensures first { result.now.first ≡ self.now.core.first }
+    {
+        self.core.core().trail()
     }
 
     /// How many events are recorded.

@@ -1,25 +1,24 @@
 //! A core, and the marks of whom it answers.
 
-ghost use Rattle.std.specs.Prelude.{◌≡◌, ◌<◌, ◌≤◌, ◌+◌, ◌++◌, ◌∷◌, [], ℕ, Option, true, false, None, Some, is_some, length, min, slice_get, slice_set, IfOk, IfErr, IfSome, IfNone, OnOk, OnErr, MatchOption, if◌then◌else◌};
+ghost use Rattle.std.specs.Prelude.{◌≡◌, ◌<◌, ◌≤◌, ◌+◌, ◌++◌, ◌∷◌, [], ℕ, Option, true, false, None, Some, is_some, length, min, slice_set, IfOk, IfSome, IfNone, OnOk, OnErr, if◌then◌else◌};
 ghost use Rattle.ipc_terms.specs.Lists.{changed};
 ghost use Rattle.ipc_terms.specs.declared.record.Event.TheVariants.{Hello};
 ghost use Rattle.ipc_access.specs.Users.{user_of_key};
 ghost use Rattle.ipc_policy.specs.Sessions.{hellos};
 ghost use Rattle.ipc_policy.specs.Verdict.{verdict, answers};
-ghost use Rattle.ipc_state.specs.Ranges.{first_bad};
 ghost use Rattle.ipc_core.specs.Boxes.{taken};
 ghost use Rattle.ipc_core.specs.Outboxes.{starts, session_at, after_step};
 ghost use Rattle.ipc_hub.specs.Hub.{untaken_of};
-ghost use Rattle.ipc_hub.specs.Marking.{is_set};
+ghost use Rattle.ipc_hub.specs.Marking.{is_set, owner_of};
 ghost use Rattle.ipc_hub.specs.MarkedCore.{Follows, MarksAnswered, GainsAtMostTwo};
 
 use crate::marks::Marks;
-use ipc_core::{Config, Core, CoreFault, Posted};
+use ipc_core::{Core, Posted};
 use ipc_terms::{Bytes, Event, NoMemory, Sid};
 use std::alloc::Global;
 use std::marker::Model;
 
-/// A core whose every session is a connection's, and the connections that were answered.
+/// A core, the connections of its sessions, but for those that began before, and the connections that were answered.
 #[derive(Drop)]
 pub struct MarkedCore {
     core: Core,
@@ -27,15 +26,16 @@ pub struct MarkedCore {
 }
 
 impl Model for MarkedCore {
-    ghost use Rattle.std.specs.Prelude.{◌≡◌, length};
+    ghost use Rattle.std.specs.Prelude.{◌≡◌};
     ghost use Rattle.ipc_policy.specs.Sessions.{hellos};
+    ghost use Rattle.ipc_hub.specs.Marking.{sessions_in};
     ghost use Rattle.ipc_hub.specs.MarkedCore.{MarkedView};
 
     ghost Value = { MarkedView };
 
     ghost view = { λ m. record { core = m.core; owners = m.marks.owners; marked = m.marks.marked } };
 
-    ghost invariant = { λ m. length m.marks.owners ≡ hellos m.core.history };
+    ghost invariant = { λ m. sessions_in m.marks.owners ≡ hellos m.core.history };
 }
 
 /// Steps an event, and marks the connections of those that it answers. An `Err` changes nothing.
@@ -62,17 +62,15 @@ fn post_marked(
 }
 
 impl MarkedCore {
-    /// A core with an empty trail and no connection, or the first limit that is out of its range, as of `Core::new`.
-    pub fn new(alloc: Global, config: Config) -> Result<MarkedCore, CoreFault>
-        ensures ok { IfOk result (λ core. core ≡ record { core = record { config = config; history = []; untaken = []; first = 0 }; owners = []; marked = [] }) }
-        ensures in_range { OnOk result (first_bad config.limits ≡ None) }
-        ensures bad { IfErr result (λ fault. MatchOption (first_bad config.limits) (fault ≡ CoreFault.NoMemory) (λ field. fault ≡ CoreFault.BadConfig field)) }
+    /// A core that goes on: no session that it has is a connection's, and there is none. Takes no memory.
+    pub fn of_core(alloc: Global, core: Core) -> MarkedCore
+        ensures { result ≡ record { core = core; owners = record { before = hellos core.history; list = [] }; marked = [] } }
     {
-        let core = Core::new(alloc, config)?;
-        Ok(MarkedCore {
+        let before = core.sessions() as u64;
+        MarkedCore {
             core,
-            marks: Marks::new(alloc),
-        })
+            marks: Marks::new(alloc, before),
+        }
     }
 
     #[inline(always)]
@@ -111,7 +109,7 @@ impl MarkedCore {
         ensures ok { OnOk result (self.new.core ≡ after_step (Hello (user_of_key self.old.core.config.users key.now)) self.old.core) }
         ensures marks { OnOk result (Follows self.old self.new) }
         ensures marked { OnOk result (is_set self.new.marked own ≡ true) }
-        ensures owner { IfOk result (λ session. (sid : Sid) → session ≡ Some sid → slice_get self.new.owners sid.0 ≡ Some own) }
+        ensures owner { IfOk result (λ session. (sid : Sid) → session ≡ Some sid → owner_of self.new.owners sid.0 ≡ Some own) }
         ensures few { IfOk result (λ session. length (untaken_of self.new.core session) ≤ 2) }
         ensures err { OnErr result (self.new ≡ self.old) }
     {

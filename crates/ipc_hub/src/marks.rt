@@ -2,7 +2,7 @@
 
 ghost use Rattle.std.specs.Prelude.{◌≡◌, ◌<◌, ◌++◌, ◌∷◌, [], ℕ, true, false, length, slice_set, IfSome, IfNone, OnOk, OnErr};
 ghost use Rattle.std.specs.Option.{option_to_list};
-ghost use Rattle.ipc_hub.specs.Marking.{is_set, MarksOwners};
+ghost use Rattle.ipc_hub.specs.Marking.{is_set, owner_of, with_owner, MarksOwners};
 
 use ipc_terms::{NoMemory, Sid};
 use std::alloc::Global;
@@ -12,7 +12,9 @@ use std::marker::Model;
 /// takes no memory.
 #[derive(Drop)]
 pub struct Marks {
-    /// The connection of each session, by the sessions' numbers.
+    /// How many sessions began before the first that has a connection.
+    before: u64,
+    /// The connections of the others, by the sessions' numbers.
     owners: Vec<u64>,
     is_marked: Vec<bool>,
     /// The connections that are marked, each once.
@@ -25,18 +27,19 @@ impl Model for Marks {
 
     ghost Value = { MarksView };
 
-    ghost view = { λ m. record { owners = m.owners.items; marked = m.is_marked.items; room = vec_capacity m.owners - vec_len m.owners } };
+    ghost view = { λ m. record { owners = record { before = m.before; list = m.owners.items }; marked = m.is_marked.items; room = vec_capacity m.owners - vec_len m.owners } };
 
-    ghost invariant = { λ m. AreMarks m.owners.items m.is_marked.items m.list.items (vec_capacity m.list) };
+    ghost invariant = { λ m. AreMarks (record { before = m.before; list = m.owners.items }) m.is_marked.items m.list.items (vec_capacity m.list) };
 }
 
 impl Marks {
-    /// No connection, and no session. Takes no memory.
-    pub fn new(alloc: Global) -> Marks
-        ensures owners { result.owners ≡ [] }
+    /// No connection, and so many sessions, of which none has one. Takes no memory.
+    pub fn new(alloc: Global, before: u64) -> Marks
+        ensures owners { result.owners ≡ record { before = before; list = [] } }
         ensures marked { result.marked ≡ [] }
     {
         Marks {
+            before,
             owners: Vec::new(alloc),
             is_marked: Vec::new(alloc),
             list: Vec::new(alloc),
@@ -67,7 +70,7 @@ impl Marks {
     pub fn push_session(&mut self, connection: u64)
         requires room { 0 < self.old.room }
         requires within { connection < length self.old.marked }
-        ensures owners { self.new.owners ≡ self.old.owners ++ connection ∷ [] }
+        ensures owners { self.new.owners ≡ with_owner connection self.old.owners }
         ensures marked { self.new.marked ≡ self.old.marked }
     {
         self.owners.push_reserved(connection);
@@ -91,9 +94,7 @@ impl Marks {
         let Some(sid) = session else {
             return;
         };
-        let s = sid.0 as usize;
-        if s < self.owners.len() {
-            let connection = self.owners[s];
+        if let Some(connection) = owner_of(self.before, &self.owners, sid) {
             self.mark(connection);
         }
     }
@@ -108,4 +109,12 @@ impl Marks {
         self.is_marked[connection as usize] = false;
         Some(connection)
     }
+}
+
+/// The connection of the session, if it has one: where so many began before the first that has, and these are those of the others.
+fn owner_of(before: u64, owners: &[u64], sid: Sid) -> Option<u64>
+    ensures { result ≡ owner_of (record { before = before; list = owners.now }) sid.0 }
+{
+    let place = sid.0.checked_sub(before)?;
+    owners.get(place as usize).copied()
 }

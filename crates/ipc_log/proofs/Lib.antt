@@ -2,6 +2,7 @@ pub mod ChecksumLemmas
 pub mod EntryLemmas
 pub mod EventLemmas
 pub mod HeadLemmas
+pub mod PendingLemmas
 pub mod SpellingLemmas
 pub mod SumLemmas
 pub mod TableLemmas

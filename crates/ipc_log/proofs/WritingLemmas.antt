@@ -22,7 +22,7 @@ puts_of old new (Err writing.NoMemory) text put long = tt
 puts_of old new (Err writing.TooLong) text put long = long refl
 
 -- what a text that was put stands behind
-split_put : (old new : List ℕ) (text : Option (List ℕ)) → (Some old ⊕ text) ≡ Some new → (more : List ℕ) × (text ≡ Some more) × (new ≡ old ++ more)
+pub split_put : (old new : List ℕ) (text : Option (List ℕ)) → (Some old ⊕ text) ≡ Some new → (more : List ℕ) × (text ≡ Some more) × (new ≡ old ++ more)
 split_put old new text put =
     let j = join_some (Some old) text new put in
     (j.1, j.3, j.4 ∙ ap (λ (x : List ℕ). x ++ j.1) (sym (some_is _ _ j.2)))

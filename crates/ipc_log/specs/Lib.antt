@@ -3,3 +3,4 @@ pub mod Summed
 pub mod Fields
 pub mod Trail
 pub mod Given
+pub mod Writing

@@ -9,6 +9,7 @@ mod record_reading;
 mod record_writing;
 mod remainders;
 mod summed;
+mod trail_writer;
 
 pub use checksum::crc32c;
 pub use fault::{LogFault, TrailFault};
@@ -17,3 +18,4 @@ pub use ipc_fields::WriteFault;
 pub use record_reading::read_record;
 pub use record_writing::put_record;
 pub use summed::MAX_RECORD;
+pub use trail_writer::TrailWriter;

@@ -6,6 +6,7 @@ ghost use Rattle.ipc_loop.specs.Moves.{Moved};
 ghost use Rattle.ipc_loop.specs.Ports.{Port};
 ghost use Rattle.ipc_loop.specs.Serving.{Serves, KeepsUpToDate};
 
+use crate::links::Host;
 use ipc_hub::Hub;
 
 /// How many records are forgotten at most for each that was made.
@@ -45,15 +46,17 @@ impl Keeping {
     }
 }
 
-/// Forgets the oldest records while more are kept than are to be, at most two for each of so many that were made: so no round
-/// pauses for it.
-pub fn forget_old(hub: &mut Hub, keeping: Keeping, made: usize)
+/// Forgets the oldest records while more are kept than are to be and the host can spare them, at most two for each of so many that
+/// were made: so no round pauses for it.
+pub fn forget_old<H: Host>(hub: &mut Hub, host: &H, keeping: Keeping, made: usize)
     ensures newest { (place : ℕ) → AreWithin keeping place hub.old.core.history → hub.new.core.first ≤ max hub.old.core.first place }
+    ensures spare { hub.new.core.first ≤ max hub.old.core.first (H.spare host.now) }
     ensures serves { (moves : Option (List Moved)) (ports : ℕ → Option Port) → Serves hub.old moves ports hub.new moves ports }
     ensures marks { (ports : ℕ → Option Port) → KeepsUpToDate hub.old ports hub.new ports }
 {
+    let spare = host.spare();
     let mut left = made.saturating_mul(FORGOTTEN_FOR_ONE);
-    while left > 0 && keeping.is_exceeded(hub) {
+    while left > 0 && hub.first_kept() < spare && keeping.is_exceeded(hub) {
         hub.forget_one();
         left -= 1;
     }

@@ -8,6 +8,7 @@ ghost use Rattle.ipc_loop.specs.Hearing.{Tells};
 
 use crate::ending::Ending;
 use ipc_terms::Uid;
+use ipc_trail::Trail;
 use std::io;
 use std::time::Duration;
 
@@ -30,7 +31,7 @@ pub enum Ready {
 /// Links by their numbers, what waits for them, and a clock. Reads, writes and accepts answer `WouldBlock` where they
 /// would wait. Real sockets leave `moves` and `told` as they are, unknown; a host that records them knows them.
 pub trait Host {
-    ghost use Rattle.std.specs.Prelude.{Option, None, List};
+    ghost use Rattle.std.specs.Prelude.{ℕ, Option, None, List};
     ghost use Rattle.ipc_loop.specs.Moves.{Moved};
     ghost use Rattle.ipc_loop.specs.declared.links.Ready.{Ready};
 
@@ -39,6 +40,9 @@ pub trait Host {
 
     // What was told to be ready so far, in order, where that is known.
     ghost told: { Self → Option (List Ready) } = { λ _. None };
+
+    // How many records of the trail, from the first on, may be forgotten.
+    ghost spare: { Self → ℕ };
 
     /// Accepts the next connection. Its link gets this number, which no link had before. An `Err` accepts nobody, or
     /// drops the one that was accepted.
@@ -62,6 +66,18 @@ pub trait Host {
     fn greeted(&mut self, number: u64, user: Uid)
         ensures moved { moves self.new ≡ moves self.old }
         ensures silent { told self.new ≡ told self.old };
+
+    /// What is recorded so far: where it is told of a link, all that this link was answered, which is written next; and at the end
+    /// of each round. A host that puts records into a file takes no bytes of a link (`WouldBlock`) before the file has what they
+    /// answer, and then tells that it is ready.
+    fn save(&mut self, trail: &Trail, link: Option<u64>)
+        ensures moved { moves self.new ≡ moves self.old }
+        ensures silent { told self.new ≡ told self.old };
+
+    /// How many records of the trail, from the first on, may be forgotten: those that the host has put elsewhere, or any number where
+    /// it puts none.
+    fn spare(&self) -> u64
+        ensures { result ≡ spare self.now };
 
     /// Closes the link, if there is one: how many requests of its connection were stepped, and why it ends. The hello is one
     /// of them, also one that was refused, and so is a call that a rule refused; the hang-up is none.

@@ -22,6 +22,7 @@ use crate::ticking::{make_ticks, next_deadline};
 use crate::turns::{answer_all, give_turns, note_all};
 use ipc_core::{Config, CoreFault};
 use ipc_hub::Hub;
+use ipc_terms::NoMemory;
 use std::alloc::Global;
 use std::io;
 use std::marker::Model;
@@ -71,12 +72,24 @@ impl Server {
         ensures bad { IfErr result (λ fault. MatchOption (first_bad config.limits) (fault ≡ CoreFault.NoMemory) (λ field. fault ≡ CoreFault.BadConfig field)) }
     {
         let hub = Hub::new(alloc, config)?;
-        let Ok(ports) = Ports::new(alloc, connections) else {
-            return Err(CoreFault::NoMemory);
-        };
-        let Ok(piece) = vec![in alloc; 0u8; PIECE] else {
-            return Err(CoreFault::NoMemory);
-        };
+        match Server::of_hub(alloc, hub, connections, stop_after) {
+            Ok(server) => Ok(server),
+            Err(NoMemory) => Err(CoreFault::NoMemory),
+        }
+    }
+
+    /// A server that goes on over a hub, and has no link yet; connections that the hub has are no link's. As for `new` at most so
+    /// many are open at once, and after so many accepted ones nobody is accepted any more. An `Err` drops the hub.
+    pub fn of_hub(
+        alloc: Global,
+        hub: Hub,
+        connections: usize,
+        stop_after: Option<u64>,
+    ) -> Result<Server, NoMemory>
+        ensures { IfOk result (λ server. server ≡ record { hub = hub; ports = []; turns = []; bounds = record { most = connections; stop_after = stop_after }; keeping = record { records = None; bytes = None }; may_accept = true; pausing = None }) }
+    {
+        let ports = Ports::new(alloc, connections)?;
+        let piece = vec![in alloc; 0u8; PIECE]?;
         Ok(Server {
             hub,
             ports,
@@ -176,7 +189,7 @@ impl Server {
         self.ports.are_queued();
         let later = host.moment();
         self.desk.is_waiting = make_ticks(&mut self.hub, alloc, later).is_err();
-        forget_old(&mut self.hub, self.keeping, self.made);
+        forget_old(&mut self.hub, host, self.keeping, self.made);
         self.ports.start_round();
         give_turns(&mut self.hub, host, &mut self.ports, &mut self.desk);
         answer_all(&mut self.hub, host, &mut self.ports, &mut self.desk);

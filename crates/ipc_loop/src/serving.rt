@@ -229,6 +229,16 @@ impl Port {
         }
     }
 
+    /// The same, once the host has what is recorded so far.
+    fn flush_saved<H: Host>(&mut self, hub: &Hub, alloc: Global, host: &mut H, number: u64)
+        ensures writes { Writes number (H.moves host.old) (H.moves host.new) self.old [] self.new }
+        ensures all { Flushes number (H.moves host.old) (H.moves host.new) self.old self.new }
+        ensures silent { H.told host.new ≡ H.told host.old }
+    {
+        host.save(hub.trail(), Some(number));
+        self.flush(alloc, host, number);
+    }
+
     /// Lends a buffer for what is taken, where all before is written.
     fn lend(&mut self, buffer: &mut Vec<u8>)
         requires { self.old.left ≡ Some [] }
@@ -280,7 +290,7 @@ impl Port {
         }
         self.lend(&mut desk.answers);
         self.take(hub, desk.alloc, number);
-        self.flush(desk.alloc, host, number);
+        self.flush_saved(hub, desk.alloc, host, number);
         self.give_back(desk.alloc, &mut desk.answers);
     }
 
@@ -505,7 +515,7 @@ impl Port {
         self.take(hub, desk.alloc, number);
         self.go_on(hub, host, number, desk);
         self.greet(host, number);
-        self.flush(desk.alloc, host, number);
+        self.flush_saved(hub, desk.alloc, host, number);
         self.give_back(desk.alloc, &mut desk.answers);
     }
 

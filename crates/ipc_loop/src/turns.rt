@@ -137,7 +137,7 @@ fn answer<H: Host>(hub: &mut Hub, host: &mut H, ports: &mut Ports, number: u64, 
 }
 
 /// Writes what was answered to anybody since.
-pub fn answer_all<H: Host>(hub: &mut Hub, host: &mut H, ports: &mut Ports, desk: &mut Desk)
+fn answer_each<H: Host>(hub: &mut Hub, host: &mut H, ports: &mut Ports, desk: &mut Desk)
     requires { (i : ℕ) → IsUpToDateByMark hub.old (open_at ports.old.all) i }
     ensures serves { Serves hub.old (H.moves host.old) (port_at ports.old.all) hub.new (H.moves host.new) (port_at ports.new.all) }
     ensures rests { NobodyIsOwed hub.new (open_at ports.new.all) }
@@ -150,6 +150,21 @@ pub fn answer_all<H: Host>(hub: &mut Hub, host: &mut H, ports: &mut Ports, desk:
     while let Some(conn) = hub.next_answered() {
         answer(hub, host, ports, conn.0, desk);
     }
+}
+
+/// The same, and hands the host what is recorded so far, also where nobody was answered.
+pub fn answer_all<H: Host>(hub: &mut Hub, host: &mut H, ports: &mut Ports, desk: &mut Desk)
+    requires { (i : ℕ) → IsUpToDateByMark hub.old (open_at ports.old.all) i }
+    ensures serves { Serves hub.old (H.moves host.old) (port_at ports.old.all) hub.new (H.moves host.new) (port_at ports.new.all) }
+    ensures rests { NobodyIsOwed hub.new (open_at ports.new.all) }
+    ensures undone { NobodyIsDone hub.new (open_at ports.new.all) }
+    ensures closes { OnlyCloses ports.old.all ports.new.all }
+    ensures turns { ports.new.turns ≡ ports.old.turns }
+    ensures refuses { Refuses (H.moves host.old) (H.moves host.new) (port_at ports.old.all) (port_at ports.new.all) }
+    ensures silent { H.told host.new ≡ H.told host.old }
+{
+    answer_each(hub, host, ports, desk);
+    host.save(hub.trail(), None);
 }
 
 /// Notes what became ready of a link.

@@ -4,9 +4,11 @@ use Rattle.clap.specs.declared.error.kind.ErrorKind.{ErrorKind as ArgumentKind}
 use Rattle.clap.specs.declared.error.kind.ErrorKind.TheVariants.{OutOfMemory as NoRoom}
 use Rattle.std.specs.declared.io.ErrorKind.{ErrorKind}
 use Rattle.std.specs.declared.io.ErrorKind.TheVariants.{OutOfMemory}
+use Rattle.ipc_history.specs.declared.fault.HistoryFault.{HistoryFault}
+use Rattle.ipc_history.specs.declared.fault.HistoryFault.TheVariants.{NoMemory, Read as NoRead}
 use Rattle.ipc_script.specs.declared.fault.ScriptFault.TheVariants.{Memory, Read, Write}
 use Rattle.ipc_program.specs.declared.fault.ProgramFault.{ProgramFault}
-use Rattle.ipc_program.specs.declared.fault.ProgramFault.TheVariants.{Arguments, Net, NotUtf8, Script}
+use Rattle.ipc_program.specs.declared.fault.ProgramFault.TheVariants.{Arguments, Net, NoTrail, NotUtf8, Script, Trail}
 
 -- what the parser of the arguments refuses
 abbrev pub of_arguments : Error → ArgumentKind → ProgramFault
@@ -34,3 +36,13 @@ of_output kind = or_memory kind (Script Write)
 -- where an address can't be bound
 abbrev pub of_address : ErrorKind → ProgramFault
 of_address kind = or_memory kind Net
+
+-- where the file of a trail can't be made
+abbrev pub of_trail_file : ErrorKind → ProgramFault
+of_trail_file kind = or_memory kind NoTrail
+
+-- where a trail can't be read, or no further
+abbrev pub of_history : HistoryFault → ProgramFault
+of_history NoRead = Script Read
+of_history NoMemory = Script Memory
+of_history fault = Trail fault

@@ -1,5 +1,6 @@
 pub mod Addresses
 pub mod Options
+pub mod Trails
 pub mod Servers
 pub mod Tasks
 pub mod Faults

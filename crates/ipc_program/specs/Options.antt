@@ -1,7 +1,8 @@
 -- The program's arguments in clap's terms.
-use Rattle.std.specs.Prelude.{◌≡◌, true, false, List, [], ◌∷◌, ◌++◌, codes}
+use Rattle.std.specs.Prelude.{◌≡◌, true, false, List, [], ◌∷◌, ◌++◌, Some, codes}
 use Rattle.clap.specs.Simple.{App, Shape, app_of, new_shape, with_rule, with_subcommand}
 use Rattle.clap.specs.Walk.{Rule, Text}
+use Rattle.clap.specs.declared.builder.action.ArgAction.TheVariants.{Append}
 use Rattle.clap.specs.declared.builder.command.Command.{Command}
 use Rattle.clap.specs.declared.builder.command.Command.TheViews.{out-Command}
 use Rattle.ipc_words.specs.Grammar.{flag, required, valued}
@@ -14,6 +15,10 @@ value_option name = record (valued name) { value_names = 1 }
 abbrev pub place : Text → Rule
 place name = record (required name) { value_names = 1 }
 
+-- one such word or more
+abbrev pub places : Text → Rule
+places name = record (required name) { action = Some Append; value_names = 1 }
+
 -- `[--msg-max N] [--msgsize-max N] [--queues-max N]`
 abbrev pub limit_options : List Rule
 limit_options = value_option (codes "msg-max") ∷ value_option (codes "msgsize-max") ∷ value_option (codes "queues-max") ∷ []
@@ -22,9 +27,17 @@ limit_options = value_option (codes "msg-max") ∷ value_option (codes "msgsize-
 abbrev pub thread_options : List Rule
 thread_options = flag (codes "one-thread") ∷ value_option (codes "connections") ∷ value_option (codes "keep-records") ∷ value_option (codes "keep-bytes") ∷ flag (codes "keep-all") ∷ []
 
+-- `[--trail-file FILE] [--trail-sync]`
+abbrev pub trail_options : List Rule
+trail_options = value_option (codes "trail-file") ∷ flag (codes "trail-sync") ∷ []
+
 -- these, and `[--workers N] [--stop-after N] [--log FILE] [--socket-mode OCTAL]`
 abbrev pub server_options : List Rule
 server_options = thread_options ++ value_option (codes "workers") ∷ value_option (codes "stop-after") ∷ value_option (codes "log") ∷ value_option (codes "socket-mode") ∷ []
+
+-- `[--audit] [--from N] [--to N]`
+abbrev pub audit_options : List Rule
+audit_options = flag (codes "audit") ∷ value_option (codes "from") ∷ value_option (codes "to") ∷ []
 
 -- `script`, with the limits
 abbrev pub script_shape : Shape
@@ -33,13 +46,20 @@ script_shape = record (new_shape (codes "script")) { rules = limit_options }
 -- `serve USERS ADDRESS`, with the server's options and the limits
 abbrev pub serve_shape : Shape
 serve_shape = record (new_shape (codes "serve")) {
-  rules = place (codes "users") ∷ place (codes "address") ∷ server_options ++ limit_options;
+  rules = place (codes "users") ∷ place (codes "address") ∷ server_options ++ trail_options ++ limit_options;
 }
+
+-- `replay USERS FILE..`, with what is audited
+abbrev pub replay_shape : Shape
+replay_shape = record (new_shape (codes "replay")) { rules = place (codes "users") ∷ places (codes "files") ∷ audit_options }
+
+-- `mqserve`, without subcommands
+abbrev pub bare_program : App
+bare_program = record { top = record (new_shape (codes "mqserve")) { has_version = true }; subs = [] }
 
 -- `mqserve`, with these subcommands
 abbrev pub app_of_program : App
-app_of_program =
-    with_subcommand (with_subcommand (record { top = record (new_shape (codes "mqserve")) { has_version = true }; subs = [] }) script_shape) serve_shape
+app_of_program = with_subcommand (with_subcommand (with_subcommand bare_program script_shape) serve_shape) replay_shape
 
 -- the command with these behind its other arguments
 abbrev pub with_rules : List Rule → App → App

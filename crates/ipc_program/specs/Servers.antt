@@ -1,12 +1,13 @@
 -- What a server is told.
 use Rattle.std.specs.Prelude.{◌≤◌, ⊤, ℕ, List, Option, MatchOption}
 use Rattle.ipc_policy.specs.declared.config.Limits.{Limits}
+use Rattle.ipc_program.specs.Trails.{TrailFile}
 use Rattle.ipc_program.specs.declared.tasks.Kept.{Kept}
 use Rattle.ipc_program.specs.declared.tasks.Threading.{Threading}
 use Rattle.ipc_program.specs.declared.tasks.Threading.TheVariants.{OneThread, Workers}
 
 -- the path of the user file, the address, the permission bits of a socket's file, on what threads it serves, after how many
--- connections it ends, the path of the log, and the limits
+-- connections it ends, the path of the log, where the trail is written to, and the limits
 pub record Serving : Type 0 where
   pub users : List ℕ
   pub address : List ℕ
@@ -14,6 +15,7 @@ pub record Serving : Type 0 where
   pub threading : Threading
   pub stop_after : Option ℕ
   pub log : Option (List ℕ)
+  pub trail : Option TrailFile
   pub limits : Limits
 
 -- all records, or 1,000 or more

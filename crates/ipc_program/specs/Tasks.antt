@@ -1,9 +1,9 @@
 -- The task that the program's words ask for.
-use Rattle.std.specs.Prelude.{◌-◌, ◌^◌, ◌&&◌, ◌||◌, ℕ, Bool, true, nat_le, not, List, Option, Some, None, Ok, Err, codes, is_some, unwrap_or, if◌then◌else◌}
+use Rattle.std.specs.Prelude.{◌-◌, ◌^◌, ◌&&◌, ◌||◌, ℕ, Bool, true, false, nat_le, not, List, Option, Some, None, Ok, Err, codes, is_some, unwrap_or, if◌then◌else◌}
 use Rattle.std.specs.Option.{option_map_or}
 use Rattle.std.specs.Str.{bytes_eq}
 use Rattle.clap.specs.Simple.{subcommand_of}
-use Rattle.clap.specs.Walk.{Row, Text, first_of}
+use Rattle.clap.specs.Walk.{Row, Text, all_of, first_of}
 use Rattle.ipc_policy.specs.declared.config.Limits.{Limits}
 use Rattle.ipc_policy.specs.declared.config.TheConstants.Limits.{STANDARD}
 use Rattle.ipc_words.specs.Numbers.{decimal_within}
@@ -11,11 +11,13 @@ use Rattle.ipc_words.specs.Readings.{Meaning, ◌>>=◌, is_given, of_argument, 
 use Rattle.ipc_program.specs.Addresses.{is_unix, is_unix_users, mode_of_word}
 use Rattle.ipc_program.specs.Options.{app_of_program}
 use Rattle.ipc_program.specs.Servers.{Serving}
+use Rattle.ipc_program.specs.Trails.{Replaying, TrailFile}
 use Rattle.ipc_program.specs.declared.tasks.Kept.{Kept}
+use Rattle.ipc_program.specs.declared.tasks.Places.{Places}
 use Rattle.ipc_program.specs.declared.tasks.Threading.{Threading}
 use Rattle.ipc_program.specs.declared.tasks.Threading.TheVariants.{OneThread, Workers}
 use Rattle.ipc_program.specs.declared.tasks.Task.{Task}
-use Rattle.ipc_program.specs.declared.tasks.Task.TheVariants.{Script, Serve}
+use Rattle.ipc_program.specs.declared.tasks.Task.TheVariants.{Replay, Script, Serve}
 
 -- the number of an option, and where it isn't given the standard one
 abbrev pub limit_at : ℕ → Text → List Row → Meaning ℕ
@@ -109,6 +111,23 @@ socket_mode_given address rows =
     option_at mode_of_word (codes "socket-mode") rows >>= λ given.
     if is_some given && not (is_unix address) then Err (codes "socket-mode") else Ok (unwrap_or given 384)
 
+abbrev pub is_one_thread : Threading → Bool
+is_one_thread (OneThread _ _) = true
+is_one_thread (Workers _) = false
+
+-- a file that a trail is written to, which one thread alone does
+abbrev pub trail_at : Threading → Bool → Text → Meaning (Option TrailFile)
+trail_at threading is_synced path = if is_one_thread threading then Ok (Some (record { path = path; is_synced = is_synced })) else Err (codes "trail-file")
+
+-- without such a file nothing is synced
+abbrev pub no_trail : Bool → Meaning (Option TrailFile)
+no_trail is_synced = if is_synced then Err (codes "trail-sync") else Ok None
+
+-- the file that a trail is written to, where one is given
+abbrev pub trail_given : Threading → List Row → Meaning (Option TrailFile)
+trail_given threading rows =
+    option_map_or (trail_at threading (is_given (codes "trail-sync") rows)) (first_of (codes "trail-file") rows) (no_trail (is_given (codes "trail-sync") rows))
+
 -- what the words of `serve` tell the server
 abbrev pub serving_given : List Row → Meaning Serving
 serving_given rows =
@@ -116,15 +135,43 @@ serving_given rows =
     word_at (codes "address") rows >>= λ address.
     threading_at address rows >>= λ threading.
     option_at (decimal_within (2 ^ 64 - 1)) (codes "stop-after") rows >>= λ stop_after.
+    trail_given threading rows >>= λ trail.
     socket_mode_given address rows >>= λ socket_mode.
     limits_given rows >>= λ limits.
-    Ok (record { users = users; address = address; socket_mode = socket_mode; threading = threading; stop_after = stop_after; log = first_of (codes "log") rows; limits = limits })
+    Ok (record { users = users; address = address; socket_mode = socket_mode; threading = threading; stop_after = stop_after; log = first_of (codes "log") rows; trail = trail; limits = limits })
+
+-- the words at this place, one or more
+abbrev pub words_at : Text → List Row → Meaning (List Text)
+words_at name rows = of_argument name (all_of name rows)
+
+-- from which place to which, and where they aren't given all
+abbrev pub places_given : List Row → Meaning Places
+places_given rows =
+    number_at 0 (codes "from") rows >>= λ first.
+    number_at (2 ^ 64 - 1) (codes "to") rows >>= λ last.
+    Ok (record { first = first; last = last })
+
+-- of which records a line is printed, if of any
+abbrev pub audit_given : List Row → Meaning (Option Places)
+audit_given rows =
+    if is_given (codes "audit") rows then (places_given rows >>= λ places. Ok (Some places))
+    else (if has (codes "from") rows then Err (codes "from")
+    else (if has (codes "to") rows then Err (codes "to") else Ok None))
+
+-- what the words of `replay` tell
+abbrev pub replaying_given : List Row → Meaning Replaying
+replaying_given rows =
+    word_at (codes "users") rows >>= λ users.
+    audit_given rows >>= λ audit.
+    words_at (codes "files") rows >>= λ files.
+    Ok (record { users = users; files = files; audit = audit })
 
 -- the task of a subcommand by its name and what stands behind it
 abbrev pub task_of : Text × List Row → Meaning Task
 task_of (name, rows) =
     if bytes_eq name (codes "serve") then (serving_given rows >>= λ serving. Ok (Serve serving))
-    else (limits_given rows >>= λ limits. Ok (Script limits))
+    else (if bytes_eq name (codes "replay") then (replaying_given rows >>= λ replaying. Ok (Replay replaying))
+    else (limits_given rows >>= λ limits. Ok (Script limits)))
 
 -- and where none is named a script within the standard limits
 abbrev pub task_given : Option (Text × List Row) → Meaning Task

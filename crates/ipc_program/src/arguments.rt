@@ -6,13 +6,14 @@ ghost use Rattle.clap.specs.Walk.{first_of, rule_of, rows_of};
 ghost use Rattle.clap.specs.Words.{found_of};
 ghost use Rattle.ipc_words.specs.Grammar.{flag};
 ghost use Rattle.ipc_words.specs.Readings.{Reads, is_given};
-ghost use Rattle.ipc_program.specs.Options.{Adds, IsSubcommand, app_of_program, limit_options, place, script_shape, serve_shape, server_options, thread_options, value_option};
+ghost use Rattle.ipc_program.specs.Options.{Adds, IsSubcommand, app_of_program, audit_options, limit_options, place, places, replay_shape, script_shape, serve_shape, server_options, thread_options, trail_options, value_option};
 ghost use Rattle.ipc_program.specs.Servers.{IsEnough, IsWithin};
 ghost use Rattle.ipc_program.specs.Tasks.{connections_given, crew_given, has, kept_given, limits_given, newest_given, serves, threading_at, threading_given, serving_given, socket_mode_given, task_asked, task_given, task_of, workers_given};
 
 use crate::addresses::{is_unix, is_unix_users, read_mode};
 use crate::fault::ProgramFault;
 use crate::tasks::{Kept, Serving, Task, Threading};
+use crate::trails::{replaying_of, trail_of};
 use clap::error::ErrorKind;
 use clap::{Arg, ArgAction, ArgMatches, Command};
 use ipc_core::Limits;
@@ -26,7 +27,9 @@ mqserve [script [--msg-max <N>] [--msgsize-max <N>] [--queues-max <N>]]
        mqserve serve <USERS> <ADDRESS> [--one-thread [--connections <N>] | --workers <N>]
                      [--keep-records <N>] [--keep-bytes <N>] [--keep-all]
                      [--stop-after <N>] [--log <FILE>] [--socket-mode <OCTAL>]
-                     [--msg-max <N>] [--msgsize-max <N>] [--queues-max <N>]";
+                     [--trail-file <FILE> [--trail-sync]]
+                     [--msg-max <N>] [--msgsize-max <N>] [--queues-max <N>]
+       mqserve replay <USERS> <FILE>.. [--audit [--from <N>] [--to <N>]]";
 
 const USERS_HELP: &str = "The user file";
 
@@ -53,6 +56,19 @@ const LOG_HELP: &str =
     "Where a line of each connection goes, - is standard output [default: nowhere]";
 
 const SOCKET_MODE_HELP: &str = "Permission bits of the file of unix:PATH [default: 0600]";
+
+const TRAIL_FILE_HELP: &str =
+    "With --one-thread: where records are written before they are answered [default: nowhere]";
+
+const TRAIL_SYNC_HELP: &str = "With --trail-file: records are on the disk before they are answered";
+
+const FILES_HELP: &str = "The files of a trail, in their order";
+
+const AUDIT_HELP: &str = "Print a line of each record";
+
+const FROM_HELP: &str = "With --audit: the place of the first line [default: 0]";
+
+const TO_HELP: &str = "With --audit: the place of the last line [default: the end]";
 
 const MSG_MAX_HELP: &str = "Messages that a queue may have, 1 to 65536 [default: 10]";
 
@@ -81,17 +97,19 @@ const STANDARD_MODE: u32 = 0o600;
 
 /// The task that the program's words ask for, of which the first is its name: `mqserve` alone, `mqserve script`, or
 /// `mqserve serve USERS ADDRESS`, with `--one-thread [--connections N] [--keep-records N] [--keep-bytes N] [--keep-all]` or
-/// `[--workers N]`, and with `[--stop-after N] [--log FILE] [--socket-mode OCTAL]`; behind the last two the limits, `[--msg-max N] [--msgsize-max N] [--queues-max N]`. A limit that
-/// isn't given is the standard one, and none is tested against its range. `help` stands at the end of the help text.
+/// `[--workers N]`, and with `[--stop-after N] [--log FILE] [--socket-mode OCTAL] [--trail-file FILE [--trail-sync]]`; behind the
+/// last two the limits, `[--msg-max N] [--msgsize-max N] [--queues-max N]`. Or `mqserve replay USERS FILE..`, with
+/// `[--audit [--from N] [--to N]]`. A limit that isn't given is the standard one, and none is tested against its range. `help`
+/// stands at the end of the help text.
 ///
 /// # Errors
 ///
 /// `Arguments` where the words are anything else, an N isn't decimal without sign and leading zeros, at most
-/// 4,294,967,295, or of `--stop-after` and the two of records 18,446,744,073,709,551,615, that of `--workers` isn't 1 to 64,
+/// 4,294,967,295, or of `--stop-after`, the two of records and places 18,446,744,073,709,551,615, that of `--workers` isn't 1 to 64,
 /// that of `--connections` is 0, that of `--keep-records` is below 1,000, or OCTAL isn't a zero and three octal digits; where
-/// `--workers` stands beside `--one-thread`, `--connections` or what tells of records without it, `--keep-all` beside the other
-/// two, `--socket-mode` at an address that isn't `unix:PATH`, or `unix-users:DIR` without `--one-thread`; and where they ask for
-/// help or the version.
+/// `--workers` stands beside `--one-thread`, `--connections`, what tells of records or `--trail-file` without it, `--keep-all`
+/// beside the other two, `--trail-sync` without `--trail-file`, `--socket-mode` at an address that isn't `unix:PATH`,
+/// `unix-users:DIR` without `--one-thread`, or `--from` or `--to` without `--audit`; and where they ask for help or the version.
 pub fn task_of_words<'a, S: AsStr>(
     alloc: Global,
     help: &'a str,
@@ -142,6 +160,10 @@ fn what_is_wanted(fault: WordFault) -> &'static str {
             "OCTAL is a zero and three octal digits, and ADDRESS is unix:PATH",
         WordFault::BadValue("stop-after") =>
             "N is decimal, without sign and leading zeros, at most 18446744073709551615",
+        WordFault::BadValue("trail-file") => "it stands with --one-thread",
+        WordFault::BadValue("trail-sync") => "it stands with --trail-file",
+        WordFault::BadValue("from" | "to") =>
+            "N is decimal, without sign and leading zeros, at most 18446744073709551615, and stands with --audit",
         _ => "N is decimal, without sign and leading zeros, at most 4294967295",
     }
 }
@@ -151,13 +173,15 @@ fn program<'a>(alloc: Global, help: &'a str) -> Result<Command<'a>, AllocError>
 {
     let script = script(alloc, help)?;
     let serve = serve(alloc, help)?;
+    let replay = replay(alloc, help)?;
     Command::new(alloc, "mqserve")
         .version("0.1.0")
         .about("Serves POSIX message queues and named semaphores")
         .override_usage(USAGE)
         .after_help(help)
         .subcommand(script)?
-        .subcommand(serve)
+        .subcommand(serve)?
+        .subcommand(replay)
 }
 
 fn script<'a>(alloc: Global, help: &'a str) -> Result<Command<'a>, AllocError>
@@ -178,7 +202,19 @@ fn serve<'a>(alloc: Global, help: &'a str) -> Result<Command<'a>, AllocError>
         .arg(place(alloc, "users", "USERS", USERS_HELP))?
         .arg(place(alloc, "address", "ADDRESS", ADDRESS_HELP))?;
     let serve = with_server_options(alloc, serve)?;
+    let serve = with_trail_options(alloc, serve)?;
     with_limits(alloc, serve)
+}
+
+fn replay<'a>(alloc: Global, help: &'a str) -> Result<Command<'a>, AllocError>
+    ensures { IfOk result (λ command. IsSubcommand replay_shape command) }
+{
+    let replay = Command::new(alloc, "replay")
+        .about("Step the records of a trail again, and compare each verdict")
+        .after_help(help)
+        .arg(place(alloc, "users", "USERS", USERS_HELP))?
+        .arg(places(alloc, "files", "FILE", FILES_HELP))?;
+    with_audit_options(alloc, replay)
 }
 
 /// Adds what one thread is told.
@@ -206,6 +242,27 @@ fn with_server_options<'a>(alloc: Global, command: Command<'a>) -> Result<Comman
     Ok(command)
 }
 
+/// Adds what a server is told of a trail in a file.
+fn with_trail_options<'a>(alloc: Global, command: Command<'a>) -> Result<Command<'a>, AllocError>
+    ensures { IfOk result (λ added. Adds trail_options command.entry added) }
+{
+    let command = command
+        .arg(value(alloc, "trail-file", "FILE", TRAIL_FILE_HELP))?
+        .arg(flag(alloc, "trail-sync", TRAIL_SYNC_HELP))?;
+    Ok(command)
+}
+
+/// Adds what tells of which records a line is printed.
+fn with_audit_options<'a>(alloc: Global, command: Command<'a>) -> Result<Command<'a>, AllocError>
+    ensures { IfOk result (λ added. Adds audit_options command.entry added) }
+{
+    let command = command
+        .arg(flag(alloc, "audit", AUDIT_HELP))?
+        .arg(value(alloc, "from", "N", FROM_HELP))?
+        .arg(value(alloc, "to", "N", TO_HELP))?;
+    Ok(command)
+}
+
 /// Adds the options for the limits.
 fn with_limits<'a>(alloc: Global, command: Command<'a>) -> Result<Command<'a>, AllocError>
     ensures { IfOk result (λ added. Adds limit_options command.entry added) }
@@ -225,6 +282,18 @@ fn place<'a>(alloc: Global, name: &'a str, value_name: &'a str, help: &'a str) -
     Arg::new(alloc, name)
         .required(true)
         .action(ArgAction::Set)
+        .value_name(value_name)
+        .help(help)
+}
+
+/// A word that must be given, and more behind it.
+fn places<'a>(alloc: Global, name: &'a str, value_name: &'a str, help: &'a str) -> Arg<'a>
+    ensures rule { rule_of result ≡ places name.entry.now }
+    ensures local { result.global ≡ false }
+{
+    Arg::new(alloc, name)
+        .required(true)
+        .action(ArgAction::Append)
         .value_name(value_name)
         .help(help)
 }
@@ -269,6 +338,9 @@ fn task_named(alloc: Global, name: &str, options: &ArgMatches) -> Result<Task, W
     if name == "serve" {
         return Ok(Task::Serve(serving_of(alloc, options)?));
     }
+    if name == "replay" {
+        return Ok(Task::Replay(replaying_of(alloc, options)?));
+    }
     Ok(Task::Script(limits_of(options)?))
 }
 
@@ -285,6 +357,7 @@ fn serving_of(alloc: Global, options: &ArgMatches) -> Result<Serving, WordFault>
     let threading = threading_at(options, address)?;
     let stop_after = optional_number(options, "stop-after")?;
     let log = log_of(alloc, options)?;
+    let trail = trail_of(alloc, options, threading)?;
     let socket_mode = socket_mode_of(options, address)?;
     let limits = limits_of(options)?;
     Ok(Serving {
@@ -294,6 +367,7 @@ fn serving_of(alloc: Global, options: &ArgMatches) -> Result<Serving, WordFault>
         threading,
         stop_after,
         log,
+        trail,
         limits,
     })
 }
@@ -398,7 +472,7 @@ fn newest_of(options: &ArgMatches) -> Result<Kept, WordFault>
 }
 
 /// Whether a flag was given. Its value is the text `true` or `false`.
-fn is_flag_given(options: &ArgMatches, name: &str) -> bool
+pub(crate) fn is_flag_given(options: &ArgMatches, name: &str) -> bool
     ensures { result ≡ is_given name.now (rows_of (found_of options.now)) }
 {
     match optional_word(options, name) {
@@ -407,7 +481,7 @@ fn is_flag_given(options: &ArgMatches, name: &str) -> bool
     }
 }
 
-fn is_option_given(options: &ArgMatches, name: &str) -> bool
+pub(crate) fn is_option_given(options: &ArgMatches, name: &str) -> bool
     ensures { result ≡ has name.now (rows_of (found_of options.now)) }
 {
     optional_word(options, name).is_some()

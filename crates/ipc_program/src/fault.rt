@@ -5,10 +5,11 @@ ghost use Rattle.std.specs.IoError.{error_kind};
 ghost use Rattle.clap.specs.Words.{kind_of};
 ghost use Rattle.ipc_script.specs.declared.fault.ScriptFault.TheVariants.{Memory};
 ghost use Rattle.ipc_program.specs.declared.fault.ProgramFault.TheVariants.{Script};
-ghost use Rattle.ipc_program.specs.Faults.{of_address, of_arguments, of_file, of_output, of_reading, or_memory};
-ghost use Rattle.ipc_program.specs.Statuses.{status_of_fault, status_of_arguments};
+ghost use Rattle.ipc_program.specs.Faults.{of_address, of_arguments, of_file, of_history, of_output, of_reading, of_trail_file, or_memory};
+ghost use Rattle.ipc_program.specs.Statuses.{status_of_arguments, status_of_fault, status_of_trail};
 
 use clap::error::ErrorKind;
+use ipc_history::HistoryFault;
 use ipc_script::ScriptFault;
 use std::alloc::AllocError;
 use std::{fmt, io};
@@ -24,6 +25,12 @@ pub enum ProgramFault {
     Script(ScriptFault),
     /// The address can't be bound, or no connection can be accepted any more.
     Net,
+    /// The file that the trail is to go into can't be made, or where it is there can't be had or changed.
+    NoTrail,
+    /// A trail is at fault, or isn't legal. A read that failed and want of memory are the script's.
+    Trail(HistoryFault),
+    /// A file of a trail ends within the record of this place, counted from 0, and isn't the last one.
+    CutOff(u64),
 }
 
 impl ProgramFault {
@@ -35,7 +42,9 @@ impl ProgramFault {
             ProgramFault::Arguments(error) => status_of_arguments(error.kind()),
             ProgramFault::NotUtf8 => 2,
             ProgramFault::Script(fault) => fault.status(),
-            ProgramFault::Net => 4,
+            ProgramFault::Net | ProgramFault::NoTrail => 4,
+            ProgramFault::Trail(fault) => status_of_trail(*fault),
+            ProgramFault::CutOff(_) => 6,
         }
     }
 
@@ -60,6 +69,13 @@ impl ProgramFault {
         or_memory(error, ProgramFault::Net)
     }
 
+    /// Of making the file of a trail, or of one that is there.
+    pub fn of_trail_file(error: &io::Error) -> Self
+        ensures { result ≡ of_trail_file (error_kind error.now) }
+    {
+        or_memory(error, ProgramFault::NoTrail)
+    }
+
     /// Says why: help and the version on standard output, all else on standard error. One that can't
     /// be written to is passed over.
     pub fn print(&self, rt: &(impl Print + Eprint)) {
@@ -78,6 +94,9 @@ impl fmt::Display for ProgramFault {
             ProgramFault::NotUtf8 => f.write_str("error: an argument is not UTF-8\n"),
             ProgramFault::Script(fault) => writeln!(f, "mqserve: {fault}"),
             ProgramFault::Net => f.write_str("mqserve: net\n"),
+            ProgramFault::NoTrail => f.write_str("mqserve: trail\n"),
+            ProgramFault::Trail(fault) => writeln!(f, "mqserve: trail {fault}"),
+            ProgramFault::CutOff(place) => writeln!(f, "mqserve: trail record {place}: cut off"),
         }
     }
 }
@@ -88,6 +107,17 @@ fn status_of_arguments(kind: ErrorKind) -> u8
     match kind {
         ErrorKind::DisplayHelp | ErrorKind::DisplayVersion => 0,
         _ => 2,
+    }
+}
+
+fn status_of_trail(fault: HistoryFault) -> u8
+    ensures { result ≡ status_of_trail fault }
+{
+    match fault {
+        HistoryFault::BadConfig(_) | HistoryFault::OtherUsers | HistoryFault::OtherLimits => 3,
+        HistoryFault::Read => 4,
+        HistoryFault::NoMemory => 5,
+        _ => 6,
     }
 }
 
@@ -137,5 +167,17 @@ impl From<ScriptFault> for ProgramFault {
 
     fn from(fault: ScriptFault) -> Self {
         ProgramFault::Script(fault)
+    }
+}
+
+impl From<HistoryFault> for ProgramFault {
+    ghost from_gives = { λ fault made. made ≡ of_history fault };
+
+    fn from(fault: HistoryFault) -> Self {
+        match fault {
+            HistoryFault::Read => ProgramFault::Script(ScriptFault::Read),
+            HistoryFault::NoMemory => ProgramFault::Script(ScriptFault::Memory),
+            _ => ProgramFault::Trail(fault),
+        }
     }
 }

@@ -1,11 +1,16 @@
-//! The server's program: its arguments, and the exit status of each fault that ends it.
+//! The server's program: its arguments, its users, its lines on standard output, and the exit status of each fault that ends it.
 #![tactic(auto)]
 
 mod addresses;
 mod arguments;
 mod fault;
+mod output;
 mod tasks;
+mod trails;
+mod users;
 
 pub use arguments::task_of_words;
 pub use fault::ProgramFault;
-pub use tasks::{Kept, Serving, Task, Threading};
+pub use output::{print_line, say};
+pub use tasks::{Kept, Places, Replaying, Serving, Task, Threading, TrailFile};
+pub use users::{users_at, users_of};

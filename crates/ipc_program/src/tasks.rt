@@ -10,6 +10,8 @@ pub enum Task {
     Script(Limits),
     /// Serve connections.
     Serve(Serving),
+    /// Step the records of a trail again.
+    Replay(Replaying),
 }
 
 /// Whom a server serves, where, and how.
@@ -27,7 +29,17 @@ pub struct Serving {
     pub stop_after: Option<u64>,
     /// The path of the log, or `-`.
     pub log: Option<String>,
+    /// Where the trail is written to, if it is. Workers write none.
+    pub trail: Option<TrailFile>,
     pub limits: Limits,
+}
+
+/// A file that a trail is written to.
+#[derive(Drop)]
+pub struct TrailFile {
+    pub path: String,
+    /// Whether what is written has to be on the disk before it is answered.
+    pub is_synced: bool,
 }
 
 /// On what threads connections are served.
@@ -47,13 +59,49 @@ pub struct Kept {
     pub bytes: Option<u64>,
 }
 
+/// Which trail is replayed.
+#[derive(Drop)]
+pub struct Replaying {
+    /// The path of the user file.
+    pub users: String,
+    /// The paths of the trail's files in their order, one or more.
+    pub files: Vec<String>,
+    /// Of which records a line is printed, if of any.
+    pub audit: Option<Places>,
+}
+
+/// The places from one to another, with both. Places count from 0.
+#[derive(Clone, Copy, PartialEq, Eq, Drop)]
+pub struct Places {
+    pub first: u64,
+    pub last: u64,
+}
+
+impl Model for TrailFile {
+    ghost use Rattle.std.specs.Prelude.{string_bytes};
+    ghost use Rattle.ipc_program.specs.Trails.{TrailFile};
+
+    ghost Value = { TrailFile };
+
+    ghost view = { λ t. record { path = string_bytes t.path; is_synced = t.is_synced } };
+}
+
+impl Model for Replaying {
+    ghost use Rattle.std.specs.Prelude.{map, string_bytes};
+    ghost use Rattle.ipc_program.specs.Trails.{Replaying};
+
+    ghost Value = { Replaying };
+
+    ghost view = { λ r. record { users = string_bytes r.users; files = map string_bytes r.files.items; audit = r.audit } };
+}
+
 impl Model for Serving {
     ghost use Rattle.std.specs.Prelude.{option_map, string_bytes};
     ghost use Rattle.ipc_program.specs.Servers.{IsWithin, Serving};
 
     ghost Value = { Serving };
 
-    ghost view = { λ s. record { users = string_bytes s.users; address = string_bytes s.address; socket_mode = s.socket_mode; threading = s.threading; stop_after = s.stop_after; log = option_map string_bytes s.log; limits = s.limits } };
+    ghost view = { λ s. record { users = string_bytes s.users; address = string_bytes s.address; socket_mode = s.socket_mode; threading = s.threading; stop_after = s.stop_after; log = option_map string_bytes s.log; trail = s.trail; limits = s.limits } };
 
     ghost invariant = { λ s. IsWithin s.threading };
 }

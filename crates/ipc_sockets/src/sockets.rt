@@ -15,6 +15,7 @@ use crate::streams::Listener;
 use ipc_loop::{Ending, Host, Ready};
 use ipc_numbered::Numbered;
 use ipc_terms::{Bytes, Uid};
+use ipc_trail::Trail;
 use mio::event::Event;
 use mio::net::UnixListener;
 use mio::{Events, Poll, Token};
@@ -207,6 +208,9 @@ impl<R> Sockets<'_, R> {
 }
 
 impl<R: Clock> Host for Sockets<'_, R> {
+    // It keeps no trail.
+    ghost spare = { λ _. 18446744073709551615 };
+
     fn accept(&mut self, number: u64) -> io::Result<()> {
         // The room is made first, so that nobody is dropped for want of it.
         for _ in self.links.next_number()..=number as usize {
@@ -235,6 +239,12 @@ impl<R: Clock> Host for Sockets<'_, R> {
     }
 
     fn greeted(&mut self, _number: u64, _user: Uid) {}
+
+    fn save(&mut self, _trail: &Trail, _link: Option<u64>) {}
+
+    fn spare(&self) -> u64 {
+        u64::MAX
+    }
 
     fn close(&mut self, number: u64, _requests: u64, ending: Ending) {
         if let Some(Some(link)) = self.links.take(number as usize) {

@@ -33,6 +33,7 @@ pub use faults::{WordFault, put_fault};
 use ipc_terms::Call;
 pub use numbers::read_decimal;
 pub use readings::{optional_count, optional_number, optional_word};
+pub use records::put_record;
 use std::alloc::Global;
 pub use usage::{USAGE_OF_VALUES, usage_of_commands};
 

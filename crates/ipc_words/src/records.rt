@@ -30,9 +30,9 @@ fn put_spaced_lines(text: &mut String, lines: &[Line]) -> Result<(), AllocError>
     Ok(())
 }
 
-/// `PLACE:SESSION:EVENT:RULE:NAME`.
+/// Adds a line of the audit, `PLACE:SESSION:EVENT:RULE:NAME`. On `Err` a part of it may be left in the text.
 #[tactic(auto, unfolding(crate::specs::Answers::line_text))]
-fn put_record(text: &mut String, line: &Line) -> Result<(), AllocError>
+pub fn put_record(text: &mut String, line: &Line) -> Result<(), AllocError>
     ensures { OnOk result (string_bytes text.new ≡ string_bytes text.old ++ line_text line.now) }
 {
     write!(text, "{}:", line.place)?;

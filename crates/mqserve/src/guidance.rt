@@ -1,9 +1,7 @@
 //! What is told to a person who runs the program.
 
-use ipc_program::ProgramFault;
 use ipc_words::{USAGE_OF_VALUES, usage_of_commands};
 use std::alloc::{AllocError, Global};
-use std::fmt::Display;
 use std::io::IsTerminal;
 
 /// Where standard input is a terminal, says on standard error what is waited for. A standard error
@@ -16,20 +14,12 @@ pub fn hint(rt: &HostRuntime) {
     }
 }
 
-/// Writes a line of two words to standard output.
-pub fn say<R: Print, D: Display + Drop>(rt: &R, verb: &str, what: D) -> Result<(), ProgramFault> {
-    match println!(rt; "{verb} {what}") {
-        Ok(()) => Ok(()),
-        Err(error) => Err(ProgramFault::of_output(&error)),
-    }
-}
-
 /// What `--help` says below the arguments: the form of a script, what a server does, and each command with what may stand
 /// for its values.
 pub fn help_text(alloc: Global) -> Result<String, AllocError> {
     let commands = usage_of_commands(alloc)?;
     format!(in alloc;
-        "{FORM}\n\n{SERVER}\n\nCommands:\n{commands}\nValues:\n  {USAGE_OF_VALUES}\n\n{EXAMPLE}"
+        "{FORM}\n\n{SERVER}\n\n{TRAIL}\n\nCommands:\n{commands}\nValues:\n  {USAGE_OF_VALUES}\n\n{EXAMPLE}"
     )
 }
 
@@ -47,6 +37,10 @@ A server reads its users, a line for each, from the file USERS. Clients speak to
 With --one-thread all clients are served, however many are connected (up to --connections), on one processor.
 Without it each worker serves one connection at a time. There are 4 by default, so a fifth client waits. Workers use
 several processors: they answer a few busy clients faster.";
+
+const TRAIL: &str = "\
+With --trail-file a server writes each record into FILE before it is answered. With the same USERS replay steps the records of such
+files again, compares the rule of each with the policy's verdict, and prints what they count up to.";
 
 const EXAMPLE: &str = "\
 Example:

@@ -4,6 +4,7 @@ use crate::log::{Log, words_of_fault};
 use ipc_loop::{Ending, Host, Ready};
 use ipc_sockets::Sockets;
 use ipc_terms::Uid;
+use ipc_trail::Trail;
 use std::io;
 use std::sync::Wait;
 use std::time::{Clock, Duration};
@@ -16,6 +17,8 @@ pub struct LoggedSockets<'a, R> {
 }
 
 impl<R: Print + Eprint + Wait + Clock> Host for LoggedSockets<'_, R> {
+    ghost spare = { λ _. 18446744073709551615 };
+
     fn accept(&mut self, number: u64) -> io::Result<()> {
         self.sockets.accept(number)?;
         self.log.begun(number, self.sockets.peer(number));
@@ -33,6 +36,14 @@ impl<R: Print + Eprint + Wait + Clock> Host for LoggedSockets<'_, R> {
     fn greeted(&mut self, number: u64, user: Uid) {
         self.sockets.greeted(number, user);
         self.log.greeted(number, user.0);
+    }
+
+    fn save(&mut self, trail: &Trail, link: Option<u64>) {
+        self.sockets.save(trail, link);
+    }
+
+    fn spare(&self) -> u64 {
+        self.sockets.spare()
     }
 
     fn close(&mut self, number: u64, requests: u64, ending: Ending) {

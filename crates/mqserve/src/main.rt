@@ -7,12 +7,14 @@ mod journal;
 mod log;
 mod logged;
 mod one_thread;
+mod saved;
 mod serving;
 mod ticking;
 
 use guidance::{help_text, hint};
 use ipc_core::Limits;
 use ipc_program::{ProgramFault, Task, task_of_words};
+use ipc_saving::replay_trail;
 use ipc_script::run_script;
 use serving::serve;
 use std::env;
@@ -22,6 +24,7 @@ fn main(rt: HostRuntime) -> ExitCode {
     let outcome = match task_given(&rt) {
         Ok(Task::Script(limits)) => script(&rt, limits),
         Ok(Task::Serve(serving)) => serve(&rt, &serving),
+        Ok(Task::Replay(replaying)) => replay_trail(&rt, &replaying),
         Err(fault) => Err(fault),
     };
     match outcome {

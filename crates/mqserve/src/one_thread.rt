@@ -1,14 +1,19 @@
 //! Serving connections on one thread.
 
-use crate::guidance::say;
 use crate::log::open_log;
 use crate::logged::LoggedSockets;
+use crate::saved::SavedSockets;
 use ipc_access::Users;
-use ipc_core::Config;
-use ipc_loop::{Keeping, Server};
-use ipc_program::{Kept, ProgramFault, Serving};
+use ipc_core::{Config, Core};
+use ipc_history::users_sum;
+use ipc_hub::Hub;
+use ipc_log::Head;
+use ipc_loop::{Host, Keeping, Server};
+use ipc_program::{Kept, ProgramFault, Serving, TrailFile, say};
+use ipc_saving::{OldTrail, OpenTrail, open_old, replay_old};
 use ipc_script::ScriptFault;
 use ipc_sockets::{Sockets, UserSocket, folder_of, sockets_of};
+use ipc_terms::NoMemory;
 use std::alloc::Global;
 use std::fs::File;
 use std::io;
@@ -29,10 +34,8 @@ pub fn serve_on_one_thread<
 ) -> Result<(), ProgramFault> {
     let address = serving.address.as_str();
     let users = owners(rt.alloc(), address, &config.users)?;
-    let mut server = match Server::new(rt.alloc(), config, connections, serving.stop_after) {
-        Ok(server) => server,
-        Err(fault) => return Err(ScriptFault::from(fault).into()),
-    };
+    // A trail may be long, so it is replayed before anybody can connect.
+    let (mut server, trail) = start(rt, serving, connections, config)?;
     server.keep(Keeping {
         records: kept.records,
         bytes: kept.bytes,
@@ -43,10 +46,11 @@ pub fn serve_on_one_thread<
         Ok(sockets) => sockets,
         Err(error) => return Err(ProgramFault::of_address(&error)),
     };
-    let mut sockets = LoggedSockets { sockets, log: &log };
-    let served = work(rt, address, &mut server, &mut sockets);
-    sockets.sockets.finish();
-    served
+    let sockets = LoggedSockets { sockets, log: &log };
+    match trail {
+        Some(trail) => serve_and_save(rt, address, &mut server, sockets, trail),
+        None => serve_only(rt, address, &mut server, sockets),
+    }
 }
 
 /// Whom the sockets at the address are of, where it is a folder of them.
@@ -58,6 +62,109 @@ fn owners(alloc: Global, address: &str, users: &Users) -> Result<Vec<UserSocket>
         Ok(sockets) => Ok(sockets),
         Err(error) => Err(ProgramFault::of_address(&error)),
     }
+}
+
+/// Where the trail goes of a server that starts.
+#[derive(Drop)]
+enum Goal<'a> {
+    /// Into a file that is to be made, with this head.
+    New(&'a TrailFile, Head),
+    /// Behind the records of a file that was there, and whether these are synced.
+    Old(OldTrail, bool),
+}
+
+/// The server, and where its trail goes, if that is anywhere. Nothing is written yet.
+fn start<'a, R: AllocGlobal + Files<File = File>>(
+    rt: &R,
+    serving: &'a Serving,
+    connections: usize,
+    config: Config,
+) -> Result<(Server, Option<Goal<'a>>), ProgramFault> {
+    let alloc = rt.alloc();
+    let stop_after = serving.stop_after;
+    let Some(wanted) = &serving.trail else {
+        let server = new_server(alloc, config, connections, stop_after)?;
+        return Ok((server, None));
+    };
+    let found = match open_old(rt, wanted.path.as_str()) {
+        Ok(found) => found,
+        Err(error) => return Err(ProgramFault::of_trail_file(&error)),
+    };
+    let Some(file) = found else {
+        let head = head_of(alloc, &config)?;
+        let server = new_server(alloc, config, connections, stop_after)?;
+        return Ok((server, Some(Goal::New(wanted, head))));
+    };
+    let (state, old) = replay_old(alloc, file, config)?;
+    let hub = Hub::of_core(alloc, Core::of_state(alloc, state));
+    match Server::of_hub(alloc, hub, connections, stop_after) {
+        Ok(server) => Ok((server, Some(Goal::Old(old, wanted.is_synced)))),
+        Err(NoMemory) => Err(ScriptFault::Memory.into()),
+    }
+}
+
+/// A server with an empty trail.
+fn new_server(
+    alloc: Global,
+    config: Config,
+    connections: usize,
+    stop_after: Option<u64>,
+) -> Result<Server, ProgramFault> {
+    match Server::new(alloc, config, connections, stop_after) {
+        Ok(server) => Ok(server),
+        Err(fault) => Err(ScriptFault::from(fault).into()),
+    }
+}
+
+/// What stands in front of the trail's records.
+fn head_of(alloc: Global, config: &Config) -> Result<Head, ProgramFault> {
+    let Ok(users) = users_sum(alloc, &config.users) else {
+        return Err(ScriptFault::Memory.into());
+    };
+    Ok(Head {
+        first: 0,
+        msg_max: config.limits.msg_max,
+        msgsize_max: config.limits.msgsize_max,
+        queues_max: config.limits.queues_max,
+        users,
+    })
+}
+
+/// Serves, and keeps the trail in memory alone.
+fn serve_only<R: Files + Print + Eprint + Wait + Clock>(
+    rt: &R,
+    address: &str,
+    server: &mut Server,
+    mut sockets: LoggedSockets<'_, R>,
+) -> Result<(), ProgramFault> {
+    let served = work(rt, address, server, &mut sockets);
+    sockets.sockets.finish();
+    served
+}
+
+/// Serves, and puts the trail into a file, which is made or changed behind all that may fail before.
+fn serve_and_save<R: AllocGlobal + Files<File = File> + Print + Eprint + Wait + Clock>(
+    rt: &R,
+    address: &str,
+    server: &mut Server,
+    mut sockets: LoggedSockets<'_, R>,
+    trail: Goal<'_>,
+) -> Result<(), ProgramFault> {
+    let opened = match trail {
+        Goal::New(file, head) => OpenTrail::create(rt, rt.alloc(), file, &head),
+        Goal::Old(old, is_synced) => old.go_on(is_synced),
+    };
+    let trail = match opened {
+        Ok(trail) => trail,
+        Err(error) => {
+            sockets.sockets.finish();
+            return Err(ProgramFault::of_trail_file(&error));
+        }
+    };
+    let mut sockets = SavedSockets::new(rt, rt.alloc(), sockets, trail);
+    let served = work(rt, address, server, &mut sockets);
+    sockets.finish();
+    served
 }
 
 /// Listens at the address, or at the sockets of these users where it is a folder of them.
@@ -74,11 +181,11 @@ fn bind<'a, R: AllocGlobal + Files<File = File> + Net>(
 }
 
 /// Says that connections are served, and serves them in rounds.
-fn work<R: Print + Eprint + Wait + Clock>(
+fn work<R: Print + Wait, H: Host>(
     rt: &R,
     address: &str,
     server: &mut Server,
-    sockets: &mut LoggedSockets<'_, R>,
+    sockets: &mut H,
 ) -> Result<(), ProgramFault> {
     say(rt, "serving", address)?;
     for _ in rt.forever() {

@@ -2,7 +2,6 @@
 
 ghost use Rattle.std.specs.Prelude.{◌≡◌, ◌≤◌, ◌^◌, None};
 
-use crate::guidance::say;
 use crate::journal::LogOfWorkers;
 use crate::log::open_log;
 use crate::one_thread::serve_on_one_thread;
@@ -10,7 +9,7 @@ use crate::ticking::{ServerClock, start_ticker};
 use ipc_access::Users;
 use ipc_book::{Book, Shared};
 use ipc_core::Config;
-use ipc_program::{ProgramFault, Serving, Threading};
+use ipc_program::{ProgramFault, Serving, Threading, say, users_of};
 use ipc_script::ScriptFault;
 use ipc_server::{Journal, Link, Listen, OpenGate, WorkersFault, run_workers_with_journal};
 use ipc_sockets::{listen_at_file, path_of, probe_silent_peers};
@@ -143,14 +142,6 @@ fn bind<R: Net<Listener = TcpListener, Stream = TcpStream>>(
     let listener = TcpListener::bind(rt, address)?;
     probe_silent_peers(&listener)?;
     Ok(listener)
-}
-
-/// The users of a file.
-fn users_of(alloc: Global, file: &[u8]) -> Result<Users, ProgramFault> {
-    match Users::read(alloc, file) {
-        Ok(users) => Ok(users),
-        Err(fault) => Err(ScriptFault::from(fault).into()),
-    }
 }
 
 /// Says that connections are served, and serves them.

@@ -9,6 +9,7 @@ ghost use Rattle.test_links.specs.Recording.{moved_by, moves_in, told_in};
 use crate::peers::{Cut, Peers};
 use ipc_loop::{Ending, Host, Ready};
 use ipc_terms::Uid;
+use ipc_trail::Trail;
 use std::alloc::{AllocError, Global};
 use std::io;
 use std::io::ErrorKind;
@@ -211,6 +212,8 @@ impl Host for Recorder {
 
     ghost told = { λ h. Some (told_in h.told.value) };
 
+    ghost spare = { λ _. 18446744073709551615 };
+
     fn accept(&mut self, number: u64) -> io::Result<()> {
         let opened = self.open(number);
         if let Err(error) = &opened {
@@ -247,6 +250,12 @@ impl Host for Recorder {
 
     fn greeted(&mut self, number: u64, user: Uid) {
         self.peers.greet(number, user);
+    }
+
+    fn save(&mut self, _trail: &Trail, _link: Option<u64>) {}
+
+    fn spare(&self) -> u64 {
+        u64::MAX
     }
 
     fn close(&mut self, number: u64, requests: u64, ending: Ending) {

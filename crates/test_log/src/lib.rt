@@ -1,4 +1,5 @@
-//! The tests of a trail in a file: its sums, what is spelled of heads and records, and files that are cut or changed.
+//! The tests of a trail in a file: its sums, what is spelled of heads and records, files that are cut or
+//! changed, and what is written into one.
 #![tactic(auto)]
 
 #[cfg(test)]
@@ -11,3 +12,5 @@ mod file_tests;
 mod made;
 #[cfg(test)]
 mod record_tests;
+#[cfg(test)]
+mod writer_tests;

@@ -148,7 +148,7 @@ static ARGUMENTS: [(&[&str], Result<Limits, u8>); 30] = [
 fn limits_or_status(alloc: Global, words: &'static [&'static str]) -> Result<Limits, u8> {
     let limits = match task_of_words(alloc, "", words) {
         Ok(Task::Script(limits)) => limits,
-        Ok(Task::Serve(_)) => return Err(0),
+        Ok(Task::Serve(_) | Task::Replay(_)) => return Err(0),
         Err(fault) => return Err(fault.status()),
     };
     match run_script(alloc, limits, b".\n".as_slice(), Vec::new(alloc)) {

@@ -178,7 +178,7 @@ fn tells(task: &Task, told: &Told) -> bool {
             && serving.address.as_str() == "127.0.0.1:7000"
             && (serving.threading, serving.stop_after, serving.limits) == *told
             && serving.socket_mode == 0o600,
-        Task::Script(_) => false,
+        Task::Script(_) | Task::Replay(_) => false,
     }
 }
 

@@ -71,7 +71,7 @@ fn run(
 ) -> Result<(), ProgramFault> {
     match task_of_words(alloc, "", words)? {
         Task::Script(limits) => Ok(run_script(alloc, limits, input, output)?),
-        // No connection comes here.
-        Task::Serve(_) => Err(ProgramFault::Net),
+        // No connection comes here, and no trail.
+        Task::Serve(_) | Task::Replay(_) => Err(ProgramFault::Net),
     }
 }

@@ -2,6 +2,7 @@
 
 use ipc_loop::{Ending, Host, Ready};
 use ipc_terms::Uid;
+use ipc_trail::Trail;
 use std::alloc::{AllocError, Global};
 use std::io;
 use std::io::ErrorKind;
@@ -33,6 +34,8 @@ pub struct Link {
     stream: Vec<u8>,
     given: usize,
     pub taken: Vec<u8>,
+    /// How many bytes it was offered, with those that it took.
+    offered: usize,
     ending: Option<Ending>,
     reads: u64,
     writes: u64,
@@ -48,6 +51,7 @@ impl Link {
             stream: copy,
             given: 0,
             taken: Vec::new(alloc),
+            offered: 0,
             ending: None,
             reads: 0,
             writes: 0,
@@ -69,6 +73,11 @@ pub struct Memory {
     calls: u64,
     /// The link whose read or write failed.
     failed: Option<u64>,
+    /// How many records the host was told of last, and of which link's answers.
+    recorded: usize,
+    saved: Option<u64>,
+    /// A link was offered answers of which the host wasn't told before.
+    is_unsaved: bool,
     /// How many waits there were, and how many since all streams were given.
     waits: u64,
     idle_waits: u64,
@@ -96,6 +105,9 @@ impl Memory {
             manner,
             calls: 0,
             failed: None,
+            recorded: 0,
+            saved: None,
+            is_unsaved: false,
             waits: 0,
             idle_waits: 0,
         })
@@ -132,6 +144,23 @@ impl Memory {
         true
     }
 
+    /// Whether the host was told what is recorded before each link was offered more.
+    pub fn was_told_first(&self) -> bool {
+        !self.is_unsaved && self.recorded > 0
+    }
+
+    /// Notes that the link is offered so many bytes behind those that it took.
+    fn note_offer(&mut self, number: u64, count: usize) {
+        let Some(link) = self.links.get_mut(number as usize) else {
+            return;
+        };
+        let offered = link.taken.len().saturating_add(count);
+        if offered > link.offered {
+            link.offered = offered;
+            self.is_unsaved |= self.saved != Some(number);
+        }
+    }
+
     /// Counts a read or a write of this link. An `Err` where it is to fail.
     fn count(&mut self, number: u64) -> io::Result<()> {
         self.calls = self.calls.saturating_add(1);
@@ -144,6 +173,8 @@ impl Memory {
 }
 
 impl Host for Memory {
+    ghost spare = { λ _. 18446744073709551615 };
+
     fn accept(&mut self, number: u64) -> io::Result<()> {
         let wanted = APART.saturating_mul(self.accepted as u64);
         if self.accepted == self.links.len() || self.waits < wanted {
@@ -182,6 +213,7 @@ impl Host for Memory {
 
     fn write(&mut self, number: u64, bytes: &[u8]) -> io::Result<usize> {
         self.count(number)?;
+        self.note_offer(number, bytes.len());
         let manner = self.manner;
         let Some(link) = self.links.get_mut(number as usize) else {
             return Err(io::Error::from(ErrorKind::NotFound));
@@ -197,6 +229,16 @@ impl Host for Memory {
     }
 
     fn greeted(&mut self, _number: u64, _user: Uid) {}
+
+    fn save(&mut self, trail: &Trail, link: Option<u64>) {
+        self.is_unsaved |= trail.len() < self.recorded;
+        self.recorded = trail.len();
+        self.saved = link;
+    }
+
+    fn spare(&self) -> u64 {
+        u64::MAX
+    }
 
     fn close(&mut self, number: u64, _requests: u64, ending: Ending) {
         if let Some(link) = self.links.get_mut(number as usize) {

@@ -84,6 +84,9 @@ fn differs(
     if !in_time? {
         return Ok(Some(String::from_str(alloc, "goes on")?));
     }
+    if !host.was_told_first() {
+        return Ok(Some(String::from_str(alloc, "answers before it saves")?));
+    }
     match difference(alloc, host.links.first(), wanted)? {
         Some(difference) => Ok(Some(difference)),
         None => difference(alloc, host.links.get(1), theirs),

@@ -10,6 +10,8 @@ returns c =
     ∙ ap (on_top (λ s. record s { has_version = true })) c.new.ensures.app in
     let with_script = c.in_ok-subcommand.ensures.shape c.in_ok-script.ensures.1
     ∙ ap₂ with_subcommand bare (ap (λ (a : App). a.top) c.in_ok-script.ensures.0) in
-    IfOk-weaker c.subcommand-2.result _ _
-    (λ command added. added.shape c.in_ok-serve.ensures.1 ∙ ap₂ with_subcommand with_script (ap (λ (a : App). a.top) c.in_ok-serve.ensures.0))
-    c.subcommand-2.ensures
+    let with_serve = c.in_ok-subcommand-2.ensures.shape c.in_ok-serve.ensures.1
+    ∙ ap₂ with_subcommand with_script (ap (λ (a : App). a.top) c.in_ok-serve.ensures.0) in
+    IfOk-weaker c.subcommand-3.result _ _
+    (λ command added. added.shape c.in_ok-replay.ensures.1 ∙ ap₂ with_subcommand with_serve (ap (λ (a : App). a.top) c.in_ok-replay.ensures.0))
+    c.subcommand-3.ensures

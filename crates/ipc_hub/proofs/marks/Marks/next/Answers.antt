@@ -30,4 +30,4 @@ returns-clause-some c =
     let xs = c.self.inside.is_marked.items in
     let listed = subst (λ (js : List ℕ). AreListed xs js) c.in_ok-connection.ensures.items c.self.invariant.listed in
     let on = was_listed xs c.pop.new.self.items c.in_ok-connection.connection listed in
-    subst (λ (m : MarksView). (is_set m.marked c.in_ok-connection.connection ≡ true) × (◌≡◌ {A = MarksView} (record { owners = c.self.inside.owners.items; marked = set xs c.in_ok-connection.connection false; room = vec_capacity c.self.inside.owners - vec_len c.self.inside.owners }) (record { owners = m.owners; marked = set m.marked c.in_ok-connection.connection false; room = m.room }))) c.self.view_is (on, refl)
+    subst (λ (m : MarksView). (is_set m.marked c.in_ok-connection.connection ≡ true) × (◌≡◌ {A = MarksView} (record { owners = record { before = c.self.inside.before; list = c.self.inside.owners.items }; marked = set xs c.in_ok-connection.connection false; room = vec_capacity c.self.inside.owners - vec_len c.self.inside.owners }) (record { owners = m.owners; marked = set m.marked c.in_ok-connection.connection false; room = m.room }))) c.self.view_is (on, refl)

@@ -25,13 +25,13 @@ returns-clause-serves g c =
     port_both _ _ _ _ _ _ _ _ _ _ (port_so _ _ _ _ _ _ _ _ _ refl c.lend.ensures (writes_serve _ _ _ _ _ _ c.flush.ensures.writes))
     (port_both _ _ _ _ _ _ _ _ _ _ (c.take.ensures.serves (g.H.Host.moves c.flush.new.host))
     (port_both _ _ _ _ _ _ _ _ _ _ (port_so _ _ _ _ _ _ _ _ _ c.greet.ensures.moved c.greet.ensures.same c.go_on.ensures.serves)
-    (port_so _ _ _ _ _ _ _ _ _ refl c.give_back.ensures (writes_serve _ _ _ _ _ _ c.flush-2.ensures.writes))))
+    (port_so _ _ _ _ _ _ _ _ _ refl c.give_back.ensures (writes_serve _ _ _ _ _ _ c.flush_saved.ensures.writes))))
 
 pub returns-clause-marks : goal.returns-clause-marks
 returns-clause-marks g c =
     let steps = steps_both c.args.number c.args.hub.now c.take.new.hub c.go_on.new.hub c.take.new.self c.go_on.new.self (collects_steps c.args.number c.args.hub.now c.take.new.hub c.take.new.self c.take.ensures.collects) c.go_on.ensures.collects in
     let greeted = subst (λ (p : Port). HasAll c.args.number c.go_on.new.hub p) (sym c.greet.ensures.same) steps.all in
-    let written = subst (λ (p : Port). HasAll c.args.number c.go_on.new.hub p) (sym c.give_back.ensures) (wrote_all c.args.number c.go_on.new.hub _ _ c.greet.new.self c.flush-2.new.self c.flush-2.ensures.writes greeted) in
+    let written = subst (λ (p : Port). HasAll c.args.number c.go_on.new.hub p) (sym c.give_back.ensures) (wrote_all c.args.number c.go_on.new.hub _ _ c.greet.new.self c.flush_saved.new.self c.flush_saved.ensures.writes greeted) in
     steps_keep c.args.number c.args.hub.now c.go_on.new.hub c.args.self.now c.give_back.new.self (record { all = written; others = steps.others })
 
 pub returns-then-not-is_written-clause-turn : goal.returns-then-not-is_written-clause-turn
@@ -40,9 +40,9 @@ returns-then-not-is_written-clause-turn g c = flush_turn _ _ _ _ _ c.flush.ensur
 pub returns-clause-turn : goal.returns-clause-turn
 returns-clause-turn g c =
     let greeted = port_so _ _ _ _ _ _ _ _ _ c.greet.ensures.moved c.greet.ensures.same c.go_on.ensures.serves in
-    let written = writes_serve c.args.number c.go_on.new.hub _ _ _ _ c.flush-2.ensures.writes in
-    subst (λ (p : Port). TakesTurn c.args.number (g.H.Host.moves c.args.host.now) (g.H.Host.moves c.flush-2.new.host) c.args.self.now p) (sym c.give_back.ensures)
-    (whole_turn c.args.number _ _ (g.H.Host.moves c.greet.new.host) _ c.args.self.now c.flush.new.self c.take.new.self c.greet.new.self c.flush-2.new.self c.flush.ensures.all (sym c.if-not-is_written.ensures) c.flush.ensures.writable
+    let written = writes_serve c.args.number c.go_on.new.hub _ _ _ _ c.flush_saved.ensures.writes in
+    subst (λ (p : Port). TakesTurn c.args.number (g.H.Host.moves c.args.host.now) (g.H.Host.moves c.flush_saved.new.host) c.args.self.now p) (sym c.give_back.ensures)
+    (whole_turn c.args.number _ _ (g.H.Host.moves c.greet.new.host) _ c.args.self.now c.flush.new.self c.take.new.self c.greet.new.self c.flush_saved.new.self c.flush.ensures.all (sym c.if-not-is_written.ensures) c.flush.ensures.writable
     (subst (λ (p : Port). KeepsAllButLeft p c.take.new.self) c.lend.ensures c.take.ensures.kept)
     (c.take.ensures.may_write ∙ ap (λ (p : Port). p.may_write) c.lend.ensures)
     (subst (λ (w : Option (List Moved)). Reads c.args.number (g.H.Host.moves c.flush.new.host) w c.take.new.self) (sym c.greet.ensures.moved) c.go_on.ensures.asks)
@@ -50,7 +50,7 @@ returns-clause-turn g c =
     (port_cuts _ _ _ _ _ _ _ greeted)
     (λ over. port_stops _ _ _ _ _ _ _ written (port_stops _ _ _ _ _ _ _ greeted over))
     (ap (λ (p : Port). p.may_write) c.greet.ensures.same ∙ c.go_on.ensures.may_write)
-    c.flush-2.ensures.all)
+    c.flush_saved.ensures.all)
 
 pub returns-then-not-is_written-clause-undone : goal.returns-then-not-is_written-clause-undone
 returns-then-not-is_written-clause-undone g c = same_undone c.args.number c.args.hub.now

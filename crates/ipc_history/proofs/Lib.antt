@@ -1,0 +1,7 @@
+mod GrowLemmas
+mod StreamLemmas
+mod CountLemmas
+mod PastLemmas
+mod ReplayLemmas
+mod BoundLemmas
+mod UserLemmas

@@ -1,0 +1,24 @@
+use Rattle.std.proofs.lemmas.Result.{err_from_is_err_and}
+use Rattle.ipc_history.specs.Incoming.{incoming}
+use Rattle.ipc_history.proofs.ReplayLemmas.{no_first, file_ends, file_read}
+use Rattle.ipc_history.proofs.replaying.replay.Goals as goal
+
+pub returns-in_err-past-clause-fault : goal.returns-in_err-past-clause-fault
+returns-in_err-past-clause-fault g c =
+    let given = err_from_is_err_and c.from_residual-in_err-past.result c.from_residual-in_err-past.ensures.1 in
+    rw (given.1, given.2) (no_first c.args.users c.in_ok-head.head c.in_err-past.field-0.0
+    (incoming g.R.Read.remaining c.args.reader.now) (incoming g.R.Read.remaining c.next_head.new.self)
+    c.in_err-past.ensures.fault c.in_ok-head.ensures.head)
+
+pub returns-in_err-read_records-clause-fault : goal.returns-in_err-read_records-clause-fault
+returns-in_err-read_records-clause-fault g c =
+    let given = err_from_is_err_and c.from_residual-in_err-read_records.result c.from_residual-in_err-read_records.ensures.1 in
+    rw (given.1, given.2) (file_ends c.args.users c.in_ok-head.head c.in_ok-past.past c.read_records.new.self c.in_err-read_records.field-0.0
+    (incoming g.R.Read.remaining c.args.reader.now) (incoming g.R.Read.remaining c.next_head.new.self) (incoming g.R.Read.remaining c.read_records.new.reader)
+    c.in_ok-past.ensures.ok c.in_ok-head.ensures.head c.in_err-read_records.ensures.reads)
+
+pub returns-clause-ok : goal.returns-clause-ok
+returns-clause-ok g c =
+    file_read c.args.users c.in_ok-head.head c.in_ok-past.past c.read_records.new.self _
+    (incoming g.R.Read.remaining c.args.reader.now) (incoming g.R.Read.remaining c.next_head.new.self) (incoming g.R.Read.remaining c.read_records.new.reader)
+    c.in_ok-past.ensures.ok c.in_ok-past.ensures.first c.in_ok-head.ensures.head c.in_ok-read_records.ensures.reads

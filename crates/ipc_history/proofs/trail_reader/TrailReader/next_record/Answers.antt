@@ -1,0 +1,13 @@
+use Rattle.std.proofs.Common.{rules}
+use Rattle.std.proofs.lemmas.Result.{err_from_is_err_and}
+use Rattle.ipc_history.specs.Incoming.{incoming}
+use Rattle.ipc_history.specs.Files.{IsNoRecord}
+use Rattle.ipc_history.proofs.PastLemmas.{reader_no_record}
+use Rattle.ipc_history.proofs.StreamLemmas.{failed}
+use Rattle.ipc_history.proofs.trail_reader.TrailReader.next_record.Goals as goal
+
+pub returns-in_err-read_more-clause-fault : goal.returns-in_err-read_more-clause-fault
+returns-in_err-read_more-clause-fault g c =
+    let given = err_from_is_err_and c.from_residual-in_err-read_more.result c.from_residual-in_err-read_more.ensures.1 in
+    rw (given.1, given.2) (failed (IsNoRecord c.args.place c.in_err-read_more.field-0.0) (incoming g.R.Read.remaining c.args.self.now) (incoming g.R.Read.remaining c.take_record.new.self) (incoming g.R.Read.remaining c.read_more.new.self)
+    (reader_no_record c.args.place c.in_err-read_more.field-0.0 c.in_err-read_more.ensures.fault) (search rules) c.in_err-read_more.ensures.lost)

@@ -1,0 +1,6 @@
+use Rattle.std.proofs.Common.{◌≡◌, map, string_bytes, take}
+use Rattle.ipc_program.proofs.trails.copied.Given as goal
+
+-- the words so far
+abbrev pub invariant-loop-word : goal.invariant-loop-word
+invariant-loop-word l = map string_bytes l.copies.items ≡ map (λ word. word.now) (take l.word-index l.words)

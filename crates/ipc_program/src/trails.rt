@@ -1,0 +1,116 @@
+//! What the arguments say of trails in files.
+
+ghost use Rattle.std.specs.Prelude.{◌≡◌, IfErr, IfOk, Ok, codes, map, option_map, string_bytes};
+ghost use Rattle.clap.specs.Walk.{all_of, rows_of};
+ghost use Rattle.clap.specs.Words.{found_of};
+ghost use Rattle.ipc_words.specs.Readings.{IsFaultOf, Reads};
+ghost use Rattle.ipc_program.specs.Tasks.{audit_given, is_one_thread, places_given, replaying_given, trail_given, words_at};
+
+use crate::arguments::{is_flag_given, is_option_given};
+use crate::tasks::{Places, Replaying, Threading, TrailFile};
+use clap::ArgMatches;
+use ipc_words::{WordFault, optional_number, optional_word};
+use std::alloc::{AllocError, Global};
+
+/// Where a server on these threads writes its trail to, if it writes one. Workers write none.
+pub fn trail_of(
+    alloc: Global,
+    options: &ArgMatches,
+    threading: Threading,
+) -> Result<Option<TrailFile>, WordFault>
+    ensures { Reads (trail_given threading (rows_of (found_of options.now))) result }
+{
+    let is_synced = is_flag_given(options, "trail-sync");
+    let Some(path) = optional_word(options, "trail-file") else {
+        if is_synced {
+            return Err(WordFault::BadValue("trail-sync"));
+        }
+        return Ok(None);
+    };
+    if !is_one_thread(threading) {
+        return Err(WordFault::BadValue("trail-file"));
+    }
+    Ok(Some(TrailFile {
+        path: String::from_str(alloc, path)?,
+        is_synced,
+    }))
+}
+
+fn is_one_thread(threading: Threading) -> bool
+    ensures { result ≡ is_one_thread threading }
+{
+    match threading {
+        Threading::OneThread(..) => true,
+        Threading::Workers(_) => false,
+    }
+}
+
+/// Which trail is replayed.
+pub fn replaying_of(alloc: Global, options: &ArgMatches) -> Result<Replaying, WordFault>
+    ensures { Reads (replaying_given (rows_of (found_of options.now))) result }
+{
+    let Some(users) = optional_word(options, "users") else {
+        return Err(WordFault::BadValue("users"));
+    };
+    let audit = audit_of(options)?;
+    let files = files_of(alloc, options)?;
+    Ok(Replaying {
+        users: String::from_str(alloc, users)?,
+        files,
+        audit,
+    })
+}
+
+/// The paths of a trail's files.
+fn files_of(alloc: Global, options: &ArgMatches) -> Result<Vec<String>, WordFault>
+    ensures ok { IfOk result (λ files. words_at (codes "files") (rows_of (found_of options.now)) ≡ Ok (map string_bytes files.items)) }
+    ensures fault { IfErr result (IsFaultOf (words_at (codes "files") (rows_of (found_of options.now)))) }
+{
+    match words_of(options, "files") {
+        Some(words) => Ok(copied(alloc, words)?),
+        None => Err(WordFault::BadValue("files")),
+    }
+}
+
+/// The words of an argument, which may have more than one.
+fn words_of<'m, 'a>(options: &'m ArgMatches<'a>, argument: &str) -> Option<&'m [&'a str]>
+    ensures { option_map (λ words. map (λ word. word.now) words.now) result ≡ all_of argument.now (rows_of (found_of options.now)) }
+{
+    options.get_raw(argument)
+}
+
+fn copied(alloc: Global, words: &[&str]) -> Result<Vec<String>, AllocError>
+    ensures { IfOk result (λ copies. map string_bytes copies.items ≡ map (λ word. word.now) words.now) }
+{
+    let mut copies = Vec::with_capacity(alloc, words.len())?;
+    for word in words {
+        copies.push(String::from_str(alloc, word)?)?;
+    }
+    Ok(copies)
+}
+
+/// Of which records a line is printed, if of any. Their places are told with `--audit` alone.
+fn audit_of(options: &ArgMatches) -> Result<Option<Places>, WordFault>
+    ensures { Reads (audit_given (rows_of (found_of options.now))) result }
+{
+    if is_flag_given(options, "audit") {
+        return Ok(Some(places_of(options)?));
+    }
+    if is_option_given(options, "from") {
+        return Err(WordFault::BadValue("from"));
+    }
+    if is_option_given(options, "to") {
+        return Err(WordFault::BadValue("to"));
+    }
+    Ok(None)
+}
+
+/// From which place to which, and where they aren't told all.
+fn places_of(options: &ArgMatches) -> Result<Places, WordFault>
+    ensures { Reads (places_given (rows_of (found_of options.now))) result }
+{
+    Ok(Places {
+        first: optional_number(options, "from")?.unwrap_or(0),
+        last: optional_number(options, "to")?.unwrap_or(u64::MAX),
+    })
+}

@@ -1,0 +1,2 @@
+pub mod HangingUp
+pub mod Replaying

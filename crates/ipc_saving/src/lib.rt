@@ -1,0 +1,10 @@
+//! A server's trail in a file: made, gone on with, and stepped again.
+#![tactic(auto)]
+
+mod open_trail;
+mod replaying;
+mod resuming;
+
+pub use open_trail::OpenTrail;
+pub use replaying::replay_trail;
+pub use resuming::{OldTrail, open_old, replay_old};

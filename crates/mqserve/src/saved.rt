@@ -1,0 +1,197 @@
+//! Sockets of a server whose trail goes into a file.
+
+use crate::logged::LoggedSockets;
+use ipc_loop::{Ending, Host, Ready};
+use ipc_saving::OpenTrail;
+use ipc_terms::Uid;
+use ipc_trail::Trail;
+use std::alloc::Global;
+use std::io;
+use std::io::ErrorKind;
+use std::rt::Files;
+use std::sync::Wait;
+use std::time::{Clock, Duration};
+
+/// So many bytes are spelled ahead of what the file takes, and no record more.
+const MOST_AHEAD: usize = 1_048_576;
+
+/// How many milliseconds a wait takes at most while the file lacks records.
+const LONGEST_WAIT: u64 = 100;
+
+/// Sockets of a server whose trail goes into a file. A link takes no bytes before the file has the records that they answer.
+#[derive(Drop)]
+pub struct SavedSockets<'a, R> {
+    rt: &'a R,
+    sockets: LoggedSockets<'a, R>,
+    trail: OpenTrail,
+    /// How many records there are, and how many there were at the last wait.
+    made: u64,
+    made_before: u64,
+    /// How many records the file has.
+    saved: u64,
+    /// The link that is offered what it was answered since the last wait.
+    next: Option<u64>,
+    /// Links that took no bytes since the file lacked records, and aren't told of yet.
+    refused: Vec<u64>,
+    /// The last write or sync failed, and standard error was told.
+    has_failed: bool,
+}
+
+impl<'a, R> SavedSockets<'a, R> {
+    pub fn new(
+        rt: &'a R,
+        alloc: Global,
+        sockets: LoggedSockets<'a, R>,
+        trail: OpenTrail,
+    ) -> SavedSockets<'a, R> {
+        let saved = trail.writer.spelled();
+        SavedSockets {
+            rt,
+            sockets,
+            trail,
+            made: saved,
+            made_before: saved,
+            saved,
+            next: None,
+            refused: Vec::new(alloc),
+            has_failed: false,
+        }
+    }
+
+    /// Notes that the link took nothing. Where there is no memory for that it is offered the bytes again at once, as if a signal had
+    /// come.
+    fn refuse(&mut self, number: u64) -> io::Error {
+        match self.refused.push(number) {
+            Ok(()) => io::Error::from(ErrorKind::WouldBlock),
+            Err(_) => io::Error::from(ErrorKind::Interrupted),
+        }
+    }
+
+    /// Whether the file has the records of what links are offered again.
+    fn has_caught_up(&self) -> bool {
+        self.made_before <= self.saved
+    }
+
+    /// The longest wait now.
+    fn shorten(&self, pause: Option<Duration>) -> Option<Duration> {
+        let longest = if self.saved < self.made {
+            Duration::from_millis(LONGEST_WAIT)
+        } else if self.refused.is_empty() {
+            return pause;
+        } else {
+            Duration::ZERO
+        };
+        match pause {
+            Some(pause) if pause < longest => Some(pause),
+            _ => Some(longest),
+        }
+    }
+}
+
+impl<R: Eprint> SavedSockets<'_, R> {
+    /// Puts what is spelled into the file. Where it can't, standard error is told once, and the next call goes on.
+    fn put(&mut self) {
+        if self.saved == self.trail.writer.spelled() && self.trail.writer.is_empty() {
+            return;
+        }
+        match self.trail.put() {
+            Ok(()) => {
+                self.saved = self.trail.writer.spelled();
+                self.has_failed = false;
+            }
+            Err(error) if error.kind() == ErrorKind::Interrupted => {}
+            Err(_) => self.tell_fault(),
+        }
+    }
+
+    /// Says that the file can't be written. A standard error that can't be written to is passed over.
+    fn tell_fault(&mut self) {
+        if !self.has_failed {
+            let _ = eprintln!(self.rt; "mqserve: trail");
+        }
+        self.has_failed = true;
+    }
+}
+
+impl<R: Files + Eprint + Clock> SavedSockets<'_, R> {
+    /// Puts what is left into the file, and ends the sockets.
+    pub fn finish(&mut self) {
+        self.put();
+        self.sockets.sockets.finish();
+    }
+}
+
+impl<R: Print + Eprint + Wait + Clock> Host for SavedSockets<'_, R> {
+    ghost spare = { λ h. h.saved };
+
+    fn accept(&mut self, number: u64) -> io::Result<()> {
+        self.sockets.accept(number)
+    }
+
+    fn read(&mut self, number: u64, buffer: &mut [u8]) -> io::Result<usize> {
+        self.sockets.read(number, buffer)
+    }
+
+    fn write(&mut self, number: u64, bytes: &[u8]) -> io::Result<usize> {
+        let is_new = self.next == Some(number);
+        let wanted = if is_new { self.made } else { self.made_before };
+        if self.saved < wanted {
+            return Err(self.refuse(number));
+        }
+        self.sockets.write(number, bytes)
+    }
+
+    fn greeted(&mut self, number: u64, user: Uid) {
+        self.sockets.greeted(number, user);
+    }
+
+    fn save(&mut self, trail: &Trail, link: Option<u64>) {
+        self.made = trail.len() as u64;
+        self.next = link;
+        let writer = &mut self.trail.writer;
+        if writer.len() < MOST_AHEAD && trail.first() <= writer.spelled() {
+            // What there is no memory for is spelled by the next call.
+            let _ = writer.spell(trail);
+        }
+        if !self.trail.is_synced {
+            self.put();
+        }
+    }
+
+    fn spare(&self) -> u64 {
+        self.saved
+    }
+
+    fn close(&mut self, number: u64, requests: u64, ending: Ending) {
+        self.sockets.close(number, requests, ending);
+    }
+
+    fn wait(&mut self, pause: Option<Duration>) -> io::Result<()> {
+        self.put();
+        if self.trail.is_lost {
+            return Err(io::Error::from(ErrorKind::Other));
+        }
+        self.made_before = self.made;
+        self.next = None;
+        let pause = self.shorten(pause);
+        self.sockets.wait(pause)
+    }
+
+    fn next_ready(&mut self) -> Option<Ready> {
+        if self.has_caught_up() {
+            if let Some(number) = self.refused.pop() {
+                return Some(Ready::Link {
+                    number,
+                    is_readable: false,
+                    is_writable: true,
+                    has_ended: false,
+                });
+            }
+        }
+        self.sockets.next_ready()
+    }
+
+    fn moment(&mut self) -> u64 {
+        self.sockets.moment()
+    }
+}
