@@ -19,11 +19,21 @@ pub struct User {
 }
 
 /// All users, in the order of the user file; seen as their list. None is looked for by a walk.
-#[derive(Drop)]
 pub struct Users {
     rows: Vec<User>,
     keys: Texts,
     ids: UserIds,
+}
+
+// Called, so that it isn't written out and proved at each exit of a function.
+impl Drop for Users {
+    fn drop(self) {
+        let Users {
+            rows: _rows,
+            keys: _keys,
+            ids: _ids,
+        } = self;
+    }
 }
 
 impl Model for Users {

@@ -28,13 +28,24 @@ use std::sync::ledger::{Blank, Ledger, Share};
 /// A core, and the total of a ledger, which is the length of its trail. Each seat has a share of the
 /// ledger, one for each of its receipts: so an event enters a seat only where its own book's trail
 /// grows by one. The ledger is a type parameter, and no seat of another book fits.
-#[derive(Drop)]
 pub struct Book<L: Ledger> {
     core: Core,
     total: ledger::Book<L>,
     home: Share<L>,
     // One byte a seat, so that memory bounds their number.
     places: Vec<u8>,
+}
+
+// Called, so that it isn't written out and proved at each exit of a function.
+impl<L: Ledger> Drop for Book<L> {
+    fn drop(self) {
+        let Book {
+            core: _core,
+            total: _total,
+            home: _home,
+            places: _places,
+        } = self;
+    }
 }
 
 impl<L: Ledger> Model for Book<L> {

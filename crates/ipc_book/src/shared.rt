@@ -26,10 +26,19 @@ use std::thread::yield_now;
 /// says that there are a configuration and a legal history, of which it holds. Nothing says that a lock
 /// is got. Beside the book stand the bells of those who wait for answers, by their sessions' numbers: a
 /// step that answers another session rings its bell, once the book is let go.
-#[derive(Drop)]
 pub struct Shared<L: Ledger> {
     book: Mutex<Book<L>>,
     bells: Mutex<Bells>,
+}
+
+// Called, so that it isn't written out and proved at each exit of a function.
+impl<L: Ledger> Drop for Shared<L> {
+    fn drop(self) {
+        let Shared {
+            book: _book,
+            bells: _bells,
+        } = self;
+    }
 }
 
 impl<L: Ledger> Shared<L> {

@@ -29,10 +29,19 @@ use std::marker::Model;
 
 /// Decides on events by what came before, does what is accepted, and keeps the record of all, and
 /// of each session the answers that were not taken yet.
-#[derive(Drop)]
 pub struct Core {
     state: State,
     outboxes: Outboxes,
+}
+
+// Called, so that it isn't written out and proved at each exit of a function.
+impl Drop for Core {
+    fn drop(self) {
+        let Core {
+            state: _state,
+            outboxes: _outboxes,
+        } = self;
+    }
 }
 
 impl Model for Core {

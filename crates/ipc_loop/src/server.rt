@@ -32,7 +32,6 @@ use std::time::Duration;
 const PIECE: usize = 65_536;
 
 /// Serves the connections of a host, in turns, over one hub.
-#[derive(Drop)]
 pub struct Server {
     hub: Hub,
     ports: Ports,
@@ -44,6 +43,22 @@ pub struct Server {
     keeping: Keeping,
     /// How many events the last round recorded.
     made: usize,
+}
+
+// Called, so that it isn't written out and proved at each exit of a function.
+impl Drop for Server {
+    fn drop(self) {
+        let Server {
+            hub: _hub,
+            ports: _ports,
+            accepting: _accepting,
+            desk: _desk,
+            deadline: _deadline,
+            shortage: _shortage,
+            keeping: _keeping,
+            made: _made,
+        } = self;
+    }
 }
 
 impl Model for Server {

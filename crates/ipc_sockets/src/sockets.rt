@@ -32,7 +32,6 @@ use std::time::{Clock, Duration};
 const MOST_EVENTS: usize = 1_024;
 
 /// Listeners, the connections that they accepted, and the system's clock. What a socket carried isn't known to contracts.
-#[derive(Drop)]
 pub struct Sockets<'a, R> {
     rt: &'a R,
     poll: Poll,
@@ -47,6 +46,22 @@ pub struct Sockets<'a, R> {
     /// What is ready and isn't told yet, the last first: what the last wait found, and links that were accepted since and have a
     /// greeting to be read.
     ready: Vec<Ready>,
+}
+
+// Called, so that it isn't written out and proved at each exit of a function.
+impl<R> Drop for Sockets<'_, R> {
+    fn drop(self) {
+        let Sockets {
+            rt: _rt,
+            poll: _poll,
+            listeners: _listeners,
+            files: _files,
+            links: _links,
+            lingering: _lingering,
+            events: _events,
+            ready: _ready,
+        } = self;
+    }
 }
 
 impl<'a, R: Files<File = File> + Net> Sockets<'a, R> {
