@@ -71,7 +71,8 @@ def is_same(what, found, wanted):
 def started(programs, address, *words, prepare=None, users=USERS):
     """A server, which may serve already. `prepare` is called in its process before. It is ended if it hasn't ended by itself."""
     command = programs.command("mqserve", ["serve", str(users), address, *words])
-    with subprocess.Popen(command, stdout=subprocess.PIPE, stderr=subprocess.PIPE, preexec_fn=prepare) as server:
+    # Without a buffer: what is read ahead here, `communicate` would lose, as the last line of a server that ends at once.
+    with subprocess.Popen(command, bufsize=0, stdout=subprocess.PIPE, stderr=subprocess.PIPE, preexec_fn=prepare) as server:
         try:
             yield server
         finally:

@@ -187,6 +187,8 @@ def flood_at_one(programs, folder):
     log = folder.path.parent / "log"
     with folder.serving(programs, "--stop-after", str(FLOOD + 1), "--log", str(log)) as server, contextlib.ExitStack() as stack:
         server.send_signal(signal.SIGSTOP)
+        # It goes on for a moment: until it has stopped it may accept.
+        os.waitpid(server.pid, os.WUNTRACED)
         for _ in range(FLOOD):
             stack.enter_context(join(folder, "ann"))
         bob = stack.enter_context(join(folder, "bob"))
