@@ -15,7 +15,7 @@ CRATES = TOP / "crates"
 NAMES = ["mqserve", "mqctl"]
 
 # How long `make build` takes on four cores; docs/WORKING.md says how that was measured.
-BUILD_TAKES = "54 minutes"
+BUILD_TAKES = "38 minutes"
 NOT_PROVED = (
     "Not proved: `rt try` builds this server with checks, and it serves in a minute or two. "
     f"`make build` proves it (four cores: {BUILD_TAKES})."
