@@ -60,18 +60,18 @@ def unsummed(data, at, size):
     return text
 
 
-def records_of(path):
-    """The verdict, kind and fields of each record, and whether bytes of one more follow."""
+def records_of(path, first=0):
+    """The verdict, kind and fields of each record from the first place on, and whether bytes of one more follow."""
     data = path.read_bytes()
     head = unsummed(data, 0, HEAD - 4)
-    is_same("magic and first place", head[:16], b"MQTRAIL1" + bytes(8))
+    is_same("magic and first place", head[:16], b"MQTRAIL1" + first.to_bytes(8, "big"))
     at, records = HEAD, []
     while True:
         size = unsummed(data, at, 4)
         body = size and unsummed(data, at + 8, int.from_bytes(size, "big"))
         if body is None:
             return records, at < len(data)
-        is_same("place", int.from_bytes(body[:8], "big"), len(records))
+        is_same("place", int.from_bytes(body[:8], "big"), first + len(records))
         records.append((body[8], body[9], body[10:]))
         at += AROUND + len(body)
 
@@ -100,8 +100,8 @@ def replayed(programs, *files):
     return ended.stdout.decode().splitlines(), ended.stderr, ended.returncode
 
 
-def is_legal(programs, path):
-    lines, err, status = replayed(programs, path)
+def is_legal(programs, *paths):
+    lines, err, status = replayed(programs, *paths)
     is_same("faults and status of the replay", (err, status), (b"", 0))
     is_same("the last line of the replay", lines[-1:], ["legal"])
     return lines
@@ -113,6 +113,19 @@ class Place:
     def __init__(self, room):
         self.room = pathlib.Path(room)
         self.address, self.trail = f"unix:{room}/socket", self.room / "trail"
+
+    def files(self):
+        """The trail's files, in their order."""
+        return [self.trail, *sorted(self.room.glob(f"{self.trail.name}.*"), key=lambda path: int(path.suffix[1:]))]
+
+    def records(self):
+        """The records of all its files, of which the last alone may be torn."""
+        records, is_torn = [], False
+        for path in self.files():
+            is_same(f"whether what stands before {path.name} is torn", is_torn, False)
+            more, is_torn = records_of(path, len(records))
+            records += more
+        return records
 
 
 # ---- cases
@@ -443,9 +456,67 @@ def killed_and_gone_on(programs, place, *words):
         missing = sent - set(received) - lost
         is_same("more lost than receives were on their way", max(0, len(missing) - LOAD), 0)
         lost |= missing
-    receives = len(list(calls_of(records_of(place.trail)[0], MQ_RECEIVE)))
+    receives = len(list(calls_of(place.records(), MQ_RECEIVE)))
     is_same("receives recorded, and messages received or lost", receives - len(received) >= len(lost), True)
     is_same("whether something was answered", len(sent) > 0, True)
+    is_legal(programs, *place.files())
+
+
+SEGMENT = ["--trail-segment", "4096"]
+CALLS = 500
+
+
+def killed_in_more_files(programs, place, *words):
+    """The same, with a trail in more than one file."""
+    killed_and_gone_on(programs, place, *SEGMENT, *words)
+    is_same("whether there is more than one file", len(place.files()) > 1, True)
+
+
+def calls_many(place):
+    """So many calls that they take several files."""
+    with connect(place.address) as stream:
+        stream.sendall(frame(HELLO, b"\0\3ka1") + frame(UMASK, b"\0\0") * CALLS)
+        is_answer(stream, STARTED)
+        for _ in range(CALLS):
+            is_answer(stream, MASK)
+
+
+def in_more_files(programs, place, *words):
+    """A trail goes on in another file after so many bytes. A start finds them all, and is none where one is missing."""
+    for start in range(1, 3):
+        with recording(programs, place, "--stop-after", "1", *SEGMENT, *words) as server:
+            calls_many(place)
+            ends(server, 1)
+        is_same("how many calls", sum(kind == 2 for _, kind, _ in place.records()), start * CALLS)
+        is_legal(programs, *place.files())
+    files = place.files()
+    is_same("whether there are enough files", len(files) > 2, True)
+    is_same("whether each before the last has so many bytes", all(path.stat().st_size >= 4096 for path in files[:-1]), True)
+    for missing, other in zip(files[:2], files[1:]):
+        aside = missing.rename(place.room / "aside")
+        refuses(programs, place, b" head: begins at %d" % int(other.suffix[1:]), 6, *SEGMENT, *words)
+        aside.rename(missing)
+    other = place.room / f"trail.{len(place.records())}"
+    other.write_bytes(b"MQTRAIL1")
+    with recording(programs, place, "--stop-after", "0", *words) as server:
+        ends(server, 0)
+    is_same("whether a file without a whole head is left", other.exists(), False)
+    is_same("the files", place.files(), files)
+
+
+def no_next_file(programs, place, *words):
+    """Where no other file can be made, the one that there is goes on, and standard error is told."""
+    with recording(programs, place, "--stop-after", "1", *SEGMENT, *words) as server:
+        others = [place.room / f"trail.{number}" for number in range(1, CALLS + 3)]
+        for other in others:
+            other.touch()
+        calls_many(place)
+        out, err = server.communicate(timeout=SECONDS)
+    is_same("output and status", (out, server.returncode), (b"served 1\n", 0))
+    is_same("what standard error is told", set(err.splitlines()), {b"mqserve: next trail file"})
+    for other in others:
+        other.unlink()
+    is_same("how many calls", sum(kind == 2 for _, kind, _ in records_of(place.trail)[0]), CALLS)
     is_legal(programs, place.trail)
 
 
@@ -538,6 +609,9 @@ CASES = {
     "files that are not started from": not_started_from,
     "a second server": one_at_a_time,
     "kills, and going on": killed_and_gone_on,
+    "more than one file": in_more_files,
+    "no next file": no_next_file,
+    "kills, and going on in more files": killed_in_more_files,
 }
 
 

@@ -27,9 +27,9 @@ limit_options = value_option (codes "msg-max") ∷ value_option (codes "msgsize-
 abbrev pub thread_options : List Rule
 thread_options = flag (codes "one-thread") ∷ value_option (codes "connections") ∷ value_option (codes "keep-records") ∷ value_option (codes "keep-bytes") ∷ flag (codes "keep-all") ∷ []
 
--- `[--trail-file FILE] [--trail-sync]`
+-- `[--trail-file FILE] [--trail-sync] [--trail-segment N]`
 abbrev pub trail_options : List Rule
-trail_options = value_option (codes "trail-file") ∷ flag (codes "trail-sync") ∷ []
+trail_options = value_option (codes "trail-file") ∷ flag (codes "trail-sync") ∷ value_option (codes "trail-segment") ∷ []
 
 -- these, and `[--workers N] [--stop-after N] [--log FILE] [--socket-mode OCTAL]`
 abbrev pub server_options : List Rule

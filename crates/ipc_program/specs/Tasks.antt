@@ -115,18 +115,30 @@ abbrev pub is_one_thread : Threading → Bool
 is_one_thread (OneThread _ _) = true
 is_one_thread (Workers _) = false
 
--- a file that a trail is written to, which one thread alone does
-abbrev pub trail_at : Threading → Bool → Text → Meaning (Option TrailFile)
-trail_at threading is_synced path = if is_one_thread threading then Ok (Some (record { path = path; is_synced = is_synced })) else Err (codes "trail-file")
+-- 4,096 bytes or more, where they are told
+abbrev pub large_enough : Option ℕ → Meaning (Option ℕ)
+large_enough bytes = if option_map_or (nat_le 4096) bytes true then Ok bytes else Err (codes "trail-segment")
 
--- without such a file nothing is synced
-abbrev pub no_trail : Bool → Meaning (Option TrailFile)
-no_trail is_synced = if is_synced then Err (codes "trail-sync") else Ok None
+-- after how many bytes another file is begun, if one is
+abbrev pub segment_given : List Row → Meaning (Option ℕ)
+segment_given rows = option_at (decimal_within (2 ^ 64 - 1)) (codes "trail-segment") rows >>= large_enough
+
+-- a file that a trail is written to, which one thread alone does
+abbrev pub trail_at : Threading → List Row → Text → Meaning (Option TrailFile)
+trail_at threading rows path =
+    if is_one_thread threading
+    then (segment_given rows >>= λ segment. Ok (Some (record { path = path; is_synced = is_given (codes "trail-sync") rows; segment = segment })))
+    else Err (codes "trail-file")
+
+-- without such a file nothing is told of one
+abbrev pub no_trail : List Row → Meaning (Option TrailFile)
+no_trail rows =
+    if is_given (codes "trail-sync") rows then Err (codes "trail-sync")
+    else (if has (codes "trail-segment") rows then Err (codes "trail-segment") else Ok None)
 
 -- the file that a trail is written to, where one is given
 abbrev pub trail_given : Threading → List Row → Meaning (Option TrailFile)
-trail_given threading rows =
-    option_map_or (trail_at threading (is_given (codes "trail-sync") rows)) (first_of (codes "trail-file") rows) (no_trail (is_given (codes "trail-sync") rows))
+trail_given threading rows = option_map_or (trail_at threading rows) (first_of (codes "trail-file") rows) (no_trail rows)
 
 -- what the words of `serve` tell the server
 abbrev pub serving_given : List Row → Meaning Serving

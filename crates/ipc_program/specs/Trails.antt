@@ -2,10 +2,12 @@
 use Rattle.std.specs.Prelude.{ℕ, Bool, List, Option}
 use Rattle.ipc_program.specs.declared.tasks.Places.{Places}
 
--- the path of a file that a trail is written to, and whether what is written has to be on the disk before it is answered
+-- the path of a file that a trail is written to, whether what is written has to be on the disk before it is answered, and after how
+-- many bytes another file is begun, if one is
 pub record TrailFile : Type 0 where
   pub path : List ℕ
   pub is_synced : Bool
+  pub segment : Option ℕ
 
 -- the paths of the user file and of the trail's files, and of which records a line is printed
 pub record Replaying : Type 0 where

@@ -27,7 +27,7 @@ mqserve [script [--msg-max <N>] [--msgsize-max <N>] [--queues-max <N>]]
        mqserve serve <USERS> <ADDRESS> [--one-thread [--connections <N>] | --workers <N>]
                      [--keep-records <N>] [--keep-bytes <N>] [--keep-all]
                      [--stop-after <N>] [--log <FILE>] [--socket-mode <OCTAL>]
-                     [--trail-file <FILE> [--trail-sync]]
+                     [--trail-file <FILE> [--trail-sync] [--trail-segment <N>]]
                      [--msg-max <N>] [--msgsize-max <N>] [--queues-max <N>]
        mqserve replay <USERS> <FILE>.. [--audit [--from <N>] [--to <N>]]";
 
@@ -61,6 +61,9 @@ const TRAIL_FILE_HELP: &str =
     "With --one-thread: where records are written before they are answered [default: nowhere]";
 
 const TRAIL_SYNC_HELP: &str = "With --trail-file: records are on the disk before they are answered";
+
+const TRAIL_SEGMENT_HELP: &str =
+    "With --trail-file: bytes after which another file is begun, 4096 or more [default: never]";
 
 const FILES_HELP: &str = "The files of a trail, in their order";
 
@@ -97,7 +100,8 @@ const STANDARD_MODE: u32 = 0o600;
 
 /// The task that the program's words ask for, of which the first is its name: `mqserve` alone, `mqserve script`, or
 /// `mqserve serve USERS ADDRESS`, with `--one-thread [--connections N] [--keep-records N] [--keep-bytes N] [--keep-all]` or
-/// `[--workers N]`, and with `[--stop-after N] [--log FILE] [--socket-mode OCTAL] [--trail-file FILE [--trail-sync]]`; behind the
+/// `[--workers N]`, and with `[--stop-after N] [--log FILE] [--socket-mode OCTAL]` and
+/// `[--trail-file FILE [--trail-sync] [--trail-segment N]]`; behind the
 /// last two the limits, `[--msg-max N] [--msgsize-max N] [--queues-max N]`. Or `mqserve replay USERS FILE..`, with
 /// `[--audit [--from N] [--to N]]`. A limit that isn't given is the standard one, and none is tested against its range. `help`
 /// stands at the end of the help text.
@@ -105,10 +109,10 @@ const STANDARD_MODE: u32 = 0o600;
 /// # Errors
 ///
 /// `Arguments` where the words are anything else, an N isn't decimal without sign and leading zeros, at most
-/// 4,294,967,295, or of `--stop-after`, the two of records and places 18,446,744,073,709,551,615, that of `--workers` isn't 1 to 64,
-/// that of `--connections` is 0, that of `--keep-records` is below 1,000, or OCTAL isn't a zero and three octal digits; where
+/// 4,294,967,295, or of `--stop-after`, the two of records, `--trail-segment` and places 18,446,744,073,709,551,615, that of `--workers` isn't 1 to 64,
+/// that of `--connections` is 0, that of `--keep-records` is below 1,000, that of `--trail-segment` below 4,096, or OCTAL isn't a zero and three octal digits; where
 /// `--workers` stands beside `--one-thread`, `--connections`, what tells of records or `--trail-file` without it, `--keep-all`
-/// beside the other two, `--trail-sync` without `--trail-file`, `--socket-mode` at an address that isn't `unix:PATH`,
+/// beside the other two, `--trail-sync` or `--trail-segment` without `--trail-file`, `--socket-mode` at an address that isn't `unix:PATH`,
 /// `unix-users:DIR` without `--one-thread`, or `--from` or `--to` without `--audit`; and where they ask for help or the version.
 pub fn task_of_words<'a, S: AsStr>(
     alloc: Global,
@@ -162,6 +166,8 @@ fn what_is_wanted(fault: WordFault) -> &'static str {
             "N is decimal, without sign and leading zeros, at most 18446744073709551615",
         WordFault::BadValue("trail-file") => "it stands with --one-thread",
         WordFault::BadValue("trail-sync") => "it stands with --trail-file",
+        WordFault::BadValue("trail-segment") =>
+            "N is 4096 or more, decimal, without sign and leading zeros, and stands with --trail-file",
         WordFault::BadValue("from" | "to") =>
             "N is decimal, without sign and leading zeros, at most 18446744073709551615, and stands with --audit",
         _ => "N is decimal, without sign and leading zeros, at most 4294967295",
@@ -248,7 +254,8 @@ fn with_trail_options<'a>(alloc: Global, command: Command<'a>) -> Result<Command
 {
     let command = command
         .arg(value(alloc, "trail-file", "FILE", TRAIL_FILE_HELP))?
-        .arg(flag(alloc, "trail-sync", TRAIL_SYNC_HELP))?;
+        .arg(flag(alloc, "trail-sync", TRAIL_SYNC_HELP))?
+        .arg(value(alloc, "trail-segment", "N", TRAIL_SEGMENT_HELP))?;
     Ok(command)
 }
 

@@ -40,6 +40,8 @@ pub struct TrailFile {
     pub path: String,
     /// Whether what is written has to be on the disk before it is answered.
     pub is_synced: bool,
+    /// After how many bytes another file is begun, if one is: 4,096 or more.
+    pub segment: Option<u64>,
 }
 
 /// On what threads connections are served.
@@ -83,7 +85,7 @@ impl Model for TrailFile {
 
     ghost Value = { TrailFile };
 
-    ghost view = { λ t. record { path = string_bytes t.path; is_synced = t.is_synced } };
+    ghost view = { λ t. record { path = string_bytes t.path; is_synced = t.is_synced; segment = t.segment } };
 }
 
 impl Model for Replaying {

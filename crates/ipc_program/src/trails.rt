@@ -4,13 +4,16 @@ ghost use Rattle.std.specs.Prelude.{◌≡◌, IfErr, IfOk, Ok, codes, map, opti
 ghost use Rattle.clap.specs.Walk.{all_of, rows_of};
 ghost use Rattle.clap.specs.Words.{found_of};
 ghost use Rattle.ipc_words.specs.Readings.{IsFaultOf, Reads};
-ghost use Rattle.ipc_program.specs.Tasks.{audit_given, is_one_thread, places_given, replaying_given, trail_given, words_at};
+ghost use Rattle.ipc_program.specs.Tasks.{audit_given, is_one_thread, no_trail, places_given, replaying_given, segment_given, trail_given, words_at};
 
 use crate::arguments::{is_flag_given, is_option_given};
 use crate::tasks::{Places, Replaying, Threading, TrailFile};
 use clap::ArgMatches;
 use ipc_words::{WordFault, optional_number, optional_word};
 use std::alloc::{AllocError, Global};
+
+/// After how many bytes another file may be begun: less would be a file for a few records.
+const SMALLEST_SEGMENT: u64 = 4_096;
 
 /// Where a server on these threads writes its trail to, if it writes one. Workers write none.
 pub fn trail_of(
@@ -20,20 +23,42 @@ pub fn trail_of(
 ) -> Result<Option<TrailFile>, WordFault>
     ensures { Reads (trail_given threading (rows_of (found_of options.now))) result }
 {
-    let is_synced = is_flag_given(options, "trail-sync");
     let Some(path) = optional_word(options, "trail-file") else {
-        if is_synced {
-            return Err(WordFault::BadValue("trail-sync"));
-        }
-        return Ok(None);
+        return no_trail(options);
     };
     if !is_one_thread(threading) {
         return Err(WordFault::BadValue("trail-file"));
     }
+    let segment = segment_of(options)?;
     Ok(Some(TrailFile {
         path: String::from_str(alloc, path)?,
-        is_synced,
+        is_synced: is_flag_given(options, "trail-sync"),
+        segment,
     }))
+}
+
+/// No trail is written, so nothing may be told of its files.
+fn no_trail(options: &ArgMatches) -> Result<Option<TrailFile>, WordFault>
+    ensures { Reads (no_trail (rows_of (found_of options.now))) result }
+{
+    if is_flag_given(options, "trail-sync") {
+        return Err(WordFault::BadValue("trail-sync"));
+    }
+    if is_option_given(options, "trail-segment") {
+        return Err(WordFault::BadValue("trail-segment"));
+    }
+    Ok(None)
+}
+
+/// After how many bytes another file is begun, if one is.
+fn segment_of(options: &ArgMatches) -> Result<Option<u64>, WordFault>
+    ensures { Reads (segment_given (rows_of (found_of options.now))) result }
+{
+    let segment = optional_number(options, "trail-segment")?;
+    match segment {
+        Some(bytes) if bytes < SMALLEST_SEGMENT => Err(WordFault::BadValue("trail-segment")),
+        _ => Ok(segment),
+    }
 }
 
 fn is_one_thread(threading: Threading) -> bool

@@ -1,35 +1,76 @@
-//! A trail that is in its file already, and is gone on with.
+//! A trail that is in files already, and is gone on with.
 
-use crate::open_trail::{OpenTrail, lock};
+use crate::files::{lock, path_at, places_beside};
+use crate::open_trail::{OpenTrail, Segments};
 use ipc_access::Users;
 use ipc_core::{Config, Limits};
-use ipc_history::{HistoryFault, Past, TrailReader};
-use ipc_log::TrailWriter;
-use ipc_program::ProgramFault;
+use ipc_history::{HistoryFault, Past, TrailReader, replay_next};
+use ipc_log::{Head, TrailWriter};
+use ipc_program::{ProgramFault, TrailFile};
 use ipc_script::ScriptFault;
 use ipc_state::State;
 use std::alloc::Global;
 use std::fs::File;
-use std::io;
 use std::io::{BufReader, ErrorKind, Seek, SeekFrom};
 use std::rt::Files;
+use std::{fs, io};
 
 /// How many bytes are read at a time.
 const PIECE: usize = 65_536;
 
-/// The file of a trail that was there, locked, and nothing in it changed yet.
+/// A trail that is there.
 #[derive(Drop)]
-pub struct OldTrail {
+pub struct FoundTrail {
+    /// Its first file, locked.
+    file: File,
+    /// The places at which it goes on in other files, in rising order.
+    places: Vec<u64>,
+}
+
+/// A file of a trail, read to its end.
+#[derive(Drop)]
+struct ReadFile {
     file: File,
     /// How many bytes of it are its head and whole records.
     whole: u64,
+    /// Whether more stands behind them.
+    is_torn: bool,
+}
+
+/// A trail that was there, locked, and nothing in its files changed yet.
+#[derive(Drop)]
+pub struct OldTrail {
+    /// Its first file, where the last is another.
+    first: Option<File>,
+    last: ReadFile,
     /// The records that come behind these: the hang-ups of the sessions that were live.
     writer: TrailWriter,
 }
 
+/// The trail whose first file has this path, locked. None where there is none. A file of it without the first one is a fault, and
+/// so is a first one that another process has locked, or that is no plain file.
+pub fn find_old<R: AllocGlobal + Clone + Drop + Files<File = File>>(
+    rt: &R,
+    path: &str,
+) -> Result<Option<FoundTrail>, ProgramFault> {
+    let found = match open_old(rt, path) {
+        Ok(found) => found,
+        Err(error) => return Err(ProgramFault::of_trail_file(&error)),
+    };
+    let places = match places_beside(rt, path) {
+        Ok(places) => places,
+        Err(error) => return Err(ProgramFault::of_trail_file(&error)),
+    };
+    match (found, places.first()) {
+        (None, None) => Ok(None),
+        (None, Some(place)) => Err(HistoryFault::OtherPlace(*place).into()),
+        (Some(file), _) => Ok(Some(FoundTrail { file, places })),
+    }
+}
+
 /// Opens a file that is there, and locks it. None where nothing has this path. `WouldBlock` where another process has it
 /// locked, and `InvalidInput` where it is no plain file.
-pub fn open_old<R: Files<File = File>>(rt: &R, path: &str) -> io::Result<Option<File>> {
+fn open_old<R: Files<File = File>>(rt: &R, path: &str) -> io::Result<Option<File>> {
     let file = match File::options().read(true).write(true).open(rt, path) {
         Ok(file) => file,
         Err(error) if error.kind() == ErrorKind::NotFound => return Ok(None),
@@ -42,19 +83,18 @@ pub fn open_old<R: Files<File = File>>(rt: &R, path: &str) -> io::Result<Option<
     Ok(Some(file))
 }
 
-/// Replays the trail in the file, which must be of these users and limits, and hangs up who was live.
-pub fn replay_old(
-    alloc: Global,
-    file: File,
+/// Replays the trail, which must be of these users and limits, and hangs up who was live.
+pub fn replay_old<R: AllocGlobal + Files<File = File>>(
+    rt: &R,
+    path: &str,
+    found: FoundTrail,
     config: Config,
 ) -> Result<(State, OldTrail), ProgramFault> {
+    let alloc = rt.alloc();
+    let FoundTrail { file, places } = found;
     let Config { users, limits } = config;
-    let mut reader = match BufReader::with_capacity(alloc, PIECE, &file) {
-        Ok(reader) => TrailReader::new(alloc, reader),
-        Err(error) => return Err(ProgramFault::of_file(&error)),
-    };
-    let past = read_all(alloc, users, limits, &mut reader)?;
-    let whole = whole_length(&file, reader.rest())?;
+    let (mut past, read) = read_first(alloc, file, users, limits)?;
+    let (first, last) = read_others(rt, path, &places, &mut past, read)?;
     let mut writer = TrailWriter::behind(alloc, past.place());
     let Ok(state) = past.resume(alloc) else {
         return Err(ScriptFault::Memory.into());
@@ -63,11 +103,29 @@ pub fn replay_old(
         return Err(ScriptFault::Memory.into());
     }
     let old = OldTrail {
-        file,
-        whole,
+        first,
+        last,
         writer,
     };
     Ok((state, old))
+}
+
+/// What happened by the records of the first file.
+fn read_first(
+    alloc: Global,
+    file: File,
+    users: Users,
+    limits: Limits,
+) -> Result<(Past, ReadFile), ProgramFault> {
+    let mut reader = reader_of(alloc, &file)?;
+    let past = read_all(alloc, users, limits, &mut reader)?;
+    let (whole, is_torn) = (whole_length(&file, reader.rest())?, reader.is_torn());
+    let read = ReadFile {
+        file,
+        whole,
+        is_torn,
+    };
+    Ok((past, read))
 }
 
 /// What happened by the records of the file.
@@ -86,6 +144,84 @@ fn read_all<R: io::Read + Drop>(
     Ok(past)
 }
 
+/// Steps the records of the other files, each of which goes on where the one before it ends: the first file, where the last is
+/// another, and the last.
+fn read_others<R: AllocGlobal + Files<File = File>>(
+    rt: &R,
+    path: &str,
+    places: &[u64],
+    past: &mut Past,
+    read: ReadFile,
+) -> Result<(Option<File>, ReadFile), ProgramFault> {
+    let mut first = None;
+    let mut last = read;
+    let mut left = places.len();
+    for place in places {
+        left -= 1;
+        if *place != past.place() {
+            return Err(HistoryFault::OtherPlace(*place).into());
+        }
+        if last.is_torn {
+            return Err(ProgramFault::CutOff(*place));
+        }
+        let path = path_at(rt.alloc(), path, *place)?;
+        let Some(next) = read_next(rt, path.as_str(), past, left == 0)? else {
+            return Ok((first, last));
+        };
+        let before = std::mem::replace(&mut last, next);
+        if first.is_none() {
+            first = Some(before.file);
+        }
+    }
+    Ok((first, last))
+}
+
+/// Steps the records of a file that goes on where the past ends. The last one is removed where its head isn't whole: it was
+/// being made, and nothing stands in it.
+fn read_next<R: AllocGlobal + Files<File = File>>(
+    rt: &R,
+    path: &str,
+    past: &mut Past,
+    is_last: bool,
+) -> Result<Option<ReadFile>, ProgramFault> {
+    let alloc = rt.alloc();
+    let file = match open_old(rt, path) {
+        Ok(Some(file)) => file,
+        Ok(None) => return Err(ProgramFault::NoTrail),
+        Err(error) => return Err(ProgramFault::of_trail_file(&error)),
+    };
+    let mut reader = reader_of(alloc, &file)?;
+    match replay_next(alloc, past, &mut reader) {
+        Ok(()) => {}
+        Err(HistoryFault::NoHead) if is_last => return removed(rt, path),
+        Err(fault) => return Err(fault.into()),
+    }
+    let (whole, is_torn) = (whole_length(&file, reader.rest())?, reader.is_torn());
+    Ok(Some(ReadFile {
+        file,
+        whole,
+        is_torn,
+    }))
+}
+
+/// Removes the file; it is none.
+fn removed<R: Files>(rt: &R, path: &str) -> Result<Option<ReadFile>, ProgramFault> {
+    match fs::remove_file(rt, path) {
+        Ok(()) => Ok(None),
+        Err(error) => Err(ProgramFault::of_trail_file(&error)),
+    }
+}
+
+fn reader_of<'a>(
+    alloc: Global,
+    file: &'a File,
+) -> Result<TrailReader<BufReader<&'a File>>, ProgramFault> {
+    match BufReader::with_capacity(alloc, PIECE, file) {
+        Ok(reader) => Ok(TrailReader::new(alloc, reader)),
+        Err(error) => Err(ProgramFault::of_file(&error)),
+    }
+}
+
 /// How long the file is without so many bytes at its end, where it was read up to there.
 fn whole_length(mut file: &File, rest: usize) -> Result<u64, ProgramFault> {
     let end = match file.seek(SeekFrom::Current(0)) {
@@ -99,17 +235,23 @@ fn whole_length(mut file: &File, rest: usize) -> Result<u64, ProgramFault> {
 }
 
 impl OldTrail {
-    /// Cuts off what isn't whole, and writes the hang-ups behind the records. At an `Err` the file has whole records alone, if it
-    /// can be cut.
-    pub fn go_on(self, is_synced: bool) -> io::Result<OpenTrail> {
+    /// Cuts off what isn't whole, and writes the hang-ups behind the records of the last file. At an `Err` that has whole records alone,
+    /// if it can be cut. The head is the first file's.
+    pub fn go_on(self, alloc: Global, wanted: &TrailFile, head: &Head) -> io::Result<OpenTrail> {
         let OldTrail {
-            mut file,
-            whole,
+            first,
+            last,
             writer,
         } = self;
+        let ReadFile {
+            mut file,
+            whole,
+            is_torn: _,
+        } = last;
+        let segments = Segments::wanted(alloc, wanted, head)?;
         file.set_len(whole)?;
         file.seek(SeekFrom::Start(whole))?;
-        let mut trail = OpenTrail::new(file, writer, is_synced);
+        let mut trail = OpenTrail::new(first, file, whole, writer, segments, wanted.is_synced);
         match trail.put() {
             Ok(()) => Ok(trail),
             Err(error) => {

@@ -10,7 +10,7 @@ use ipc_hub::Hub;
 use ipc_log::Head;
 use ipc_loop::{Host, Keeping, Server};
 use ipc_program::{Kept, ProgramFault, Serving, TrailFile, say};
-use ipc_saving::{OldTrail, OpenTrail, open_old, replay_old};
+use ipc_saving::{OldTrail, OpenTrail, find_old, replay_old};
 use ipc_script::ScriptFault;
 use ipc_sockets::{Sockets, UserSocket, folder_of, sockets_of};
 use ipc_terms::NoMemory;
@@ -24,7 +24,7 @@ use std::time::Clock;
 
 /// Serves at most so many connections at a time, until as many as are asked for have ended.
 pub fn serve_on_one_thread<
-    R: AllocGlobal + Files<File = File> + Print + Eprint + Net + Wait + Clock,
+    R: AllocGlobal + Clone + Drop + Files<File = File> + Print + Eprint + Net + Wait + Clock,
 >(
     rt: &R,
     serving: &Serving,
@@ -66,15 +66,15 @@ fn owners(alloc: Global, address: &str, users: &Users) -> Result<Vec<UserSocket>
 
 /// Where the trail goes of a server that starts.
 #[derive(Drop)]
-enum Goal<'a> {
-    /// Into a file that is to be made, with this head.
-    New(&'a TrailFile, Head),
-    /// Behind the records of a file that was there, and whether these are synced.
-    Old(OldTrail, bool),
+struct Goal<'a> {
+    wanted: &'a TrailFile,
+    head: Head,
+    /// The trail that was there; else its first file is to be made.
+    old: Option<OldTrail>,
 }
 
 /// The server, and where its trail goes, if that is anywhere. Nothing is written yet.
-fn start<'a, R: AllocGlobal + Files<File = File>>(
+fn start<'a, R: AllocGlobal + Clone + Drop + Files<File = File>>(
     rt: &R,
     serving: &'a Serving,
     connections: usize,
@@ -86,19 +86,21 @@ fn start<'a, R: AllocGlobal + Files<File = File>>(
         let server = new_server(alloc, config, connections, stop_after)?;
         return Ok((server, None));
     };
-    let found = match open_old(rt, wanted.path.as_str()) {
-        Ok(found) => found,
-        Err(error) => return Err(ProgramFault::of_trail_file(&error)),
+    let head = head_of(alloc, &config)?;
+    let mut goal = Goal {
+        wanted,
+        head,
+        old: None,
     };
-    let Some(file) = found else {
-        let head = head_of(alloc, &config)?;
+    let Some(found) = find_old(rt, wanted.path.as_str())? else {
         let server = new_server(alloc, config, connections, stop_after)?;
-        return Ok((server, Some(Goal::New(wanted, head))));
+        return Ok((server, Some(goal)));
     };
-    let (state, old) = replay_old(alloc, file, config)?;
+    let (state, old) = replay_old(rt, wanted.path.as_str(), found, config)?;
+    goal.old = Some(old);
     let hub = Hub::of_core(alloc, Core::of_state(alloc, state));
     match Server::of_hub(alloc, hub, connections, stop_after) {
-        Ok(server) => Ok((server, Some(Goal::Old(old, wanted.is_synced)))),
+        Ok(server) => Ok((server, Some(goal))),
         Err(NoMemory) => Err(ScriptFault::Memory.into()),
     }
 }
@@ -150,9 +152,10 @@ fn serve_and_save<R: AllocGlobal + Files<File = File> + Print + Eprint + Wait + 
     mut sockets: LoggedSockets<'_, R>,
     trail: Goal<'_>,
 ) -> Result<(), ProgramFault> {
-    let opened = match trail {
-        Goal::New(file, head) => OpenTrail::create(rt, rt.alloc(), file, &head),
-        Goal::Old(old, is_synced) => old.go_on(is_synced),
+    let Goal { wanted, head, old } = trail;
+    let opened = match old {
+        Some(old) => old.go_on(rt.alloc(), wanted, &head),
+        None => OpenTrail::create(rt, wanted, &head),
     };
     let trail = match opened {
         Ok(trail) => trail,

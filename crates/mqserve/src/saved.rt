@@ -6,6 +6,7 @@ use ipc_saving::OpenTrail;
 use ipc_terms::Uid;
 use ipc_trail::Trail;
 use std::alloc::Global;
+use std::fs::File;
 use std::io;
 use std::io::ErrorKind;
 use std::rt::Files;
@@ -88,8 +89,9 @@ impl<'a, R> SavedSockets<'a, R> {
     }
 }
 
-impl<R: Eprint> SavedSockets<'_, R> {
-    /// Puts what is spelled into the file. Where it can't, standard error is told once, and the next call goes on.
+impl<R: AllocGlobal + Files<File = File> + Eprint> SavedSockets<'_, R> {
+    /// Puts what is spelled into the file, and begins another one where that is due. Where it can't, standard error is told once, and the
+    /// next call goes on.
     fn put(&mut self) {
         if self.saved == self.trail.writer.spelled() && self.trail.writer.is_empty() {
             return;
@@ -98,9 +100,17 @@ impl<R: Eprint> SavedSockets<'_, R> {
             Ok(()) => {
                 self.saved = self.trail.writer.spelled();
                 self.has_failed = false;
+                self.turn();
             }
             Err(error) if error.kind() == ErrorKind::Interrupted => {}
             Err(_) => self.tell_fault(),
+        }
+    }
+
+    /// Begins another file, where that is due. Where none can be made standard error is told, and the one that there is goes on.
+    fn turn(&mut self) {
+        if self.trail.turn(self.rt).is_err() {
+            let _ = eprintln!(self.rt; "mqserve: next trail file");
         }
     }
 
@@ -113,7 +123,7 @@ impl<R: Eprint> SavedSockets<'_, R> {
     }
 }
 
-impl<R: Files + Eprint + Clock> SavedSockets<'_, R> {
+impl<R: AllocGlobal + Files<File = File> + Eprint + Clock> SavedSockets<'_, R> {
     /// Puts what is left into the file, and ends the sockets.
     pub fn finish(&mut self) {
         self.put();
@@ -121,7 +131,8 @@ impl<R: Files + Eprint + Clock> SavedSockets<'_, R> {
     }
 }
 
-impl<R: Print + Eprint + Wait + Clock> Host for SavedSockets<'_, R> {
+impl<R: AllocGlobal + Files<File = File> + Print + Eprint + Wait + Clock> Host
+    for SavedSockets<'_, R> {
     ghost spare = { λ h. h.saved };
 
     fn accept(&mut self, number: u64) -> io::Result<()> {

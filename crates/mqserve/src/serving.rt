@@ -27,6 +27,8 @@ use std::{fs, io, thread};
 /// Serves as many connections as are asked for, or until none can be accepted any more, and says how many were served.
 pub fn serve<
     R: AllocGlobal
+        + Clone
+        + Drop
         + Files<File = File>
         + Print
         + Eprint

@@ -10,7 +10,9 @@ pub returns : goal.returns
 returns c =
     let first : app_of c.in_ok-arg.field-0 ≡ with_rule (app_of c.args.command) (value_option (codes "trail-file")) =
     c.in_ok-arg.ensures.shape c.value.ensures.local ∙ ap (with_rule (app_of c.args.command)) c.value.ensures.rule in (
-      c.in_ok-command.ensures.shape c.flag.ensures.local ∙ ap₂ with_rule first c.flag.ensures.rule,
+      c.in_ok-command.ensures.shape c.value-2.ensures.local
+          ∙ ap₂ with_rule (c.in_ok-arg-2.ensures.shape c.flag.ensures.local ∙ ap₂ with_rule first c.flag.ensures.rule) c.value-2.ensures.rule,
       λ none. c.in_ok-command.ensures.globals
-          ∙ ap₂ either (c.in_ok-arg.ensures.globals ∙ ap₂ either none c.value.ensures.local) c.flag.ensures.local,
+          ∙ ap₂ either (c.in_ok-arg-2.ensures.globals
+          ∙ ap₂ either (c.in_ok-arg.ensures.globals ∙ ap₂ either none c.value.ensures.local) c.flag.ensures.local) c.value-2.ensures.local,
     )

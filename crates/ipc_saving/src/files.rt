@@ -1,0 +1,67 @@
+//! The files of a trail: its first one, and one for each place at which it goes on in another, whose path is that of the first, a point
+//! and the place.
+
+use ipc_words::read_decimal;
+use std::alloc::{AllocError, Global};
+use std::fs::{File, TryLockError};
+use std::io::ErrorKind;
+use std::rt::Files;
+use std::{fs, io};
+
+/// The path of the file in which the trail of this path goes on at the place.
+pub fn path_at(alloc: Global, path: &str, place: u64) -> Result<String, AllocError> {
+    format!(in alloc; "{path}.{place}")
+}
+
+/// The places at which the trail of this path goes on in other files, in rising order.
+pub fn places_beside<R: AllocGlobal + Clone + Drop + Files>(
+    rt: &R,
+    path: &str,
+) -> io::Result<Vec<u64>> {
+    let (folder, name) = parted(path);
+    let mut places = Vec::new(rt.alloc());
+    for entry in fs::read_dir(rt, folder)? {
+        match entry {
+            Ok(entry) => {
+                if let Some(place) = place_of(entry.file_name(), name) {
+                    places.push(place)?;
+                }
+            }
+            // A name that isn't UTF-8 is none of these.
+            Err(error) if error.kind() == ErrorKind::InvalidFilename => {}
+            Err(error) => return Err(error),
+        }
+    }
+    places.sort_unstable();
+    Ok(places)
+}
+
+/// The place that stands behind the name of the trail's first file.
+fn place_of(found: &str, name: &str) -> Option<u64> {
+    let number = found.strip_prefix(name)?.strip_prefix('.')?;
+    read_decimal(number, u64::MAX)
+}
+
+/// The folder of a path, and the name in it.
+fn parted(path: &str) -> (&str, &str) {
+    match path.rsplit_once('/') {
+        Some(("", name)) => ("/", name),
+        Some((folder, name)) => (folder, name),
+        None => (".", path),
+    }
+}
+
+/// Locks the file, as long as this process has it open. `WouldBlock` where another has.
+pub fn lock(file: &File) -> io::Result<()> {
+    match file.try_lock() {
+        Ok(()) => Ok(()),
+        Err(TryLockError::WouldBlock) => Err(io::Error::from(ErrorKind::WouldBlock)),
+        Err(TryLockError::Error(error)) => Err(error),
+    }
+}
+
+/// Has the system put on the disk that the folder has this file: a sync of the file alone doesn't say so (fsync(2)).
+pub fn sync_folder<R: Files<File = File>>(rt: &R, path: &str) -> io::Result<()> {
+    let (folder, _) = parted(path);
+    File::open(rt, folder)?.sync_all()
+}
