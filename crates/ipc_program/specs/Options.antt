@@ -35,9 +35,13 @@ trail_options = value_option (codes "trail-file") ∷ flag (codes "trail-sync") 
 abbrev pub server_options : List Rule
 server_options = thread_options ++ value_option (codes "workers") ∷ value_option (codes "stop-after") ∷ value_option (codes "log") ∷ value_option (codes "socket-mode") ∷ []
 
--- `[--audit] [--from N] [--to N]`
-abbrev pub audit_options : List Rule
-audit_options = flag (codes "audit") ∷ value_option (codes "from") ∷ value_option (codes "to") ∷ []
+-- `[--metrics ADDRESS] [--stats SECONDS]`
+abbrev pub metrics_options : List Rule
+metrics_options = value_option (codes "metrics") ∷ value_option (codes "stats") ∷ []
+
+-- `[--audit] [--from N] [--to N] [--answers SID]`
+abbrev pub line_options : List Rule
+line_options = flag (codes "audit") ∷ value_option (codes "from") ∷ value_option (codes "to") ∷ value_option (codes "answers") ∷ []
 
 -- `script`, with the limits
 abbrev pub script_shape : Shape
@@ -46,12 +50,12 @@ script_shape = record (new_shape (codes "script")) { rules = limit_options }
 -- `serve USERS ADDRESS`, with the server's options and the limits
 abbrev pub serve_shape : Shape
 serve_shape = record (new_shape (codes "serve")) {
-  rules = place (codes "users") ∷ place (codes "address") ∷ server_options ++ trail_options ++ limit_options;
+  rules = place (codes "users") ∷ place (codes "address") ∷ server_options ++ metrics_options ++ trail_options ++ limit_options;
 }
 
--- `replay USERS FILE..`, with what is audited
+-- `replay USERS FILE..`, with what lines are printed
 abbrev pub replay_shape : Shape
-replay_shape = record (new_shape (codes "replay")) { rules = place (codes "users") ∷ places (codes "files") ∷ audit_options }
+replay_shape = record (new_shape (codes "replay")) { rules = place (codes "users") ∷ places (codes "files") ∷ line_options }
 
 -- `mqserve`, without subcommands
 abbrev pub bare_program : App

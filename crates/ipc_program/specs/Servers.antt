@@ -7,7 +7,8 @@ use Rattle.ipc_program.specs.declared.tasks.Threading.{Threading}
 use Rattle.ipc_program.specs.declared.tasks.Threading.TheVariants.{OneThread, Workers}
 
 -- the path of the user file, the address, the permission bits of a socket's file, on what threads it serves, after how many
--- connections it ends, the path of the log, where the trail is written to, and the limits
+-- connections it ends, the path of the log, at which address its counts are had, after how many seconds each the log tells them, where
+-- the trail is written to, and the limits
 pub record Serving : Type 0 where
   pub users : List ℕ
   pub address : List ℕ
@@ -15,6 +16,8 @@ pub record Serving : Type 0 where
   pub threading : Threading
   pub stop_after : Option ℕ
   pub log : Option (List ℕ)
+  pub metrics : Option (List ℕ)
+  pub stats : Option ℕ
   pub trail : Option TrailFile
   pub limits : Limits
 

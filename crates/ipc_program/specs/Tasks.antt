@@ -8,7 +8,7 @@ use Rattle.ipc_policy.specs.declared.config.Limits.{Limits}
 use Rattle.ipc_policy.specs.declared.config.TheConstants.Limits.{STANDARD}
 use Rattle.ipc_words.specs.Numbers.{decimal_within}
 use Rattle.ipc_words.specs.Readings.{Meaning, ◌>>=◌, is_given, of_argument, option_at}
-use Rattle.ipc_program.specs.Addresses.{is_unix, is_unix_users, mode_of_word}
+use Rattle.ipc_program.specs.Addresses.{is_endpoint, is_unix, is_unix_users, mode_of_word}
 use Rattle.ipc_program.specs.Options.{app_of_program}
 use Rattle.ipc_program.specs.Servers.{Serving}
 use Rattle.ipc_program.specs.Trails.{Replaying, TrailFile}
@@ -115,6 +115,24 @@ abbrev pub is_one_thread : Threading → Bool
 is_one_thread (OneThread _ _) = true
 is_one_thread (Workers _) = false
 
+-- at which address one thread tells its counts: that of one listener
+abbrev pub metrics_at : Threading → Text → Meaning (Option Text)
+metrics_at threading address = if is_one_thread threading && is_endpoint address then Ok (Some address) else Err (codes "metrics")
+
+-- at which address counts are had, where one is given
+abbrev pub metrics_given : Threading → List Row → Meaning (Option Text)
+metrics_given threading rows = option_map_or (metrics_at threading) (first_of (codes "metrics") rows) (Ok None)
+
+-- counts are told by one thread that has a log, each second or less often
+abbrev pub tells_counts : Threading → List Row → ℕ → Bool
+tells_counts threading rows seconds = is_one_thread threading && has (codes "log") rows && nat_le 1 seconds
+
+-- after how many seconds each the log tells counts, if it does
+abbrev pub stats_given : Threading → List Row → Meaning (Option ℕ)
+stats_given threading rows =
+    option_at (decimal_within (2 ^ 64 - 1)) (codes "stats") rows >>= λ seconds.
+    if option_map_or (tells_counts threading rows) seconds true then Ok seconds else Err (codes "stats")
+
 -- 4,096 bytes or more, where they are told
 abbrev pub large_enough : Option ℕ → Meaning (Option ℕ)
 large_enough bytes = if option_map_or (nat_le 4096) bytes true then Ok bytes else Err (codes "trail-segment")
@@ -147,10 +165,12 @@ serving_given rows =
     word_at (codes "address") rows >>= λ address.
     threading_at address rows >>= λ threading.
     option_at (decimal_within (2 ^ 64 - 1)) (codes "stop-after") rows >>= λ stop_after.
+    stats_given threading rows >>= λ stats.
+    metrics_given threading rows >>= λ metrics.
     trail_given threading rows >>= λ trail.
     socket_mode_given address rows >>= λ socket_mode.
     limits_given rows >>= λ limits.
-    Ok (record { users = users; address = address; socket_mode = socket_mode; threading = threading; stop_after = stop_after; log = first_of (codes "log") rows; trail = trail; limits = limits })
+    Ok (record { users = users; address = address; socket_mode = socket_mode; threading = threading; stop_after = stop_after; log = first_of (codes "log") rows; metrics = metrics; stats = stats; trail = trail; limits = limits })
 
 -- the words at this place, one or more
 abbrev pub words_at : Text → List Row → Meaning (List Text)
@@ -170,13 +190,20 @@ audit_given rows =
     else (if has (codes "from") rows then Err (codes "from")
     else (if has (codes "to") rows then Err (codes "to") else Ok None))
 
+-- the session of whose answers a line is printed, if of any
+abbrev pub answers_given : List Row → Meaning (Option ℕ)
+answers_given rows =
+    option_at (decimal_within (2 ^ 64 - 1)) (codes "answers") rows >>= λ answers.
+    if is_some answers && is_given (codes "audit") rows then Err (codes "answers") else Ok answers
+
 -- what the words of `replay` tell
 abbrev pub replaying_given : List Row → Meaning Replaying
 replaying_given rows =
     word_at (codes "users") rows >>= λ users.
     audit_given rows >>= λ audit.
+    answers_given rows >>= λ answers.
     words_at (codes "files") rows >>= λ files.
-    Ok (record { users = users; files = files; audit = audit })
+    Ok (record { users = users; files = files; audit = audit; answers = answers })
 
 -- the task of a subcommand by its name and what stands behind it
 abbrev pub task_of : Text × List Row → Meaning Task

@@ -9,8 +9,10 @@ pub record TrailFile : Type 0 where
   pub is_synced : Bool
   pub segment : Option ℕ
 
--- the paths of the user file and of the trail's files, and of which records a line is printed
+-- the paths of the user file and of the trail's files, of which records a line is printed, and the number of the session of whose
+-- answers one is
 pub record Replaying : Type 0 where
   pub users : List ℕ
   pub files : List (List ℕ)
   pub audit : Option Places
+  pub answers : Option ℕ

@@ -6,12 +6,13 @@ ghost use Rattle.clap.specs.Walk.{first_of, rule_of, rows_of};
 ghost use Rattle.clap.specs.Words.{found_of};
 ghost use Rattle.ipc_words.specs.Grammar.{flag};
 ghost use Rattle.ipc_words.specs.Readings.{Reads, is_given};
-ghost use Rattle.ipc_program.specs.Options.{Adds, IsSubcommand, app_of_program, audit_options, limit_options, place, places, replay_shape, script_shape, serve_shape, server_options, thread_options, trail_options, value_option};
+ghost use Rattle.ipc_program.specs.Options.{Adds, IsSubcommand, app_of_program, limit_options, line_options, metrics_options, place, places, replay_shape, script_shape, serve_shape, server_options, thread_options, trail_options, value_option};
 ghost use Rattle.ipc_program.specs.Servers.{IsEnough, IsWithin};
 ghost use Rattle.ipc_program.specs.Tasks.{connections_given, crew_given, has, kept_given, limits_given, newest_given, serves, threading_at, threading_given, serving_given, socket_mode_given, task_asked, task_given, task_of, workers_given};
 
 use crate::addresses::{is_unix, is_unix_users, read_mode};
 use crate::fault::ProgramFault;
+use crate::metrics::{metrics_of, stats_of};
 use crate::tasks::{Kept, Serving, Task, Threading};
 use crate::trails::{replaying_of, trail_of};
 use clap::error::ErrorKind;
@@ -26,10 +27,11 @@ const USAGE: &str = "\
 mqserve [script [--msg-max <N>] [--msgsize-max <N>] [--queues-max <N>]]
        mqserve serve <USERS> <ADDRESS> [--one-thread [--connections <N>] | --workers <N>]
                      [--keep-records <N>] [--keep-bytes <N>] [--keep-all]
-                     [--stop-after <N>] [--log <FILE>] [--socket-mode <OCTAL>]
+                     [--stop-after <N>] [--socket-mode <OCTAL>]
+                     [--log <FILE> [--stats <SECONDS>]] [--metrics <ADDRESS>]
                      [--trail-file <FILE> [--trail-sync] [--trail-segment <N>]]
                      [--msg-max <N>] [--msgsize-max <N>] [--queues-max <N>]
-       mqserve replay <USERS> <FILE>.. [--audit [--from <N>] [--to <N>]]";
+       mqserve replay <USERS> <FILE>.. [--audit [--from <N>] [--to <N>] | --answers <SID>]";
 
 const USERS_HELP: &str = "The user file";
 
@@ -57,6 +59,12 @@ const LOG_HELP: &str =
 
 const SOCKET_MODE_HELP: &str = "Permission bits of the file of unix:PATH [default: 0600]";
 
+const METRICS_HELP: &str =
+    "With --one-thread: where its counts are told, as 127.0.0.1:9100 or unix:/run/mqserve/metrics [default: nowhere]";
+
+const STATS_HELP: &str =
+    "With --one-thread and --log: seconds after which each the log tells its counts, 1 or more [default: never]";
+
 const TRAIL_FILE_HELP: &str =
     "With --one-thread: where records are written before they are answered [default: nowhere]";
 
@@ -72,6 +80,8 @@ const AUDIT_HELP: &str = "Print a line of each record";
 const FROM_HELP: &str = "With --audit: the place of the first line [default: 0]";
 
 const TO_HELP: &str = "With --audit: the place of the last line [default: the end]";
+
+const ANSWERS_HELP: &str = "Print a line of each answer to the session of this number";
 
 const MSG_MAX_HELP: &str = "Messages that a queue may have, 1 to 65536 [default: 10]";
 
@@ -164,12 +174,18 @@ fn what_is_wanted(fault: WordFault) -> &'static str {
             "OCTAL is a zero and three octal digits, and ADDRESS is unix:PATH",
         WordFault::BadValue("stop-after") =>
             "N is decimal, without sign and leading zeros, at most 18446744073709551615",
+        WordFault::BadValue("metrics") =>
+            "ADDRESS is HOST:PORT or unix:PATH, and stands with --one-thread",
+        WordFault::BadValue("stats") =>
+            "SECONDS is 1 or more, decimal, without sign and leading zeros, and stands with --one-thread and --log",
         WordFault::BadValue("trail-file") => "it stands with --one-thread",
         WordFault::BadValue("trail-sync") => "it stands with --trail-file",
         WordFault::BadValue("trail-segment") =>
             "N is 4096 or more, decimal, without sign and leading zeros, and stands with --trail-file",
         WordFault::BadValue("from" | "to") =>
             "N is decimal, without sign and leading zeros, at most 18446744073709551615, and stands with --audit",
+        WordFault::BadValue("answers") =>
+            "SID is decimal, without sign and leading zeros, at most 18446744073709551615, and stands without --audit",
         _ => "N is decimal, without sign and leading zeros, at most 4294967295",
     }
 }
@@ -208,6 +224,7 @@ fn serve<'a>(alloc: Global, help: &'a str) -> Result<Command<'a>, AllocError>
         .arg(place(alloc, "users", "USERS", USERS_HELP))?
         .arg(place(alloc, "address", "ADDRESS", ADDRESS_HELP))?;
     let serve = with_server_options(alloc, serve)?;
+    let serve = with_metrics_options(alloc, serve)?;
     let serve = with_trail_options(alloc, serve)?;
     with_limits(alloc, serve)
 }
@@ -220,7 +237,7 @@ fn replay<'a>(alloc: Global, help: &'a str) -> Result<Command<'a>, AllocError>
         .after_help(help)
         .arg(place(alloc, "users", "USERS", USERS_HELP))?
         .arg(places(alloc, "files", "FILE", FILES_HELP))?;
-    with_audit_options(alloc, replay)
+    with_line_options(alloc, replay)
 }
 
 /// Adds what one thread is told.
@@ -248,6 +265,16 @@ fn with_server_options<'a>(alloc: Global, command: Command<'a>) -> Result<Comman
     Ok(command)
 }
 
+/// Adds what a server is told of its counts.
+fn with_metrics_options<'a>(alloc: Global, command: Command<'a>) -> Result<Command<'a>, AllocError>
+    ensures { IfOk result (λ added. Adds metrics_options command.entry added) }
+{
+    let command = command
+        .arg(value(alloc, "metrics", "ADDRESS", METRICS_HELP))?
+        .arg(value(alloc, "stats", "SECONDS", STATS_HELP))?;
+    Ok(command)
+}
+
 /// Adds what a server is told of a trail in a file.
 fn with_trail_options<'a>(alloc: Global, command: Command<'a>) -> Result<Command<'a>, AllocError>
     ensures { IfOk result (λ added. Adds trail_options command.entry added) }
@@ -259,14 +286,15 @@ fn with_trail_options<'a>(alloc: Global, command: Command<'a>) -> Result<Command
     Ok(command)
 }
 
-/// Adds what tells of which records a line is printed.
-fn with_audit_options<'a>(alloc: Global, command: Command<'a>) -> Result<Command<'a>, AllocError>
-    ensures { IfOk result (λ added. Adds audit_options command.entry added) }
+/// Adds what tells of which records a line is printed, or of which answers.
+fn with_line_options<'a>(alloc: Global, command: Command<'a>) -> Result<Command<'a>, AllocError>
+    ensures { IfOk result (λ added. Adds line_options command.entry added) }
 {
     let command = command
         .arg(flag(alloc, "audit", AUDIT_HELP))?
         .arg(value(alloc, "from", "N", FROM_HELP))?
-        .arg(value(alloc, "to", "N", TO_HELP))?;
+        .arg(value(alloc, "to", "N", TO_HELP))?
+        .arg(value(alloc, "answers", "SID", ANSWERS_HELP))?;
     Ok(command)
 }
 
@@ -363,7 +391,9 @@ fn serving_of(alloc: Global, options: &ArgMatches) -> Result<Serving, WordFault>
     };
     let threading = threading_at(options, address)?;
     let stop_after = optional_number(options, "stop-after")?;
+    let stats = stats_of(options, threading)?;
     let log = log_of(alloc, options)?;
+    let metrics = metrics_of(alloc, options, threading)?;
     let trail = trail_of(alloc, options, threading)?;
     let socket_mode = socket_mode_of(options, address)?;
     let limits = limits_of(options)?;
@@ -374,6 +404,8 @@ fn serving_of(alloc: Global, options: &ArgMatches) -> Result<Serving, WordFault>
         threading,
         stop_after,
         log,
+        metrics,
+        stats,
         trail,
         limits,
     })

@@ -4,6 +4,7 @@
 mod addresses;
 mod arguments;
 mod fault;
+mod metrics;
 mod output;
 mod tasks;
 mod trails;

@@ -29,6 +29,10 @@ pub struct Serving {
     pub stop_after: Option<u64>,
     /// The path of the log, or `-`.
     pub log: Option<String>,
+    /// At which address its counts are had: `HOST:PORT`, or `unix:` and the path of a socket's file. Workers tell none.
+    pub metrics: Option<String>,
+    /// After how many seconds each, 1 or more, the log tells its counts. Workers tell none.
+    pub stats: Option<u64>,
     /// Where the trail is written to, if it is. Workers write none.
     pub trail: Option<TrailFile>,
     pub limits: Limits,
@@ -70,6 +74,8 @@ pub struct Replaying {
     pub files: Vec<String>,
     /// Of which records a line is printed, if of any.
     pub audit: Option<Places>,
+    /// The number of the session of whose answers a line is printed, if of any. Then `audit` is none.
+    pub answers: Option<u64>,
 }
 
 /// The places from one to another, with both. Places count from 0.
@@ -94,7 +100,7 @@ impl Model for Replaying {
 
     ghost Value = { Replaying };
 
-    ghost view = { λ r. record { users = string_bytes r.users; files = map string_bytes r.files.items; audit = r.audit } };
+    ghost view = { λ r. record { users = string_bytes r.users; files = map string_bytes r.files.items; audit = r.audit; answers = r.answers } };
 }
 
 impl Model for Serving {
@@ -103,7 +109,7 @@ impl Model for Serving {
 
     ghost Value = { Serving };
 
-    ghost view = { λ s. record { users = string_bytes s.users; address = string_bytes s.address; socket_mode = s.socket_mode; threading = s.threading; stop_after = s.stop_after; log = option_map string_bytes s.log; trail = s.trail; limits = s.limits } };
+    ghost view = { λ s. record { users = string_bytes s.users; address = string_bytes s.address; socket_mode = s.socket_mode; threading = s.threading; stop_after = s.stop_after; log = option_map string_bytes s.log; metrics = option_map string_bytes s.metrics; stats = s.stats; trail = s.trail; limits = s.limits } };
 
     ghost invariant = { λ s. IsWithin s.threading };
 }

@@ -4,7 +4,7 @@ ghost use Rattle.std.specs.Prelude.{◌≡◌, IfErr, IfOk, Ok, codes, map, opti
 ghost use Rattle.clap.specs.Walk.{all_of, rows_of};
 ghost use Rattle.clap.specs.Words.{found_of};
 ghost use Rattle.ipc_words.specs.Readings.{IsFaultOf, Reads};
-ghost use Rattle.ipc_program.specs.Tasks.{audit_given, is_one_thread, no_trail, places_given, replaying_given, segment_given, trail_given, words_at};
+ghost use Rattle.ipc_program.specs.Tasks.{answers_given, audit_given, is_one_thread, no_trail, places_given, replaying_given, segment_given, trail_given, words_at};
 
 use crate::arguments::{is_flag_given, is_option_given};
 use crate::tasks::{Places, Replaying, Threading, TrailFile};
@@ -61,7 +61,7 @@ fn segment_of(options: &ArgMatches) -> Result<Option<u64>, WordFault>
     }
 }
 
-fn is_one_thread(threading: Threading) -> bool
+pub(crate) fn is_one_thread(threading: Threading) -> bool
     ensures { result ≡ is_one_thread threading }
 {
     match threading {
@@ -78,11 +78,13 @@ pub fn replaying_of(alloc: Global, options: &ArgMatches) -> Result<Replaying, Wo
         return Err(WordFault::BadValue("users"));
     };
     let audit = audit_of(options)?;
+    let answers = answers_of(options)?;
     let files = files_of(alloc, options)?;
     Ok(Replaying {
         users: String::from_str(alloc, users)?,
         files,
         audit,
+        answers,
     })
 }
 
@@ -128,6 +130,17 @@ fn audit_of(options: &ArgMatches) -> Result<Option<Places>, WordFault>
         return Err(WordFault::BadValue("to"));
     }
     Ok(None)
+}
+
+/// The session of whose answers a line is printed, if of any. None is with `--audit`.
+fn answers_of(options: &ArgMatches) -> Result<Option<u64>, WordFault>
+    ensures { Reads (answers_given (rows_of (found_of options.now))) result }
+{
+    let answers = optional_number(options, "answers")?;
+    if answers.is_some() && is_flag_given(options, "audit") {
+        return Err(WordFault::BadValue("answers"));
+    }
+    Ok(answers)
 }
 
 /// From which place to which, and where they aren't told all.

@@ -3,7 +3,7 @@ use Rattle.std.proofs.lemmas.Result.{IfOk-weaker}
 use Rattle.clap.specs.Simple.{app_of, app_of_fields, new_app, with_rule}
 use Rattle.clap.specs.declared.builder.command.Command.TheOpen.{Command-F}
 use Rattle.clap.specs.declared.builder.command.Command.{Command}
-use Rattle.ipc_program.specs.Options.{HasNoGlobals, audit_options, with_rules}
+use Rattle.ipc_program.specs.Options.{HasNoGlobals, line_options, with_rules}
 use Rattle.ipc_program.proofs.arguments.replay.Goals as goal
 
 -- no argument is global, and so the command has none such
@@ -23,4 +23,4 @@ returns c =
     c.in_ok-replay.ensures.globals
     ∙ ap₂ either (c.in_ok-arg.ensures.globals
     ∙ ap₂ either (ap has_globals c.after_help.ensures ∙ ap has_globals c.about.ensures ∙ c.new.ensures.local) c.place.ensures.local) c.places.ensures.local in
-    IfOk-weaker c.with_audit_options.result _ _ (λ command added. (added.0 ∙ ap (with_rules audit_options) places, added.1 local)) c.with_audit_options.ensures
+    IfOk-weaker c.with_line_options.result _ _ (λ command added. (added.0 ∙ ap (with_rules line_options) places, added.1 local)) c.with_line_options.ensures
