@@ -73,6 +73,21 @@ fn told_with_copies(
     Ok((told, given))
 }
 
+/// What the event would be answered by a core with this state, and to whom. Nothing changes. An audit that begins before the
+/// oldest record that is kept finds no memory.
+pub fn answers_of(
+    state: &State,
+    alloc: Global,
+    event: &Event,
+) -> Result<Vec<(Sid, Answer)>, NoMemory>
+    ensures { IfOk result (λ given. given.items ≡ answers state.now.config state.now.history event.now) }
+{
+    let lookup = Lookup::new(state, event);
+    let rule = decide(&lookup);
+    let (_told, given) = told_with_copies(&lookup, alloc, rule)?;
+    Ok(given)
+}
+
 impl Core {
     /// A core with an empty trail, or the first limit that is out of its range, in the order
     /// `msg_max`, `msgsize_max`, `queues_max`. An `Err` drops the configuration.

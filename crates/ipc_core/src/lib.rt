@@ -12,7 +12,7 @@ mod posting;
 mod questions;
 
 pub use answer::Posted;
-pub use core_state::Core;
+pub use core_state::{Core, answers_of};
 pub use fault::CoreFault;
 pub use ipc_policy::{Config, Held, Limits};
 pub use ipc_state::Field;
