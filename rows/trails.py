@@ -110,6 +110,10 @@ def mq_timed_receive(description, deadline):
 INTERRUPT = frame(23)
 
 
+def audit(start, count):
+    return frame(24, u64(start) + u16(count))
+
+
 # ---- records
 
 
@@ -159,6 +163,17 @@ LONG = [
     (0, call(0, mq_send(0, 1, b"short"))),
 ]
 
+# Audits: one that is refused, and pages of 2 records, of 1, of all, and of none.
+AUDITS = [
+    (0, hello(1000)),
+    (0, hello(0)),
+    (6, call(0, audit(0, 10))),
+    (0, call(1, audit(0, 2))),
+    (0, call(1, audit(3, 1000))),
+    (0, call(1, audit(0, 65_535))),
+    (0, call(1, audit(9, 5))),
+]
+
 SECOND = 7
 
 
@@ -196,6 +211,8 @@ def trails():
     return {
         "life": whole,
         "long": head() + b"".join(entries(LONG)),
+        "audits": head() + b"".join(entries(AUDITS)),
+        "audits_forged": head() + b"".join(entries([*AUDITS[:3], (6, AUDITS[3][1]), *AUDITS[4:]])),
         "empty": head(),
         "torn": whole[:-5],
         "first": head() + b"".join(parts[:SECOND]),
@@ -221,7 +238,7 @@ def trails():
 def files():
     """Each file that is made, by its path."""
     made = trails()
-    names = ["life", "torn", "first", "first_torn", "second", "second_forged", "other_users", "forged_refusal", "no_head", "missing"]
+    names = ["life", "audits", "audits_forged", "torn", "first", "first_torn", "second", "second_forged", "other_users", "forged_refusal", "no_head", "missing"]
     found = {ROWS / f"{name}.trail": made[name] for name in names}
     found[ROWS / "three.users"] = user_file(USERS)
     return found

@@ -5,3 +5,4 @@ mod PastLemmas
 mod ReplayLemmas
 mod BoundLemmas
 mod UserLemmas
+mod ShownLemmas

@@ -15,6 +15,6 @@ pub use counts::Counts;
 pub use fault::HistoryFault;
 pub use past::Past;
 pub use replaying::{replay, replay_next};
-pub use shown::text_of;
+pub use shown::{text_of, text_of_page, texts_of_answers};
 pub use trail_reader::TrailReader;
 pub use user_sums::users_sum;

@@ -5,6 +5,7 @@ mod files;
 mod open_trail;
 mod replaying;
 mod resuming;
+mod showing;
 
 pub use open_trail::OpenTrail;
 pub use replaying::replay_trail;

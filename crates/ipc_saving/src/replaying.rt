@@ -1,8 +1,9 @@
-//! A trail that is stepped again: what its records count up to, and lines of them.
+//! A trail that is stepped again: what its records count up to, and lines of them or of answers.
 
+use crate::showing::{Shown, shown_of, texts_of};
 use ipc_access::Users;
-use ipc_history::{Counts, HistoryFault, Past, TrailReader, replay, replay_next, text_of};
-use ipc_program::{Places, ProgramFault, Replaying, print_line, say, users_at};
+use ipc_history::{Counts, HistoryFault, Past, TrailReader, replay, replay_next};
+use ipc_program::{ProgramFault, Replaying, print_line, say, users_at};
 use ipc_terms::EVERY_RULE;
 use std::alloc::Global;
 use std::fs::File;
@@ -15,8 +16,8 @@ const PIECE: usize = 65_536;
 /// A file of a trail, as it is read.
 type Reading = TrailReader<BufReader<File>>;
 
-/// Steps the records of the files again, of which each goes on where the one before it ends, and prints lines of those that are
-/// asked for; and what all count up to, and behind it that they are legal: the rule of each is the policy's verdict.
+/// Steps the records of the files again, of which each goes on where the one before it ends, and prints lines of those, or of those
+/// answers, that are asked for; and what all count up to, and behind it that they are legal: the rule of each is the policy's verdict.
 pub fn replay_trail<R: AllocGlobal + Files<File = File> + Print>(
     rt: &R,
     replaying: &Replaying,
@@ -26,9 +27,10 @@ pub fn replay_trail<R: AllocGlobal + Files<File = File> + Print>(
     let Some((first, others)) = replaying.files.split_first() else {
         return Err(ProgramFault::Trail(HistoryFault::NoHead));
     };
+    let shown = shown_of(replaying);
     let mut reader = open(rt, first.as_str())?;
-    let mut past = begin(rt.alloc(), users, &mut reader, replaying.audit)?;
-    go_through(rt, &mut past, reader, others, replaying.audit)
+    let mut past = begin(rt.alloc(), users, &mut reader, shown)?;
+    go_through(rt, &mut past, reader, others, shown)
 }
 
 /// Steps what is left of the first file, and the other files.
@@ -37,17 +39,17 @@ fn go_through<R: AllocGlobal + Files<File = File> + Print>(
     past: &mut Past,
     mut reader: Reading,
     others: &[String],
-    audit: Option<Places>,
+    shown: Option<Shown>,
 ) -> Result<(), ProgramFault> {
-    if let Some(places) = audit {
-        show_records(rt, past, &mut reader, places)?;
+    if let Some(shown) = shown {
+        show(rt, past, &mut reader, shown)?;
     }
     for path in others {
         if reader.is_torn() {
             return Err(ProgramFault::CutOff(past.place()));
         }
         reader = open(rt, path.as_str())?;
-        go_on(rt, past, &mut reader, audit)?;
+        go_on(rt, past, &mut reader, shown)?;
     }
     tell(rt, past, reader.is_torn())
 }
@@ -64,14 +66,14 @@ fn open<R: AllocGlobal + Files<File = File>>(rt: &R, path: &str) -> Result<Readi
     }
 }
 
-/// What happened by the first file. Where records are shown none is stepped yet.
+/// What happened by the first file. Where lines are printed no record is stepped yet.
 fn begin(
     alloc: Global,
     users: Users,
     reader: &mut Reading,
-    audit: Option<Places>,
+    shown: Option<Shown>,
 ) -> Result<Past, ProgramFault> {
-    match audit {
+    match shown {
         None => Ok(replay(alloc, users, reader)?),
         Some(_) => before_all(alloc, users, reader),
     }
@@ -88,23 +90,23 @@ fn go_on<R: AllocGlobal + Print>(
     rt: &R,
     past: &mut Past,
     reader: &mut Reading,
-    audit: Option<Places>,
+    shown: Option<Shown>,
 ) -> Result<(), ProgramFault> {
     let alloc = rt.alloc();
-    let Some(places) = audit else {
+    let Some(shown) = shown else {
         return Ok(replay_next(alloc, past, reader)?);
     };
     let head = reader.next_head(alloc)?;
     past.goes_on(&head)?;
-    show_records(rt, past, reader, places)
+    show(rt, past, reader, shown)
 }
 
-/// Steps the records that come. Behind each of these places its line is printed.
-fn show_records<R: AllocGlobal + Print>(
+/// Steps the records that come. Behind each its lines are printed: what they tell was decided as the policy says.
+fn show<R: AllocGlobal + Print>(
     rt: &R,
     past: &mut Past,
     reader: &mut Reading,
-    places: Places,
+    shown: Shown,
 ) -> Result<(), ProgramFault> {
     let alloc = rt.alloc();
     for _ in 0..u64::MAX {
@@ -112,18 +114,21 @@ fn show_records<R: AllocGlobal + Print>(
         let Some(next) = reader.next_record(alloc, place)? else {
             return Ok(());
         };
-        if place < places.first || places.last < place {
-            past.step(alloc, next)?;
-            continue;
-        }
-        let Ok(text) = text_of(alloc, place, &next) else {
+        let Ok(texts) = texts_of(alloc, past.state(), place, &next, shown) else {
             return Err(HistoryFault::NoMemory.into());
         };
         past.step(alloc, next)?;
-        print_line(rt, text.as_str())?;
+        print_all(rt, &texts)?;
     }
     // Memory ends long before.
     Err(HistoryFault::NoMemory.into())
+}
+
+fn print_all<R: Print>(rt: &R, texts: &[String]) -> Result<(), ProgramFault> {
+    for text in texts {
+        print_line(rt, text.as_str())?;
+    }
+    Ok(())
 }
 
 /// Prints what the records count up to, whether the last one is cut off, and that they are legal.
