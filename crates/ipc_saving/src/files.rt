@@ -60,6 +60,12 @@ pub fn lock(file: &File) -> io::Result<()> {
     }
 }
 
+/// Removes a file, and has the system put on the disk that it is gone: were it there again, the trail would seem to go on in it.
+pub fn remove<R: Files<File = File>>(rt: &R, path: &str) -> io::Result<()> {
+    fs::remove_file(rt, path)?;
+    sync_folder(rt, path)
+}
+
 /// Has the system put on the disk that the folder has this file: a sync of the file alone doesn't say so (fsync(2)).
 pub fn sync_folder<R: Files<File = File>>(rt: &R, path: &str) -> io::Result<()> {
     let (folder, _) = parted(path);

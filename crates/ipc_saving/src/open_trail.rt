@@ -1,14 +1,14 @@
 //! The file of a trail that is being written.
 
-use crate::files::{lock, path_at, sync_folder};
+use crate::files::{lock, path_at, remove, sync_folder};
 use ipc_log::{Head, TrailWriter};
 use ipc_program::TrailFile;
 use std::alloc::{AllocError, Global};
 use std::fs::File;
+use std::io;
 use std::io::ErrorKind;
 use std::os::unix::fs::OpenOptionsExt;
 use std::rt::Files;
-use std::{fs, io};
 
 /// The permission bits of a new file: its owner alone may read and write it.
 const OWNER_S_MODE: u32 = 0o600;
@@ -166,7 +166,7 @@ fn make<R: AllocGlobal + Files<File = File>>(
     match begin(rt, path, &mut file, &mut writer, is_synced) {
         Ok(()) => Ok((file, writer)),
         Err(error) => {
-            let _ = fs::remove_file(rt, path);
+            let _ = remove(rt, path);
             Err(error)
         }
     }

@@ -1,6 +1,6 @@
 //! A trail that is in files already, and is gone on with.
 
-use crate::files::{lock, path_at, places_beside};
+use crate::files::{lock, path_at, places_beside, remove};
 use crate::open_trail::{OpenTrail, Segments};
 use ipc_access::Users;
 use ipc_core::{Config, Limits};
@@ -11,9 +11,9 @@ use ipc_script::ScriptFault;
 use ipc_state::State;
 use std::alloc::Global;
 use std::fs::File;
+use std::io;
 use std::io::{BufReader, ErrorKind, Seek, SeekFrom};
 use std::rt::Files;
-use std::{fs, io};
 
 /// How many bytes are read at a time.
 const PIECE: usize = 65_536;
@@ -205,8 +205,8 @@ fn read_next<R: AllocGlobal + Files<File = File>>(
 }
 
 /// Removes the file; it is none.
-fn removed<R: Files>(rt: &R, path: &str) -> Result<Option<ReadFile>, ProgramFault> {
-    match fs::remove_file(rt, path) {
+fn removed<R: Files<File = File>>(rt: &R, path: &str) -> Result<Option<ReadFile>, ProgramFault> {
+    match remove(rt, path) {
         Ok(()) => Ok(None),
         Err(error) => Err(ProgramFault::of_trail_file(&error)),
     }
