@@ -155,9 +155,8 @@ fn read_others<R: AllocGlobal + Files<File = File>>(
 ) -> Result<(Option<File>, ReadFile), ProgramFault> {
     let mut first = None;
     let mut last = read;
-    let mut left = places.len();
+    let last_place = places.last().copied();
     for place in places {
-        left -= 1;
         if *place != past.place() {
             return Err(HistoryFault::OtherPlace(*place).into());
         }
@@ -165,7 +164,7 @@ fn read_others<R: AllocGlobal + Files<File = File>>(
             return Err(ProgramFault::CutOff(*place));
         }
         let path = path_at(rt.alloc(), path, *place)?;
-        let Some(next) = read_next(rt, path.as_str(), past, left == 0)? else {
+        let Some(next) = read_next(rt, path.as_str(), past, last_place == Some(*place))? else {
             return Ok((first, last));
         };
         let before = std::mem::replace(&mut last, next);
