@@ -1,13 +1,17 @@
 -- What stands at the numbers when the older values change, and what that makes of the list of all.
-use Rattle.std.proofs.Common.{◌≡◌, ◌≢◌, ◌∙◌, ⊎_elim, nat_lt, Bool, true, false, cond, ℕ, zero, suc, ◌+◌, ◌-◌, take, ◌<◌, ◌≤◌, ◌==◌, List, [], ◌∷◌, ◌++◌, length, slice_get, Option, Some, None, refl, sym, ap, subst, arith}
+use Rattle.std.proofs.Common.{◌≡◌, ◌≢◌, ◌∙◌, ⊎_elim, nat_lt, Bool, true, false, cond, ℕ, zero, suc, ◌+◌, ◌-◌, take, ◌<◌, ◌≤◌, ◌==◌, List, [], ◌∷◌, ◌++◌, length, slice_get, Option, Some, None, refl, sym, ap, subst, arith, IsSome, is_some}
 use Rattle.std.specs.Ordering.{nat_cmp}
 use Rattle.std.specs.BTreeMap.{BTreeMap, keys, get, is_at}
+use Rattle.std.specs.BTreeMap.Range.{IsLeBy, IsEntryInRange, IsRangeOf}
 use Rattle.std.specs.Map.{lookup, keys_of}
+use Rattle.std.specs.Option.{IfSome, option_and_then}
+use Rattle.std.specs.declared.ops.Bound.TheVariants.{Included, Unbounded}
+use Rattle.std.proofs.lemmas.Option.{slice_get_past}
 use Rattle.std.proofs.lemmas.Bool.{cases_lt}
 use Rattle.std.proofs.lemmas.Bool.Decides.{nat_tests}
 use Rattle.std.proofs.lemmas.List.{length_push, length-append, append_assoc, append-nil}
 use Rattle.ipc_terms.specs.Lists.{changed}
-use Rattle.ipc_numbered.specs.Slots.{at, how_many_filled, most_slots}
+use Rattle.ipc_numbered.specs.Slots.{at, how_many_filled, most_slots, IsNextFrom}
 use Rattle.ipc_numbered.specs.Numbers.{older_slots, AllBelow}
 use Rattle.ipc_numbered.proofs.SlotsLemmas.{filled_append}
 
@@ -209,3 +213,52 @@ none_popped m [] zero none e = refl
 pub settled : {V : Type 0} (m k : BTreeMap ℕ V) (recent rest : List (Option V)) (base : ℕ) → recent ≡ get nat_cmp k base ∷ rest → ((i : ℕ) → i < base → get nat_cmp k i ≡ get nat_cmp m i) → older_slots k (base + 1) ++ rest ≡ older_slots m base ++ recent
 settled m k recent rest base is same =
     rw (is, older_next k base, older_same m k base same) (append_assoc (older_slots m base) (get nat_cmp k base ∷ []) rest)
+
+-- ---- the next value
+
+at_most : (a b : ℕ) → IsLeBy nat_cmp a b → a ≤ b
+at_most a b le = grind (arith, nat_tests)
+
+from_on : (a b : ℕ) → a ≤ b → IsLeBy nat_cmp a b
+from_on a b le = grind (arith, nat_tests)
+
+-- an older one: the first in the map from the number on
+pub next_older : {V : Type 0} (m : BTreeMap ℕ V) (recent : List (Option V)) (base from next : ℕ) (x : V) (part rest : List (ℕ × V)) → AllBelow m base → IsRangeOf nat_cmp (Included from) Unbounded m part → part ≡ (next, x) ∷ rest → IsNextFrom (older_slots m base ++ recent) from (Some next)
+next_older {V = V} m recent base from next x part rest below range is = (
+  at_most from next first.0.0,
+  subst IsSome (sym (value_at m recent base next less ∙ first.1)) refl,
+  λ n le lt. value_at m recent base n (omega (arith, lt, less)) ∙ none n le lt (get nat_cmp m n) refl,
+) where
+  first : IsEntryInRange nat_cmp (Included from) Unbounded m (next, x)
+  first = subst (λ p. IfSome (slice_get p 0) (IsEntryInRange nat_cmp (Included from) Unbounded m)) is range.1
+
+  less : next < base
+  less = under next base (λ past. let absent = below next past in let there = first.1 in cc)
+
+  none : (n : ℕ) → from ≤ n → n < next → (there : Option V) → get nat_cmp m n ≡ there → get nat_cmp m n ≡ None
+  none n le lt None e = e
+  none n le lt (Some y) e = let least = at_most next n (subst (λ p. IfSome (slice_get p 0) (λ f. IsLeBy nat_cmp f.0 n)) is (range.2 n (from_on from n le, tt) (subst IsSome (sym e) refl))) in absurd (omega arith)
+
+-- there is none in the map
+pub none_older : {V : Type 0} (m : BTreeMap ℕ V) (from : ℕ) (part : List (ℕ × V)) → IsRangeOf nat_cmp (Included from) Unbounded m part → part ≡ [] → (n : ℕ) → from ≤ n → get nat_cmp m n ≡ None
+none_older m from part range none n le = range.5 none n (from_on from n le, tt)
+
+-- where there is no older one from a number on, there is none where no recent slot has one
+none_at : {V : Type 0} (m : BTreeMap ℕ V) (recent : List (Option V)) (base from slot n : ℕ) → ((i : ℕ) → from ≤ i → get nat_cmp m i ≡ None) → slot ≡ from - base → from ≤ n → (base ≤ n → slot ≤ n - base → at recent (n - base) ≡ None) → at (older_slots m base ++ recent) n ≡ None
+none_at m recent base from slot n older first le empty = ⊎_elim (λ (less : n < base). value_at m recent base n less ∙ older n le) (λ (past : base ≤ n). recent_at m recent base (n - base) n (omega arith) ∙ empty past (omega arith)) (cases_lt n base)
+
+-- the next one is a recent one
+pub next_recent : {V : Type 0} (m : BTreeMap ℕ V) (recent : List (Option V)) (base from slot next : ℕ) → ((i : ℕ) → from ≤ i → get nat_cmp m i ≡ None) → slot ≡ from - base → IsNextFrom recent slot (Some next) → IsNextFrom (older_slots m base ++ recent) from (Some (base + next))
+next_recent m recent base from slot next older first is = (
+  (let within = is.0 in omega arith),
+  subst IsSome (sym (recent_at m recent base next (base + next) refl)) is.1,
+  λ n le lt. none_at m recent base from slot n older first le (λ past above. is.2 (n - base) above (omega arith)),
+)
+
+-- there is none
+pub next_none : {V : Type 0} (m : BTreeMap ℕ V) (recent : List (Option V)) (base from slot : ℕ) → ((i : ℕ) → from ≤ i → get nat_cmp m i ≡ None) → slot ≡ from - base → IsNextFrom recent slot None → IsNextFrom (older_slots m base ++ recent) from None
+next_none m recent base from slot older first is n le = none_at m recent base from slot n older first le (λ past above. is (n - base) above)
+
+-- a slot that has a value is there
+pub value_within : {V : Type 0} (slots : List (Option V)) (n : ℕ) → IsSome (at slots n) → n < length slots
+value_within slots n some = under n (length slots) (λ past. let none = ap (option_and_then (λ x. x)) (slice_get_past slots n past) in let there : true ≡ false = sym some ∙ ap is_some none in cc)

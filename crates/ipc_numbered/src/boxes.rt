@@ -3,7 +3,7 @@
 ghost use Rattle.std.specs.Prelude.{◌≡◌, ◌+◌, ◌-◌, ◌^◌, ◌<◌, [], ◌∷◌, ◌++◌, length, take, Some, OnOk, OnErr};
 ghost use Rattle.std.specs.Option.{OnSome, option_copied, option_copied_mut};
 ghost use Rattle.ipc_terms.specs.Lists.{changed};
-ghost use Rattle.ipc_numbered.specs.Slots.{at, emptied};
+ghost use Rattle.ipc_numbered.specs.Slots.{at, emptied, IsNextFrom};
 
 use crate::numbered::Numbered;
 use ipc_terms::NoMemory;
@@ -53,6 +53,13 @@ impl<V: Drop> NumberedBoxes<V> {
     {
         let value = self.boxes.get(number)?;
         Some(value.as_ref())
+    }
+
+    /// The least number from this one on that has a value, as `Numbered` finds it.
+    pub fn next_from(&self, number: usize) -> Option<usize>
+        ensures { IsNextFrom self.now number result }
+    {
+        self.boxes.next_from(number)
     }
 
     /// Gives the value the next number. An `Err` changes nothing; it comes behind the last number too.

@@ -6,7 +6,7 @@ ghost use Rattle.std.specs.Option.{OnSome, option_copied, option_copied_mut};
 ghost use Rattle.std.specs.Ordering.{nat_cmp};
 ghost use Rattle.ipc_terms.specs.Lists.{changed};
 ghost use Rattle.ipc_numbered.specs.Numbers.{older_slots, AllBelow, SetsAt};
-ghost use Rattle.ipc_numbered.specs.Slots.{at, emptied, most_slots};
+ghost use Rattle.ipc_numbered.specs.Slots.{at, emptied, most_slots, IsNextFrom};
 
 use crate::recent::Recent;
 use ipc_terms::NoMemory;
@@ -69,6 +69,18 @@ impl<V: Drop> Numbered<V> {
             Some(slot) => self.recent.get(slot),
             None => self.older.get(&number),
         }
+    }
+
+    /// The least number from this one on that has a value. Looks for an older one in the map, and at recent slots, not at
+    /// all numbers that there were.
+    pub fn next_from(&self, number: usize) -> Option<usize>
+        ensures { IsNextFrom self.now number result }
+    {
+        if let Some((older, _)) = self.older.range(number..).next() {
+            return Some(*older);
+        }
+        let slot = self.recent.next_from(number.saturating_sub(self.base))?;
+        Some(self.base + slot)
     }
 
     /// Gives the value the next number. An `Err` changes nothing; it comes behind the last number too.

@@ -3,7 +3,7 @@
 ghost use Rattle.std.specs.Prelude.{◌≡◌, ◌<◌, ◌-◌, ◌^◌, [], ◌∷◌, ◌++◌, length, take, drop, slice_get, Some, None, true, false, OnOk, OnErr};
 ghost use Rattle.std.specs.Option.{OnSome, option_copied, option_copied_mut};
 ghost use Rattle.ipc_terms.specs.Lists.{changed};
-ghost use Rattle.ipc_numbered.specs.Slots.{at, emptied, is_sparse};
+ghost use Rattle.ipc_numbered.specs.Slots.{at, emptied, is_sparse, IsNextFrom};
 
 use ipc_terms::NoMemory;
 use std::alloc::Global;
@@ -71,6 +71,18 @@ impl<V: Drop> Recent<V> {
     {
         let place = self.gone.saturating_add(slot);
         self.slots.get(place)?.as_ref()
+    }
+
+    /// The first slot from this one on that has a value. Looks at each slot in between.
+    pub fn next_from(&self, slot: usize) -> Option<usize>
+        ensures { IsNextFrom self.now slot result }
+    {
+        for next in slot..self.len() {
+            if self.get(next).is_some() {
+                return Some(next);
+            }
+        }
+        None
     }
 
     /// The value in the slot, if there is one, to be changed.

@@ -1,11 +1,11 @@
 -- Objects that stand at their numbers: what a look-up, a change, a push and a removal make of the list of their rows.
-use Rattle.std.proofs.Common.{◌≡◌, Bool, true, false, cond, ℕ, zero, suc, ◌+◌, ◌≤◌, ◌<◌, List, [], ◌∷◌, ◌++◌, Option, Some, None, refl, sym, ap, ◌∙◌, arith, find, length, option_map}
+use Rattle.std.proofs.Common.{◌≡◌, Bool, true, false, cond, ℕ, zero, suc, ◌+◌, ◌≤◌, ◌<◌, List, [], ◌∷◌, ◌++◌, Option, Some, None, refl, sym, ap, ◌∙◌, arith, find, drop, length, option_map}
 use Rattle.std.specs.List.{sum_by}
 use Rattle.std.proofs.lemmas.Bool.Decides.{nat_tests}
 use Rattle.std.proofs.lemmas.List.Elements.{filter_map-append}
 use Rattle.std.proofs.lemmas.List.Sums.{sum_by-cons}
 use Rattle.ipc_terms.specs.Lists.{changed, changed_first}
-use Rattle.ipc_numbered.specs.Slots.{at as slot_at, emptied}
+use Rattle.ipc_numbered.specs.Slots.{at as slot_at, emptied, NoneBetween, IsNextFrom}
 use Rattle.ipc_tables.specs.declared.rows.ObjectRow.{ObjectRow}
 use Rattle.ipc_tables.specs.Objects.{is_number}
 use Rattle.ipc_tables.specs.Standing.{rows_of, InPlace}
@@ -133,3 +133,34 @@ pub unchanged : (f : Option ObjectRow → Option ObjectRow) (slots : List (Optio
 unchanged f [] i none e = refl
 unchanged f (slot ∷ slots) zero none e = let same : slot ≡ None = e in ap (λ s. s ∷ slots) (ap f same ∙ none ∙ sym same)
 unchanged f (slot ∷ slots) (suc i) none e = ap (λ rest. slot ∷ rest) (unchanged f slots i none e)
+
+-- ---- the rows from a slot on
+
+-- those from the next that is filled
+pub rows_next : (slots : List (Option ObjectRow)) (from next : ℕ) (row : ObjectRow) → from ≤ next → slot_at slots next ≡ Some row → NoneBetween slots from next → rows_of (drop from slots) ≡ row ∷ rows_of (drop (suc next) slots)
+rows_next [] from next row le e none = absurd cc
+rows_next (slot ∷ slots) zero zero row le e none = ap (λ s. rows_of (s ∷ slots)) e
+rows_next (slot ∷ slots) zero (suc next) row le e none =
+    let empty : slot ≡ None = none 0 (omega arith) (omega arith) in
+    ap (λ s. rows_of (s ∷ slots)) empty ∙ rows_next slots 0 next row (omega arith) e (λ n above lt. none (suc n) (omega arith) (omega arith))
+rows_next (slot ∷ slots) (suc from) zero row le e none = absurd (omega arith)
+rows_next (slot ∷ slots) (suc from) (suc next) row le e none = rows_next slots from next row (omega arith) e (λ n above lt. none (suc n) (omega arith) (omega arith))
+
+-- where none is filled there are none
+pub rows_none : (slots : List (Option ObjectRow)) (from : ℕ) → ((n : ℕ) → from ≤ n → slot_at slots n ≡ None) → rows_of (drop from slots) ≡ []
+rows_none [] zero none = refl
+rows_none [] (suc from) none = refl
+rows_none (slot ∷ slots) zero none =
+    let empty : slot ≡ None = none 0 (omega arith) in
+    ap (λ s. rows_of (s ∷ slots)) empty ∙ rows_none slots 0 (λ n above. none (suc n) (omega arith))
+rows_none (slot ∷ slots) (suc from) none = rows_none slots from (λ n above. none (suc n) (omega arith))
+
+-- a sum over those from a slot on is what the next adds, and the sum over those behind it
+pub sum_next : (weight : ObjectRow → ℕ) (slots : List (Option ObjectRow)) (from next after : ℕ) (row : ObjectRow) → IsNextFrom slots from (Some next) → slot_at slots next ≡ Some row → after ≡ next + 1 → sum_by weight (rows_of (drop from slots)) ≡ weight row + sum_by weight (rows_of (drop after slots))
+sum_next weight slots from next after row is e behind =
+    let same : suc next ≡ after = omega arith in
+    ap (sum_by weight) (rows_next slots from next row is.0 e is.2 ∙ ap (λ n. row ∷ rows_of (drop n slots)) same) ∙ sum_by-cons weight row (rows_of (drop after slots))
+
+-- and nothing, where there is no next
+pub sum_none : (weight : ObjectRow → ℕ) (slots : List (Option ObjectRow)) (from : ℕ) → IsNextFrom slots from None → sum_by weight (rows_of (drop from slots)) ≡ 0
+sum_none weight slots from none = ap (sum_by weight) (rows_none slots from none)

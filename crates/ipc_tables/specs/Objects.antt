@@ -1,5 +1,6 @@
 -- Objects in their table, and what is looked up there.
-use Rattle.std.specs.Prelude.{Bool, ℕ, ◌<◌, ◌≤◌, ◌==◌, List, [], find, Option, Some, None, is_some, option_and_then, if◌then◌else◌}
+use Rattle.std.specs.Prelude.{Bool, ℕ, ◌-◌, ◌^◌, ◌<◌, ◌≤◌, ◌==◌, min, List, [], length, find, count_by, Option, Some, None, is_some, option_and_then, if◌then◌else◌}
+use Rattle.std.specs.List.{sum_by}
 use Rattle.std.specs.Option.{option_map}
 use Rattle.ipc_terms.specs.declared.facts.Facts.{Facts}
 use Rattle.ipc_terms.specs.declared.object.Kind.{Kind}
@@ -13,6 +14,7 @@ use Rattle.ipc_descr.specs.declared.row.Row.{Row}
 use Rattle.ipc_descr.specs.Descriptions.{is_desc}
 use Rattle.ipc_queue.specs.Tickets.{Tickets, withdrawn as withdrawn_call, without_registration}
 use Rattle.ipc_sem.specs.Counters.{Counter, withdrawn as withdrawn_wait}
+use Rattle.ipc_tables.specs.declared.counts.Counts.{Counts}
 use Rattle.ipc_tables.specs.declared.rows.Body.{Body}
 use Rattle.ipc_tables.specs.declared.rows.Body.TheVariants.{Queue as QueueBody, Semaphore as SemaphoreBody}
 use Rattle.ipc_tables.specs.declared.rows.ObjectRow.{ObjectRow}
@@ -31,6 +33,11 @@ queue_in (SemaphoreBody semaphore) = None
 abbrev pub semaphore_in : Body → Option Counter
 semaphore_in (QueueBody queue) = None
 semaphore_in (SemaphoreBody semaphore) = Some semaphore
+
+-- how many messages stand in it: none in a semaphore
+abbrev pub messages_in : Body → ℕ
+messages_in (QueueBody queue) = length queue.tickets
+messages_in (SemaphoreBody semaphore) = 0
 
 -- the queue changes
 abbrev pub with_body : (Tickets → Tickets) → Body → Body
@@ -68,6 +75,14 @@ is_number o row = row.number == o
 -- whether it is a queue
 abbrev pub is_queue : ObjectRow → Bool
 is_queue row = is_some (queue_in row.body)
+
+-- whether it is a semaphore
+abbrev pub is_semaphore : ObjectRow → Bool
+is_semaphore row = is_some (semaphore_in row.body)
+
+-- how many queues and semaphores these objects are, and how many messages stand in the queues, as far as a number of 64 bits tells
+abbrev pub counts_of : List ObjectRow → Counts
+counts_of objects = record { queues = count_by is_queue objects; semaphores = count_by is_semaphore objects; messages = min (sum_by (λ row. messages_in row.body) objects) (2 ^ 64 - 1) }
 
 -- the row of object o
 abbrev pub row_at : List ObjectRow → ℕ → Option ObjectRow

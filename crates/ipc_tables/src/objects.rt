@@ -2,11 +2,12 @@
 
 ghost use Rattle.std.specs.Prelude.{◌≡◌, map, filter, length};
 ghost use Rattle.std.specs.Option.{option_copied_mut};
-ghost use Rattle.ipc_tables.specs.Objects.{HasRoom, bytes_taken, queue_at, semaphore_at, with_held};
+ghost use Rattle.ipc_tables.specs.Objects.{HasRoom, bytes_taken, queue_at, semaphore_at, with_held, counts_of};
 ghost use Rattle.ipc_tables.specs.TablesView.{is_alive, is_kept};
 ghost use Rattle.ipc_tables.specs.Charging.{Covered, settled};
 ghost use Rattle.ipc_tables.specs.Standing.{rows_in, IsCounted, OthersKept, OthersHeld};
 
+use crate::counts::Counts;
 use crate::rows::ObjectRow;
 use ipc_descr::{Charges, Descrs, bytes_of};
 use ipc_names::NameDir;
@@ -52,6 +53,27 @@ impl Objects {
         ensures value { option_copied_mut result ≡ semaphore_at (rows_in self.old) object }
     {
         self.rows.get_mut(object as usize)?.body.semaphore_mut()
+    }
+
+    /// How many queues, semaphores and messages there are. Goes from each object that is alive to the next.
+    pub fn counts(&self) -> Counts
+        ensures { result ≡ counts_of (rows_in self.now) }
+    {
+        let end = self.rows.next_number();
+        let mut counts = Counts {
+            queues: 0,
+            semaphores: 0,
+            messages: 0,
+        };
+        let mut next = 0;
+        while let Some(number) = self.rows.next_from(next) {
+            let Some(row) = self.rows.get(number) else {
+                unreachable!();
+            };
+            counts.add(&row.body);
+            next = number + 1;
+        }
+        counts
     }
 
     /// Removes the object that was touched if nothing keeps it, and gives its creator back what it took.

@@ -7,11 +7,12 @@ ghost use Rattle.ipc_terms.specs.declared.ids.Family.TheVariants.{Mq, Sem as Sem
 ghost use Rattle.ipc_names.specs.Directory.{first_directory, object_named};
 ghost use Rattle.ipc_descr.specs.Descriptions.{is_desc, row_of};
 ghost use Rattle.ipc_tables.specs.Charging.{Covered, Affords};
-ghost use Rattle.ipc_tables.specs.Objects.{HasRoom, is_queue, row_at, queue_at, semaphore_at};
+ghost use Rattle.ipc_tables.specs.Objects.{HasRoom, is_queue, row_at, queue_at, semaphore_at, counts_of};
 ghost use Rattle.ipc_sem.specs.Counters.{overflows};
 ghost use Rattle.ipc_tables.specs.TablesView.{TablesView, directory_kept};
 ghost use Rattle.ipc_tables.specs.Steps.{with_object, with_binding, without_binding, after_post, after_wait, after_try, after_hello, after_umask, after_found, after_created, after_close, after_unlink, after_hangup, after_send, after_receive, after_withdrawal, after_setattr, after_hand_over, after_facts, after_limit, after_notify, first_tables};
 
+use crate::counts::Counts;
 use crate::objects::{Objects, bytes_taken};
 use crate::rows::{Body, ObjectRow, Session};
 use crate::sessions::Sessions;
@@ -111,6 +112,14 @@ impl Tables {
         ensures { option_copied result ≡ row_at self.now.objects number }
     {
         self.objects.rows.get(number as usize)
+    }
+
+    /// How many queues and semaphores are alive, and how many messages stand in the queues. Looks at each object that is
+    /// alive. Takes no memory.
+    pub fn counts(&self) -> Counts
+        ensures { result ≡ counts_of self.now.objects }
+    {
+        self.objects.counts()
     }
 
     /// The queue that the object is, while it is alive.

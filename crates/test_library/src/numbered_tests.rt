@@ -1,6 +1,6 @@
 //! Values at numbers, as a table of steps.
 
-use ipc_numbered::Numbered;
+use ipc_numbered::{Numbered, NumberedBoxes};
 use ipc_terms::NoMemory;
 use std::alloc::Global;
 use std::test::Fail;
@@ -200,4 +200,40 @@ fn all_give(alloc: Global, values: &mut Numbered<u32>, steps: &[Step]) -> Result
 fn worked_numbers(rt: HostRuntime) -> Result<(), Fail> {
     let mut values = Numbered::new(rt.alloc());
     all_give(rt.alloc(), &mut values, &STEPS)
+}
+
+#[test]
+fn the_next_of_few_and_of_many(rt: HostRuntime) -> Result<(), Fail> {
+    let mut values = Numbered::new(rt.alloc());
+    pushes_to(&mut values, 3)?;
+    values.take(0);
+    come_and_go(&mut values, 200)?;
+    assert_eq!(rt; values.next_from(0), Some(1));
+    assert_eq!(rt; values.next_from(2), Some(2));
+    assert_eq!(rt; values.next_from(3), None);
+    values.push(9)?;
+    assert_eq!(rt; values.next_from(3), Some(203));
+    Ok(())
+}
+
+#[test]
+fn the_next_of_boxes(rt: HostRuntime) -> Result<(), Fail> {
+    let mut boxes = NumberedBoxes::new(rt.alloc());
+    boxes.push(30)?;
+    boxes.push(10)?;
+    boxes.take(0);
+    assert_eq!(rt; boxes.next_from(0), Some(1));
+    assert_eq!(rt; boxes.next_from(2), None);
+    Ok(())
+}
+
+#[test]
+fn a_passed_number_is_given_a_value(rt: HostRuntime) -> Result<(), Fail> {
+    let mut values = Numbered::new(rt.alloc());
+    values.push_empty()?;
+    assert_eq!(rt; values.next_number(), 1);
+    assert_eq!(rt; values.get(0).copied(), None);
+    values.put(0, 7)?;
+    assert_eq!(rt; values.get(0).copied(), Some(7));
+    Ok(())
 }
