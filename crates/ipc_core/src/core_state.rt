@@ -125,6 +125,15 @@ impl Core {
         self.state.config()
     }
 
+    /// What there is after the events so far.
+    pub fn state(&self) -> &State
+        ensures config { result.now.config ≡ self.now.config }
+        ensures history { result.now.history ≡ self.now.history }
+        ensures first { result.now.first ≡ self.now.first }
+    {
+        &self.state
+    }
+
     /// Every event so far with its verdict, but for the records that were forgotten.
     #[inline(always)]
     pub fn trail(&self) -> &Trail

@@ -243,6 +243,13 @@ impl Hub {
         Ok(())
     }
 
+    /// The core of all connections.
+    pub fn core(&self) -> &Core
+        ensures { result.now ≡ self.now.core }
+    {
+        self.core.core()
+    }
+
     /// The trail of all connections.
     pub fn trail(&self) -> &Trail
         ensures history { result.now.history ≡ self.now.core.history }

@@ -3,7 +3,7 @@
 ghost use Rattle.std.specs.Prelude.{◌≡◌, [], true, None, OnOk, OnErr, IfOk, IfErr, MatchOption};
 ghost use Rattle.ipc_state.specs.Ranges.{first_bad};
 ghost use Rattle.ipc_hub.specs.Hub.{new_hub};
-ghost use Rattle.ipc_loop.specs.Ports.{open_at, port_at, NobodyIsForgotten, Continues};
+ghost use Rattle.ipc_loop.specs.Ports.{open_at, port_at, how_many_open, NobodyIsForgotten, Continues};
 ghost use Rattle.ipc_loop.specs.Bounds.{IsWithin};
 ghost use Rattle.ipc_loop.specs.Server.{is_over, EachClosedIsGone};
 ghost use Rattle.ipc_loop.specs.Asking.{AsksAll};
@@ -138,6 +138,20 @@ impl Server {
         ensures { result ≡ is_over self.now }
     {
         self.accepting.has_all(&self.ports) && self.ports.open() == 0
+    }
+
+    /// The hub over which links are served.
+    pub fn hub(&self) -> &Hub
+        ensures { result.now ≡ self.now.hub }
+    {
+        &self.hub
+    }
+
+    /// How many links are open.
+    pub fn connections(&self) -> usize
+        ensures { result ≡ how_many_open self.now.ports }
+    {
+        self.ports.open()
     }
 
     /// Which records are kept from now on. At first all are.

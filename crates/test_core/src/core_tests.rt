@@ -2,7 +2,7 @@
 
 use crate::cores::{config, core_of};
 use bitflags::Flags;
-use ipc_core::{Core, CoreFault, Field, Limits, laws};
+use ipc_core::{Core, CoreFault, Field, Limits, answers_of, laws};
 use ipc_terms::{Answer, Call, Desc, Event, Mode, NoMemory, OpenFlags, Rule, Sid, Uid};
 use std::alloc::Global;
 use std::mem;
@@ -100,8 +100,22 @@ fn posts(
     (caller, other): (Option<Sid>, Option<Sid>),
 ) -> Result<bool, Fail> {
     let asked = event(alloc, asked)?;
+    let told = answers_of(core.state(), alloc, &asked)?;
     let posted = core.post(alloc, asked)?;
-    Ok(posted.verdict == verdict && posted.caller == caller && posted.other == other)
+    Ok(
+        (posted.verdict == verdict && posted.caller == caller && posted.other == other)
+            && are_of(&told, (caller, other)),
+    )
+}
+
+/// Whether the answers are for these sessions.
+fn are_of(told: &[(Sid, Answer)], (caller, other): (Option<Sid>, Option<Sid>)) -> bool {
+    match told {
+        [] => caller.is_none() && other.is_none(),
+        [(first, _)] => caller == Some(*first) && other.is_none(),
+        [(first, _), (second, _)] => caller == Some(*first) && other == Some(*second),
+        _ => false,
+    }
 }
 
 /// A start, a refusal and the mask before.
