@@ -1,0 +1,5 @@
+pub mod Families
+pub mod Pages
+pub mod Requests
+pub mod Responses
+pub mod Processes
