@@ -81,6 +81,7 @@ rows:
 	@rows/servers.py
 	@rows/user_sockets.py
 	@rows/served_trails.py
+	@rows/metrics.py
 
 # Plays random scripts through a script and through a server, and compares every answer. `make ways SCRIPTS=1000` plays more.
 SCRIPTS = 50

@@ -6,7 +6,7 @@ use Rattle.std.proofs.lemmas.List.{get_or-set_same, get_or-set_other}
 use Rattle.ipc_terms.specs.declared.record.Record.{Record}
 use Rattle.ipc_log.specs.Fields.{verdict_code}
 use Rattle.ipc_history.specs.declared.counts.Counts.{Counts}
-use Rattle.ipc_history.specs.Counts.{how_many, is_call, is_session, is_refused_hello, calls, sessions, refused_hellos, with_verdict, AreCounts}
+use Rattle.ipc_history.specs.Counts.{how_many, is_call, is_session, is_refused_hello, is_end, calls, sessions, refused_hellos, ends, with_verdict, AreCounts}
 
 abbrev most : ℕ
 most = 2 ^ 64 - 1
@@ -43,23 +43,25 @@ verdict_more v k code n false e within is small =
 
 -- ---- all of them
 
-pub none_counted : (counts : Counts) → counts.calls ≡ 0 → counts.sessions ≡ 0 → counts.refused_hellos ≡ 0 → ((code : ℕ) → code < 34 → get_or counts.verdicts code 0 ≡ 0) → AreCounts counts []
-unfolding calls sessions refused_hellos with_verdict
-none_counted counts none_called none_began none_refused none_said =
-    record { calls_are = none_called; sessions_are = none_began; refused_are = none_refused; verdicts_are = none_said }
+pub none_counted : (counts : Counts) → counts.calls ≡ 0 → counts.sessions ≡ 0 → counts.refused_hellos ≡ 0 → counts.ended ≡ 0 → ((code : ℕ) → code < 34 → get_or counts.verdicts code 0 ≡ 0) → AreCounts counts []
+unfolding calls sessions refused_hellos ends with_verdict
+none_counted counts none_called none_began none_refused none_ended none_said =
+    record { calls_are = none_called; sessions_are = none_began; refused_are = none_refused; ended_are = none_ended; verdicts_are = none_said }
 
 pub one_counted : (old new : Counts) (r : Record) (h : List Record) (k raised : ℕ) → k < length old.verdicts → length h < 2 ^ 63 → AreCounts old h
     → new.calls ≡ cond (is_call r) (min (old.calls + 1) most) old.calls
     → new.sessions ≡ cond (is_session r) (min (old.sessions + 1) most) old.sessions
     → new.refused_hellos ≡ cond (is_refused_hello r) (min (old.refused_hellos + 1) most) old.refused_hellos
+    → new.ended ≡ cond (is_end r) (min (old.ended + 1) most) old.ended
     → k ≡ verdict_code r.rule → raised ≡ min (get_or old.verdicts k 0 + 1) most → new.verdicts ≡ set old.verdicts k raised
     → AreCounts new (r ∷ h)
-unfolding calls sessions refused_hellos with_verdict
-one_counted old new r h k raised within short are called began refused code is said =
+unfolding calls sessions refused_hellos ends with_verdict
+one_counted old new r h k raised within short are called began refused ended code is said =
     record {
       calls_are = called ∙ more is_call r h old.calls short are.calls_are;
       sessions_are = began ∙ more is_session r h old.sessions short are.sessions_are;
       refused_are = refused ∙ more is_refused_hello r h old.refused_hellos short are.refused_are;
+      ended_are = ended ∙ more is_end r h old.ended short are.ended_are;
       verdicts_are = λ i below. ap (λ (v : List ℕ). get_or v i 0) (said ∙ ap (λ (n : ℕ). set old.verdicts k n) is)
           ∙ verdict_more old.verdicts k i (how_many (λ x. eqb (verdict_code x.rule) i) h) (eqb (verdict_code r.rule) i) (ap (λ (n : ℕ). eqb n i) code)
           within (are.verdicts_are i below) (omega (arith, how_many_within (λ x. eqb (verdict_code x.rule) i) h, short));

@@ -7,7 +7,7 @@ use Rattle.ipc_program.specs.declared.tasks.Threading.{Threading}
 use Rattle.ipc_program.specs.declared.tasks.Threading.TheVariants.{OneThread, Workers}
 
 -- the path of the user file, the address, the permission bits of a socket's file, on what threads it serves, after how many
--- connections it ends, the path of the log, at which address its counts are had, after how many seconds each the log tells them, where
+-- connections it ends, the path of the log, at which address its numbers are read, how many seconds pass between two lines of them in the log, where
 -- the trail is written to, and the limits
 pub record Serving : Type 0 where
   pub users : List ℕ

@@ -115,7 +115,7 @@ abbrev pub is_one_thread : Threading → Bool
 is_one_thread (OneThread _ _) = true
 is_one_thread (Workers _) = false
 
--- at which address one thread tells its counts: that of one listener
+-- at which address the numbers of one thread are read: that of one listener
 abbrev pub metrics_at : Threading → Text → Meaning (Option Text)
 metrics_at threading address = if is_one_thread threading && is_endpoint address then Ok (Some address) else Err (codes "metrics")
 
@@ -123,7 +123,7 @@ metrics_at threading address = if is_one_thread threading && is_endpoint address
 abbrev pub metrics_given : Threading → List Row → Meaning (Option Text)
 metrics_given threading rows = option_map_or (metrics_at threading) (first_of (codes "metrics") rows) (Ok None)
 
--- counts are told by one thread that has a log, each second or less often
+-- numbers are logged by one thread that has a log, each second or less often
 abbrev pub tells_counts : Threading → List Row → ℕ → Bool
 tells_counts threading rows seconds = is_one_thread threading && has (codes "log") rows && nat_le 1 seconds
 

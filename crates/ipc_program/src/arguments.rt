@@ -60,10 +60,10 @@ const LOG_HELP: &str =
 const SOCKET_MODE_HELP: &str = "Permission bits of the file of unix:PATH [default: 0600]";
 
 const METRICS_HELP: &str =
-    "With --one-thread: where its counts are told, as 127.0.0.1:9100 or unix:/run/mqserve/metrics [default: nowhere]";
+    "With --one-thread: where its numbers are read, as 127.0.0.1:9100 or unix:/run/mqserve/metrics [default: nowhere]";
 
 const STATS_HELP: &str =
-    "With --one-thread and --log: seconds after which each the log tells its counts, 1 or more [default: never]";
+    "With --one-thread and --log: seconds between two lines of its numbers, 1 or more [default: 60]";
 
 const TRAIL_FILE_HELP: &str =
     "With --one-thread: where records are written before they are answered [default: nowhere]";

@@ -14,7 +14,7 @@ use clap::ArgMatches;
 use ipc_words::{WordFault, optional_number, optional_word};
 use std::alloc::Global;
 
-/// At which address a server on these threads tells its counts, if it does. Workers tell none.
+/// At which address the numbers of a server on these threads are read, if they are. Workers show none.
 pub fn metrics_of(
     alloc: Global,
     options: &ArgMatches,
@@ -32,7 +32,7 @@ pub fn metrics_of(
     Ok(Some(String::from_str(alloc, address)?))
 }
 
-/// After how many seconds each the log of a server on these threads tells its counts, if it does.
+/// How many seconds pass between two lines of numbers in the log of a server on these threads, if that is told.
 pub fn stats_of(options: &ArgMatches, threading: Threading) -> Result<Option<u64>, WordFault>
     ensures { Reads (stats_given threading (rows_of (found_of options.now))) result }
 {
@@ -45,7 +45,7 @@ pub fn stats_of(options: &ArgMatches, threading: Threading) -> Result<Option<u64
     }
 }
 
-/// Whether counts are told so often: by one thread, into a log.
+/// Whether numbers are logged so often: by one thread, into a log.
 fn tells_counts(options: &ArgMatches, threading: Threading, seconds: u64) -> bool
     ensures { result ≡ tells_counts threading (rows_of (found_of options.now)) seconds }
 {

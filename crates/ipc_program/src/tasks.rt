@@ -29,9 +29,9 @@ pub struct Serving {
     pub stop_after: Option<u64>,
     /// The path of the log, or `-`.
     pub log: Option<String>,
-    /// At which address its counts are had: `HOST:PORT`, or `unix:` and the path of a socket's file. Workers tell none.
+    /// At which address its numbers are read: `HOST:PORT`, or `unix:` and the path of a socket's file. Workers show none.
     pub metrics: Option<String>,
-    /// After how many seconds each, 1 or more, the log tells its counts. Workers tell none.
+    /// How many seconds, 1 or more, pass between two lines of numbers in the log. Workers write none.
     pub stats: Option<u64>,
     /// Where the trail is written to, if it is. Workers write none.
     pub trail: Option<TrailFile>,

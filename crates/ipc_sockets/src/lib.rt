@@ -13,6 +13,7 @@ mod link;
 mod listeners;
 mod locks;
 mod owners;
+mod scrapers;
 mod sockets;
 mod streams;
 

@@ -11,6 +11,7 @@ use crate::greeting::Greeting;
 use crate::lingering::LingeringStreams;
 use crate::link::Link;
 use crate::listeners::Listeners;
+use crate::scrapers::Scrapers;
 use crate::streams::Listener;
 use ipc_loop::{Ending, Host, Ready};
 use ipc_numbered::Numbered;
@@ -18,7 +19,7 @@ use ipc_terms::{Bytes, Uid};
 use ipc_trail::Trail;
 use mio::event::Event;
 use mio::net::UnixListener;
-use mio::{Events, Poll, Token};
+use mio::{Events, Poll, Registry, Token};
 use std::alloc::Global;
 use std::fs::File;
 use std::io;
@@ -27,6 +28,9 @@ use std::net::{Net, SocketAddr};
 use std::os::unix;
 use std::rt::Files;
 use std::time::{Clock, Duration};
+
+/// The permission bits of a file at which numbers are shown.
+const OWNER_S_MODE: u32 = 0o600;
 
 /// How many sources one wait tells of at most.
 const MOST_EVENTS: usize = 1_024;
@@ -40,6 +44,8 @@ pub struct Sockets<'a, R> {
     files: Option<SocketFiles>,
     /// By their numbers, of which none is used twice. None while its accept isn't done.
     links: Numbered<Option<Link>>,
+    /// Connections that ask for numbers, where they may.
+    scrapers: Option<Scrapers>,
     /// Links that were closed while bytes of their peers may have been unread.
     lingering: LingeringStreams,
     events: Events,
@@ -57,6 +63,7 @@ impl<R> Drop for Sockets<'_, R> {
             listeners: _listeners,
             files: _files,
             links: _links,
+            scrapers: _scrapers,
             lingering: _lingering,
             events: _events,
             ready: _ready,
@@ -113,6 +120,30 @@ impl<'a, R: Files<File = File> + Net> Sockets<'a, R> {
         }
     }
 
+    /// Shows numbers at `HOST:PORT`, the first that can be bound, or at `unix:PATH`, a file that its owner alone may open: whoever
+    /// connects there and asks for a page is told of by `is_asked`. An `Err` shows them nowhere, and leaves no file.
+    pub fn show_at(&mut self, alloc: Global, address: &str) -> io::Result<()>
+        ensures { beginnings self.new ≡ beginnings self.old }
+    {
+        let Some(path) = path_of(address) else {
+            let listener = Listener::over_tcp(self.rt, address)?;
+            self.scrapers = Some(Scrapers::new(alloc, self.poll.registry(), listener)?);
+            return Ok(());
+        };
+        let (listener, files) = listen_at_file(self.rt, alloc, path, OWNER_S_MODE)?;
+        match scrapers_of(alloc, self.poll.registry(), listener) {
+            Ok(mut scrapers) => {
+                scrapers.keep(files);
+                self.scrapers = Some(scrapers);
+                Ok(())
+            }
+            Err(error) => {
+                files.remove(self.rt);
+                Err(error)
+            }
+        }
+    }
+
     /// No socket yet, and room for so many listeners.
     fn without_listeners(rt: &'a R, alloc: Global, room: usize) -> io::Result<Self>
         ensures { IfOk result (λ sockets. beginnings sockets ≡ []) }
@@ -123,6 +154,7 @@ impl<'a, R: Files<File = File> + Net> Sockets<'a, R> {
             listeners: Listeners::new(alloc, room)?,
             files: None,
             links: Numbered::new(alloc),
+            scrapers: None,
             lingering: LingeringStreams::new(alloc)?,
             events: Events::with_capacity(alloc, MOST_EVENTS)?,
             ready: Vec::with_capacity(alloc, MOST_EVENTS)?,
@@ -195,6 +227,9 @@ impl<R: Files + Clock> Sockets<'_, R> {
         if let Some(files) = self.files.take() {
             files.remove(self.rt);
         }
+        if let Some(scrapers) = &mut self.scrapers {
+            scrapers.remove_files(self.rt);
+        }
         for _ in 0..u64::MAX {
             // Nobody is told any more.
             self.ready.clear();
@@ -214,10 +249,35 @@ impl<R> Sockets<'_, R> {
         }
     }
 
+    /// Whether somebody may be waiting to ask for numbers.
+    fn may_be_asked(&self) -> bool {
+        match &self.scrapers {
+            Some(scrapers) => scrapers.may_accept(),
+            None => false,
+        }
+    }
+
+    /// Whether somebody waits for the page of numbers.
+    pub fn is_asked(&self) -> bool {
+        match &self.scrapers {
+            Some(scrapers) => scrapers.is_asked(),
+            None => false,
+        }
+    }
+
     fn link(&mut self, number: u64) -> io::Result<&mut Link> {
         match self.links.get_mut(number as usize) {
             Some(Some(link)) => Ok(link),
             _ => Err(io::Error::from(ErrorKind::NotFound)),
+        }
+    }
+}
+
+impl<R: Clock> Sockets<'_, R> {
+    /// Answers who waits for the page of numbers.
+    pub fn show(&mut self, page: &str) {
+        if let Some(scrapers) = &mut self.scrapers {
+            scrapers.show(self.rt, page, &mut self.lingering);
         }
     }
 }
@@ -270,7 +330,7 @@ impl<R: Clock> Host for Sockets<'_, R> {
     }
 
     fn wait(&mut self, pause: Option<Duration>) -> io::Result<()> {
-        let pause = if self.ready.is_empty() {
+        let pause = if self.ready.is_empty() && !self.may_be_asked() {
             self.lingering.shorten(self.rt, pause)
         } else {
             // What is ready already is told at once.
@@ -278,8 +338,14 @@ impl<R: Clock> Host for Sockets<'_, R> {
         };
         self.poll.poll(&mut self.events, pause)?;
         for event in self.events.iter().rev() {
+            if is_scraper_s(event, &mut self.scrapers) {
+                continue;
+            }
             let found = ready(event, &mut self.listeners);
             keep(found, &self.links, &mut self.lingering, &mut self.ready)?;
+        }
+        if let Some(scrapers) = &mut self.scrapers {
+            scrapers.go_on(self.rt, self.poll.registry(), &mut self.lingering);
         }
         self.lingering.go_on(self.rt);
         Ok(())
@@ -292,6 +358,25 @@ impl<R: Clock> Host for Sockets<'_, R> {
     fn moment(&mut self) -> u64 {
         moment(self.rt)
     }
+}
+
+/// Notes what is ready of those that ask for numbers. Says whether it is theirs.
+fn is_scraper_s(event: &Event, scrapers: &mut Option<Scrapers>) -> bool {
+    match scrapers {
+        Some(scrapers) => scrapers.note(event.token().0 as u64),
+        None => false,
+    }
+}
+
+/// Those that come to this listener, which never waits from now on.
+fn scrapers_of(
+    alloc: Global,
+    registry: &Registry,
+    listener: unix::net::UnixListener,
+) -> io::Result<Scrapers> {
+    listener.set_nonblocking(true)?;
+    let listener = Listener::Unix(UnixListener::from_std(listener));
+    Scrapers::new(alloc, registry, listener)
 }
 
 /// Keeps what is to be told. A link that was closed may linger, and isn't told of.

@@ -1,5 +1,6 @@
 //! The log: a line for what becomes of each connection.
 
+use ipc_metrics::Numbers;
 use ipc_sockets::moment;
 use ipc_wire::WireFault;
 use std::alloc::Global;
@@ -75,6 +76,32 @@ fn tell_fault<R: Eprint>(rt: &R) {
 }
 
 impl<R: Print + Eprint + Wait + Clock> Log<'_, R> {
+    /// Whether lines are written.
+    pub fn is_kept(&self) -> bool {
+        let lines = self.lines.lock(self.rt);
+        !matches!(lines.sink, Sink::Nowhere)
+    }
+
+    /// So much is kept.
+    pub fn kept(&self, numbers: &Numbers) {
+        let mut lines = self.lines.lock(self.rt);
+        let records = format_args!("records={} bytes={}", numbers.kept, numbers.kept_bytes);
+        let Numbers {
+            sessions,
+            connections,
+            messages,
+            resident,
+            ..
+        } = numbers;
+        let objects = numbers.queues.saturating_add(numbers.semaphores);
+        self.write(
+            &mut lines,
+            format_args!(
+                "kept {records} sessions={sessions} connections={connections} objects={objects} messages={messages} resident={resident}"
+            ),
+        );
+    }
+
     /// A connection is served now. Its peer, where that is known.
     pub fn begun(&self, conn: u64, peer: Option<SocketAddr>) {
         let mut lines = self.lines.lock(self.rt);

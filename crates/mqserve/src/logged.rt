@@ -1,6 +1,10 @@
 //! What one thread tells the log.
 
+ghost use Rattle.std.specs.Option.{option_map, unwrap_or};
+
 use crate::log::{Log, words_of_fault};
+use crate::tally::Tally;
+use crate::watch::Watched;
 use ipc_loop::{Ending, Host, Ready};
 use ipc_sockets::Sockets;
 use ipc_terms::Uid;
@@ -14,10 +18,34 @@ use std::time::{Clock, Duration};
 pub struct LoggedSockets<'a, R> {
     pub sockets: Sockets<'a, R>,
     pub log: &'a Log<'a, R>,
+    /// What the records count up to, where somebody may want to know.
+    pub tally: Option<Tally>,
+    /// The moment by which a wait ends.
+    pub wake: Option<u64>,
+}
+
+impl<R: Clock> LoggedSockets<'_, R> {
+    /// The longest wait now.
+    fn shorten(&mut self, pause: Option<Duration>) -> Option<Duration> {
+        let Some(wake) = self.wake else {
+            return pause;
+        };
+        let left = Duration::from_millis(wake.saturating_sub(self.sockets.moment()));
+        match pause {
+            Some(pause) if pause < left => Some(pause),
+            _ => Some(left),
+        }
+    }
+}
+
+impl<'a, R: Print + Eprint + Wait + Clock> Watched<'a, R> for LoggedSockets<'a, R> {
+    fn logged(&mut self) -> &mut LoggedSockets<'a, R> {
+        self
+    }
 }
 
 impl<R: Print + Eprint + Wait + Clock> Host for LoggedSockets<'_, R> {
-    ghost spare = { λ _. 18446744073709551615 };
+    ghost spare = { λ h. unwrap_or (option_map (λ t. t.counted) h.tally) 18446744073709551615 };
 
     fn accept(&mut self, number: u64) -> io::Result<()> {
         self.sockets.accept(number)?;
@@ -39,11 +67,17 @@ impl<R: Print + Eprint + Wait + Clock> Host for LoggedSockets<'_, R> {
     }
 
     fn save(&mut self, trail: &Trail, link: Option<u64>) {
+        if let Some(tally) = &mut self.tally {
+            tally.go_on(trail);
+        }
         self.sockets.save(trail, link);
     }
 
     fn spare(&self) -> u64 {
-        self.sockets.spare()
+        match &self.tally {
+            Some(tally) => tally.counted(),
+            None => u64::MAX,
+        }
     }
 
     fn close(&mut self, number: u64, requests: u64, ending: Ending) {
@@ -53,6 +87,7 @@ impl<R: Print + Eprint + Wait + Clock> Host for LoggedSockets<'_, R> {
     }
 
     fn wait(&mut self, pause: Option<Duration>) -> io::Result<()> {
+        let pause = self.shorten(pause);
         self.sockets.wait(pause)
     }
 

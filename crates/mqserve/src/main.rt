@@ -9,7 +9,9 @@ mod logged;
 mod one_thread;
 mod saved;
 mod serving;
+mod tally;
 mod ticking;
+mod watch;
 
 use guidance::{help_text, hint};
 use ipc_core::Limits;

@@ -3,12 +3,14 @@
 use crate::log::open_log;
 use crate::logged::LoggedSockets;
 use crate::saved::SavedSockets;
+use crate::tally::Tally;
+use crate::watch::{Watch, Watched};
 use ipc_access::Users;
 use ipc_core::{Config, Core};
 use ipc_history::users_sum;
 use ipc_hub::Hub;
 use ipc_log::Head;
-use ipc_loop::{Host, Keeping, Server};
+use ipc_loop::{Keeping, Server};
 use ipc_program::{Kept, ProgramFault, Serving, TrailFile, say};
 use ipc_saving::{OldTrail, OpenTrail, find_old, replay_old};
 use ipc_script::ScriptFault;
@@ -46,11 +48,24 @@ pub fn serve_on_one_thread<
         Ok(sockets) => sockets,
         Err(error) => return Err(ProgramFault::of_address(&error)),
     };
-    let sockets = LoggedSockets { sockets, log: &log };
+    let sockets = LoggedSockets {
+        sockets,
+        log: &log,
+        tally: tally_of(serving, &server),
+        wake: None,
+    };
     match trail {
-        Some(trail) => serve_and_save(rt, address, &mut server, sockets, trail),
-        None => serve_only(rt, address, &mut server, sockets),
+        Some(trail) => serve_and_save(rt, serving, &mut server, sockets, trail),
+        None => serve_only(rt, serving, &mut server, sockets),
     }
+}
+
+/// Counts the records of a server whose numbers are shown or logged.
+fn tally_of(serving: &Serving, server: &Server) -> Option<Tally> {
+    if serving.metrics.is_none() && serving.log.is_none() {
+        return None;
+    }
+    Some(Tally::new(server.hub().recorded() as u64))
 }
 
 /// Whom the sockets at the address are of, where it is a folder of them.
@@ -133,13 +148,13 @@ fn head_of(alloc: Global, config: &Config) -> Result<Head, ProgramFault> {
 }
 
 /// Serves, and keeps the trail in memory alone.
-fn serve_only<R: Files + Print + Eprint + Wait + Clock>(
+fn serve_only<R: AllocGlobal + Files + Print + Eprint + Wait + Clock>(
     rt: &R,
-    address: &str,
+    serving: &Serving,
     server: &mut Server,
     mut sockets: LoggedSockets<'_, R>,
 ) -> Result<(), ProgramFault> {
-    let served = work(rt, address, server, &mut sockets);
+    let served = work(rt, serving, server, &mut sockets);
     sockets.sockets.finish();
     served
 }
@@ -147,7 +162,7 @@ fn serve_only<R: Files + Print + Eprint + Wait + Clock>(
 /// Serves, and puts the trail into a file, which is made or changed behind all that may fail before.
 fn serve_and_save<R: AllocGlobal + Files<File = File> + Print + Eprint + Wait + Clock>(
     rt: &R,
-    address: &str,
+    serving: &Serving,
     server: &mut Server,
     mut sockets: LoggedSockets<'_, R>,
     trail: Goal<'_>,
@@ -165,32 +180,45 @@ fn serve_and_save<R: AllocGlobal + Files<File = File> + Print + Eprint + Wait + 
         }
     };
     let mut sockets = SavedSockets::new(rt, rt.alloc(), sockets, trail);
-    let served = work(rt, address, server, &mut sockets);
+    let served = work(rt, serving, server, &mut sockets);
     sockets.finish();
     served
 }
 
-/// Listens at the address, or at the sockets of these users where it is a folder of them.
-fn bind<'a, R: AllocGlobal + Files<File = File> + Net>(
+/// Listens at the address, or at the sockets of these users where it is a folder of them, and shows numbers where that is asked for.
+/// An `Err` leaves no file.
+fn bind<'a, R: AllocGlobal + Files<File = File> + Net + Clock>(
     rt: &'a R,
     serving: &Serving,
     users: &[UserSocket],
 ) -> io::Result<Sockets<'a, R>> {
     let address = serving.address.as_str();
-    match folder_of(address) {
-        Some(folder) => Sockets::bind_for_users(rt, rt.alloc(), folder, users),
-        None => Sockets::bind(rt, rt.alloc(), address, serving.socket_mode),
+    let mut sockets = match folder_of(address) {
+        Some(folder) => Sockets::bind_for_users(rt, rt.alloc(), folder, users)?,
+        None => Sockets::bind(rt, rt.alloc(), address, serving.socket_mode)?,
+    };
+    if let Some(place) = &serving.metrics {
+        if let Err(error) = sockets.show_at(rt.alloc(), place.as_str()) {
+            sockets.finish();
+            return Err(error);
+        }
     }
+    Ok(sockets)
 }
 
 /// Says that connections are served, and serves them in rounds.
-fn work<R: Print + Wait, H: Host>(
+fn work<'a, R, H>(
     rt: &R,
-    address: &str,
+    serving: &Serving,
     server: &mut Server,
     sockets: &mut H,
-) -> Result<(), ProgramFault> {
-    say(rt, "serving", address)?;
+) -> Result<(), ProgramFault>
+where
+    R: AllocGlobal + Files + Print + Eprint + Wait + Clock + 'a,
+    H: Watched<'a, R>,
+{
+    say(rt, "serving", serving.address.as_str())?;
+    let mut watch = Watch::new(rt, serving.stats, server.hub().recorded());
     for _ in rt.forever() {
         if server.is_over() {
             return Ok(());
@@ -201,6 +229,7 @@ fn work<R: Print + Wait, H: Host>(
         if server.round(sockets).is_err() {
             return Err(ProgramFault::Net);
         }
+        watch.look(rt, server, sockets);
     }
     unreachable!()
 }

@@ -1,6 +1,10 @@
 //! Sockets of a server whose trail goes into a file.
 
+ghost use Rattle.std.specs.Prelude.{min};
+ghost use Rattle.std.specs.Option.{option_map, unwrap_or};
+
 use crate::logged::LoggedSockets;
+use crate::watch::Watched;
 use ipc_loop::{Ending, Host, Ready};
 use ipc_saving::OpenTrail;
 use ipc_terms::Uid;
@@ -131,9 +135,16 @@ impl<R: AllocGlobal + Files<File = File> + Eprint + Clock> SavedSockets<'_, R> {
     }
 }
 
+impl<'a, R: AllocGlobal + Files<File = File> + Print + Eprint + Wait + Clock> Watched<'a, R>
+    for SavedSockets<'a, R> {
+    fn logged(&mut self) -> &mut LoggedSockets<'a, R> {
+        &mut self.sockets
+    }
+}
+
 impl<R: AllocGlobal + Files<File = File> + Print + Eprint + Wait + Clock> Host
     for SavedSockets<'_, R> {
-    ghost spare = { λ h. h.saved };
+    ghost spare = { λ h. min h.saved (unwrap_or (option_map (λ t. t.counted) h.sockets.tally) 18446744073709551615) };
 
     fn accept(&mut self, number: u64) -> io::Result<()> {
         self.sockets.accept(number)
@@ -157,6 +168,7 @@ impl<R: AllocGlobal + Files<File = File> + Print + Eprint + Wait + Clock> Host
     }
 
     fn save(&mut self, trail: &Trail, link: Option<u64>) {
+        self.sockets.save(trail, link);
         self.made = trail.len() as u64;
         self.next = link;
         let writer = &mut self.trail.writer;
@@ -170,7 +182,7 @@ impl<R: AllocGlobal + Files<File = File> + Print + Eprint + Wait + Clock> Host
     }
 
     fn spare(&self) -> u64 {
-        self.saved
+        self.saved.min(self.sockets.spare())
     }
 
     fn close(&mut self, number: u64, requests: u64, ending: Ending) {
