@@ -8,6 +8,7 @@ Prints a line for each part. One that failed is told with the command that runs 
 import argparse
 import concurrent.futures
 import os
+import pathlib
 import re
 import shutil
 import subprocess
@@ -17,7 +18,8 @@ import time
 
 from programs import CRATES, NAMES, TOP, below, is_current, uses
 
-TESTS = ["test_scripts", "test_words", "test_core", "test_library", "test_server", "test_client", "test_log"]
+# Tests' crates that are built as one, since each build begins with all that lies below.
+TESTS = [["test_core", "test_library", "test_log"], ["test_scripts", "test_words", "test_client"], ["test_server"], ["test_metrics"]]
 # What a test may take: 60 seconds are too few for the longest ones beside other work.
 SECONDS = "600"
 # What a failed part is told of at most.
@@ -30,6 +32,7 @@ BY_PROVED = {
     "servers": "rows/servers.py",
     "users' sockets": "rows/user_sockets.py",
     "trails of servers": "rows/served_trails.py",
+    "numbers of servers": "rows/metrics.py",
     "random scripts two ways": "rows/two_ways.py",
     "demo": "demo/run.py",
     "clients": "make -ks --no-print-directory clients-test",
@@ -72,12 +75,36 @@ def command(words):
     return status == 0, last_line(out), said
 
 
-def tests(name):
-    """Runs the tests of a crate as `rt try` builds them."""
-    status, _, said = run("rt", "try", "--test", "--seconds", SECONDS, cwd=CRATES / name)
+def tests(names):
+    """Runs the tests of these crates as `rt try` builds them, in one crate where they are several."""
+    with tempfile.TemporaryDirectory(prefix="quick-") as room:
+        folder = together(names, pathlib.Path(room)) if len(names) > 1 else CRATES / names[0]
+        status, _, said = run("rt", "try", "--test", "--seconds", SECONDS, cwd=folder)
     counted = re.search(r"\d+ passed", said)
     wrong = [line for line in said.splitlines() if not line.endswith(" ok")]
     return status == 0, counted[0] if counted else "no test ran", "\n".join(wrong)
+
+
+def together(names, room):
+    """Makes a repository in which a crate `tests` has the tests of these crates, each in a module of its name. The others are
+    copies of those here."""
+    lines = (TOP / "crates.txt").read_text(encoding="utf-8").splitlines()
+    used = {word for line in lines if line.split(":")[0] in names for word in line.split(":")[1].split()}
+    (room / "crates.txt").write_text("\n".join([*lines, f"tests: {' '.join(sorted(used))}", ""]))
+    shutil.copy(TOP / "HANDLES", room)
+    sources = room / "crates" / "tests" / "src"
+    sources.mkdir(parents=True)
+    for crate in CRATES.iterdir():
+        shutil.copytree(crate, room / "crates" / crate.name, ignore=shutil.ignore_patterns("out", "must-fail", "data"))
+    for name in names:
+        shutil.copytree(CRATES / name / "src", sources / name)
+        for file in (sources / name).rglob("*.rt"):
+            file.write_text(re.sub(r"\bcrate::", f"crate::{name}::", file.read_text(encoding="utf-8")))
+        whole = (sources / name / "lib.rt").rename(sources / f"{name}.rt")
+        whole.write_text(whole.read_text(encoding="utf-8").replace("#![tactic(auto)]\n", ""))
+    modules = [f"#[cfg(test)]\nmod {name};\n" for name in names]
+    (sources / "lib.rt").write_text("".join(["//! Tests of several crates.\n#![tactic(auto)]\n", *modules]))
+    return room / "crates" / "tests"
 
 
 def streams():
@@ -105,8 +132,9 @@ def by_command(name, words):
     return Part(name, words, lambda: command(words))
 
 
-def tests_of(crate):
-    return Part(crate, f"cd crates/{crate} && rt try --test --seconds {SECONDS}", lambda: tests(crate))
+def tests_of(names):
+    alone = " && ".join(f"(cd crates/{name} && rt try --test --seconds {SECONDS})" for name in names)
+    return Part(", ".join(names), alone, lambda: tests(names))
 
 
 def parts_for(crate):
@@ -117,8 +145,9 @@ def parts_for(crate):
         yield proof_of(crate)
     for name in filter(stand_on_it, NAMES):
         yield by_command(f"rows of {name}", f"rows/tried.py {name}")
-    for name in filter(stand_on_it, TESTS):
-        yield tests_of(name)
+    for names in ([name for name in names if stand_on_it(name)] for names in TESTS):
+        if names:
+            yield tests_of(names)
     if stand_on_it("test_rows"):
         yield Part("streams", "tools/quick.py --part streams", streams)
     yield by_command("files of trails", "rows/trails.py --check")
