@@ -158,7 +158,8 @@ def numbers_of_a_life(programs, place):
         is_same("names and messages", "secret" in text, False)
         found = samples_of(text)
         wanted = {"mqserve_sessions": 2, "mqserve_connections": 2, 'mqserve_objects{family="mq"}': 1, 'mqserve_objects{family="sem"}': 1,
-                  "mqserve_messages": 2, "mqserve_charged_bytes": 10 * (48 + 8_192) + 48 * 10, "mqserve_records_kept": 8,
+                  "mqserve_messages": 2, "mqserve_message_bytes": sum(map(len, MESSAGES)),
+                  "mqserve_charged_bytes": 10 * (48 + 8_192) + 48 * 10, "mqserve_records_kept": 8,
                   "mqserve_records_total": 8, "mqserve_accepted_total": 6}
         for key, value in wanted.items():
             is_same(key, count(found, key), value)
@@ -192,6 +193,8 @@ def other_requests(programs, place):
             status, fields, body = parted(sent(place.numbers, request))
             is_same(f"status of {request[:20]}", (status, len(body)), (wanted, int(fields["Content-Length"])))
             is_same("what is allowed", fields.get("Allow"), "GET, HEAD" if wanted == 405 else None)
+        status, fields, body = parted(sent(place.numbers, b"HEAD / HTTP/1.1\r\n\r\n"))
+        is_same("HEAD of another path", (status, body, int(fields["Content-Length"]) > 0), (404, b"", True))
         connect(place.address).close()
         ends(server, 1)
 

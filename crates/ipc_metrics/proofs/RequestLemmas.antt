@@ -9,7 +9,7 @@ use Rattle.httparse.specs.declared.spans.HeaderSpan.{HeaderSpan}
 use Rattle.httparse.specs.declared.spans.RequestSpans.{RequestSpans}
 use Rattle.ipc_metrics.specs.Requests.{Asks, HeadAsks, asked_for, is_page}
 use Rattle.ipc_metrics.specs.declared.asked.Asked.{Asked}
-use Rattle.ipc_metrics.specs.declared.asked.Asked.TheVariants.{Unfinished, Page, PageHead, OtherPath, OtherMethod, Malformed, TooLong}
+use Rattle.ipc_metrics.specs.declared.asked.Asked.TheVariants.{Unfinished, Page, PageHead, OtherPath, OtherPathHead, OtherMethod, Malformed, TooLong}
 
 -- the answer is one to a whole head
 abbrev pub is_of_head : Asked → Bool
@@ -19,7 +19,7 @@ is_of_head TooLong = false
 is_of_head _ = true
 
 of_choice : (get head page : Bool)
-    → is_of_head (cond get (cond page Page OtherPath) (cond head (cond page PageHead OtherPath) OtherMethod)) ≡ true
+    → is_of_head (cond get (cond page Page OtherPath) (cond head (cond page PageHead OtherPathHead) OtherMethod)) ≡ true
 of_choice true head true = refl
 of_choice true head false = refl
 of_choice false true true = refl
@@ -37,6 +37,7 @@ asks_of_head bytes Unfinished found = absurd (no_head Unfinished bytes refl foun
 asks_of_head bytes Page found = found
 asks_of_head bytes PageHead found = found
 asks_of_head bytes OtherPath found = found
+asks_of_head bytes OtherPathHead found = found
 asks_of_head bytes OtherMethod found = found
 asks_of_head bytes Malformed found = absurd (no_head Malformed bytes refl found)
 asks_of_head bytes TooLong found = absurd (no_head TooLong bytes refl found)

@@ -28,6 +28,7 @@ families =
     ∷ family (codes "mqserve_connections") (codes "Connections that are open.") Gauge show.Connections
     ∷ family (codes "mqserve_objects") (codes "Queues (mq) and semaphores (sem) that exist.") Gauge show.Objects
     ∷ family (codes "mqserve_messages") (codes "Messages that stand in queues.") Gauge show.Messages
+    ∷ family (codes "mqserve_message_bytes") (codes "Bytes of the messages that stand in queues.") Gauge show.MessageBytes
     ∷ family (codes "mqserve_charged_bytes") (codes "Bytes that queues take of their creators' limits.") Gauge show.ChargedBytes
     ∷ family (codes "mqserve_records_kept") (codes "Records of the trail that are kept in memory.") Gauge show.Kept
     ∷ family (codes "mqserve_record_bytes") (codes "Bytes of the records that are kept in memory.") Gauge show.KeptBytes

@@ -5,7 +5,7 @@ use Rattle.ipc_terms.specs.Rules.{every_rule, error_word, name_word, number_of}
 use Rattle.ipc_terms.specs.declared.rule.Rule.{Rule}
 use Rattle.ipc_metrics.specs.Families.{Family, families, kind_word}
 use Rattle.ipc_metrics.specs.declared.families.Samples.{Samples}
-use Rattle.ipc_metrics.specs.declared.families.Samples.TheVariants.{Sessions, Connections, Objects, Messages, ChargedBytes, Kept, KeptBytes, Recorded, Accepted, Refused, Rounds, ProcessorSeconds, Resident}
+use Rattle.ipc_metrics.specs.declared.families.Samples.TheVariants.{Sessions, Connections, Objects, Messages, MessageBytes, ChargedBytes, Kept, KeptBytes, Recorded, Accepted, Refused, Rounds, ProcessorSeconds, Resident}
 use Rattle.ipc_metrics.specs.declared.numbers.Numbers.{Numbers}
 
 -- a sample: a name, with or without labels, and a value
@@ -41,6 +41,7 @@ samples_text numbers Connections name = sample name numbers.connections
 samples_text numbers Objects name =
     labelled name (codes "family=\"mq\"") numbers.queues ++ labelled name (codes "family=\"sem\"") numbers.semaphores
 samples_text numbers Messages name = sample name numbers.messages
+samples_text numbers MessageBytes name = sample name numbers.message_bytes
 samples_text numbers ChargedBytes name = sample name numbers.charged_bytes
 samples_text numbers Kept name = sample name numbers.kept
 samples_text numbers KeptBytes name = sample name numbers.kept_bytes

@@ -4,7 +4,7 @@ use Rattle.std.specs.Str.{bytes_eq}
 use Rattle.httparse.specs.Grammar.{HasNoRequest, MayBecomeRequest, NeverHasRequest, ReadsRequest, RequestHead}
 use Rattle.httparse.specs.Spans.{RequestExceeds}
 use Rattle.ipc_metrics.specs.declared.asked.Asked.{Asked}
-use Rattle.ipc_metrics.specs.declared.asked.Asked.TheVariants.{Unfinished, Page, PageHead, OtherPath, OtherMethod, Malformed, TooLong}
+use Rattle.ipc_metrics.specs.declared.asked.Asked.TheVariants.{Unfinished, Page, PageHead, OtherPath, OtherPathHead, OtherMethod, Malformed, TooLong}
 
 -- `/metrics`, with or without a query
 abbrev pub is_page : List ℕ → Bool
@@ -14,7 +14,7 @@ is_page target = bytes_eq (take 8 target) (codes "/metrics") && (length target =
 abbrev pub asked_for : List ℕ → List ℕ → Asked
 asked_for method target =
     if bytes_eq method (codes "GET") then (if is_page target then Page else OtherPath)
-    else if bytes_eq method (codes "HEAD") then (if is_page target then PageHead else OtherPath)
+    else if bytes_eq method (codes "HEAD") then (if is_page target then PageHead else OtherPathHead)
     else OtherMethod
 
 -- what bytes that are no whole head yet ask for
@@ -34,4 +34,5 @@ Asks bytes TooLong = RequestExceeds 32 bytes ⊎ (HasNoRequest bytes × MayBecom
 Asks bytes Page = HeadAsks bytes Page
 Asks bytes PageHead = HeadAsks bytes PageHead
 Asks bytes OtherPath = HeadAsks bytes OtherPath
+Asks bytes OtherPathHead = HeadAsks bytes OtherPathHead
 Asks bytes OtherMethod = HeadAsks bytes OtherMethod

@@ -2,13 +2,14 @@
 use Rattle.std.specs.Prelude.{ℕ, List, [], ◌++◌, length, codes}
 use Rattle.std.specs.Fmt.{decimal}
 use Rattle.ipc_metrics.specs.declared.asked.Asked.{Asked}
-use Rattle.ipc_metrics.specs.declared.asked.Asked.TheVariants.{Unfinished, Page, PageHead, OtherPath, OtherMethod, Malformed, TooLong}
+use Rattle.ipc_metrics.specs.declared.asked.Asked.TheVariants.{Unfinished, Page, PageHead, OtherPath, OtherPathHead, OtherMethod, Malformed, TooLong}
 
 -- the status line
 unfoldable pub status_line : Asked → List ℕ
 status_line Page = codes "HTTP/1.1 200 OK\r\n"
 status_line PageHead = codes "HTTP/1.1 200 OK\r\n"
 status_line OtherPath = codes "HTTP/1.1 404 Not Found\r\n"
+status_line OtherPathHead = codes "HTTP/1.1 404 Not Found\r\n"
 status_line OtherMethod = codes "HTTP/1.1 405 Method Not Allowed\r\n"
 status_line Malformed = codes "HTTP/1.1 400 Bad Request\r\n"
 status_line TooLong = codes "HTTP/1.1 431 Request Header Fields Too Large\r\n"
@@ -40,14 +41,16 @@ unfoldable pub body_of : Asked → List ℕ → List ℕ
 body_of Page page = page
 body_of PageHead page = page
 body_of OtherPath page = codes "the page is /metrics\n"
+body_of OtherPathHead page = codes "the page is /metrics\n"
 body_of OtherMethod page = codes "only GET and HEAD are answered\n"
 body_of Malformed page = codes "this is no request\n"
 body_of TooLong page = codes "the request's head is too long\n"
 body_of Unfinished page = codes "the request's head did not come in time\n"
 
--- what is sent of the body: nothing where the page's head alone is asked for
+-- what is sent of the body: nothing where a head alone is asked for
 abbrev pub sent_body : Asked → List ℕ → List ℕ
 sent_body PageHead body = []
+sent_body OtherPathHead body = []
 sent_body _ body = body
 
 -- the whole response

@@ -23,6 +23,8 @@ pub enum Asked {
     /// The page's head alone.
     PageHead,
     OtherPath,
+    /// The head alone of another path.
+    OtherPathHead,
     OtherMethod,
     /// Whatever follows, it is no request.
     Malformed,
@@ -65,7 +67,8 @@ fn asked_for(method: &[u8], target: &[u8]) -> Asked
     match method {
         b"GET" if is_page(target) => Asked::Page,
         b"HEAD" if is_page(target) => Asked::PageHead,
-        b"GET" | b"HEAD" => Asked::OtherPath,
+        b"GET" => Asked::OtherPath,
+        b"HEAD" => Asked::OtherPathHead,
         _ => Asked::OtherMethod,
     }
 }

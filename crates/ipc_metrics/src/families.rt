@@ -30,6 +30,7 @@ pub enum Samples {
     /// A sample for queues, and one for semaphores.
     Objects,
     Messages,
+    MessageBytes,
     ChargedBytes,
     Kept,
     KeptBytes,
@@ -52,7 +53,7 @@ pub struct Family {
 }
 
 /// All families, in the order of the page.
-pub static FAMILIES: [Family; 13] = [
+pub static FAMILIES: [Family; 14] = [
     Family {
         name: "mqserve_sessions",
         help: "Sessions that live.",
@@ -76,6 +77,12 @@ pub static FAMILIES: [Family; 13] = [
         help: "Messages that stand in queues.",
         kind: Kind::Gauge,
         samples: Samples::Messages,
+    },
+    Family {
+        name: "mqserve_message_bytes",
+        help: "Bytes of the messages that stand in queues.",
+        kind: Kind::Gauge,
+        samples: Samples::MessageBytes,
     },
     Family {
         name: "mqserve_charged_bytes",

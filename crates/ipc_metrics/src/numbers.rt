@@ -14,6 +14,8 @@ pub struct Numbers {
     pub semaphores: u64,
     /// The messages that stand in queues.
     pub messages: u64,
+    /// Their bytes.
+    pub message_bytes: u64,
     /// The bytes that queues take of their creators' limits.
     pub charged_bytes: u64,
     /// The records that were ever made, those that are kept, and the bytes of these.

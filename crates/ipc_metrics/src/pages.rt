@@ -55,6 +55,7 @@ fn put_samples(text: &mut String, family: &Family, numbers: &Numbers) -> Result<
         Samples::Connections => put_sample(text, name, numbers.connections),
         Samples::Objects => put_objects(text, name, numbers),
         Samples::Messages => put_sample(text, name, numbers.messages),
+        Samples::MessageBytes => put_sample(text, name, numbers.message_bytes),
         Samples::ChargedBytes => put_sample(text, name, numbers.charged_bytes),
         Samples::Kept => put_sample(text, name, numbers.kept),
         Samples::KeptBytes => put_sample(text, name, numbers.kept_bytes),

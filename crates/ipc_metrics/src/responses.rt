@@ -12,14 +12,14 @@ use std::alloc::{AllocError, Global};
 const CONTENT_TYPE: &str = "text/plain; version=0.0.4; charset=utf-8";
 
 /// The whole response, behind which the connection ends: to what asks for the page this page, and else a line that says what
-/// is wrong. `PageHead` alone has no body: no other answer tells a HEAD from a GET.
+/// is wrong. What answers a HEAD has no body (RFC 9110, 9.3.2).
 pub fn response(alloc: Global, asked: Asked, page: &str) -> Result<Vec<u8>, NoMemory>
     ensures { IfOk result (λ bytes. bytes.items ≡ response_text asked page.now) }
 {
     let mut text = String::new(alloc);
     let body = body_of(asked, page);
     put_head(&mut text, asked, body.len())?;
-    if asked != Asked::PageHead {
+    if !matches!(asked, Asked::PageHead | Asked::OtherPathHead) {
         text.push_str(body)?;
     }
     Ok(text.into_bytes())
@@ -79,7 +79,7 @@ fn status_line(asked: Asked) -> &'static str
 {
     match asked {
         Asked::Page | Asked::PageHead => "HTTP/1.1 200 OK\r\n",
-        Asked::OtherPath => "HTTP/1.1 404 Not Found\r\n",
+        Asked::OtherPath | Asked::OtherPathHead => "HTTP/1.1 404 Not Found\r\n",
         Asked::OtherMethod => "HTTP/1.1 405 Method Not Allowed\r\n",
         Asked::Malformed => "HTTP/1.1 400 Bad Request\r\n",
         Asked::TooLong => "HTTP/1.1 431 Request Header Fields Too Large\r\n",
@@ -94,7 +94,7 @@ fn body_of(asked: Asked, page: &str) -> &str
 {
     match asked {
         Asked::Page | Asked::PageHead => page,
-        Asked::OtherPath => "the page is /metrics\n",
+        Asked::OtherPath | Asked::OtherPathHead => "the page is /metrics\n",
         Asked::OtherMethod => "only GET and HEAD are answered\n",
         Asked::Malformed => "this is no request\n",
         Asked::TooLong => "the request's head is too long\n",

@@ -1,6 +1,7 @@
 -- Where messages stand in buckets by priority, and what an entry or a leaving does to it.
 use Rattle.std.proofs.Common.{◌≡◌, ⊎_elim, ℕ, ◌==◌, ◌<◌, Bool, true, false, cond, nat_lt, ◌&&◌, List, [], ◌∷◌, ◌++◌, length, drop, Option, Some, None, refl, sym, ap, ◌∙◌, arith}
 use Rattle.std.proofs.lemmas.Bool.{eqb-true, eqb-false, eq-eqb, ne_eqb, ltb-true, ltb-false, cases_lt}
+use Rattle.std.specs.Prelude.{filter}
 use Rattle.ipc_terms.specs.Lists.{without_first}
 use Rattle.ipc_waiters.specs.Buckets.{IsFirstOfGreatest}
 use Rattle.ipc_queue.specs.declared.queue.Ticket.{Ticket}
@@ -13,6 +14,10 @@ abbrev priority_of : Ticket → ℕ
 priority_of t = t.priority
 
 -- ---- the tickets of a priority
+pub priority_filtered : (q : ℕ) (ts : List Ticket) → filter (λ t. q == t.priority) ts ≡ of_priority q ts
+priority_filtered q [] = refl
+priority_filtered q (t ∷ ts) = ap (λ l. cond (q == t.priority) (t ∷ l) l) (priority_filtered q ts)
+
 -- one more ticket at the end
 pub priority_push : (q : ℕ) (ts : List Ticket) (t : Ticket) → of_priority q (ts ++ t ∷ []) ≡ cond (q == t.priority) (of_priority q ts ++ t ∷ []) (of_priority q ts)
 priority_push q [] t = refl

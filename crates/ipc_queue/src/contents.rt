@@ -1,8 +1,8 @@
 //! The messages of a queue.
 
-ghost use Rattle.std.specs.Prelude.{◌≡◌, ◌<◌, ◌^◌, [], ◌∷◌, ◌++◌, length, Some, IfOk, OnOk, OnErr};
+ghost use Rattle.std.specs.Prelude.{◌≡◌, ◌<◌, ◌-◌, ◌^◌, min, [], ◌∷◌, ◌++◌, length, Some, IfOk, OnOk, OnErr};
 ghost use Rattle.std.specs.Option.{option_copied};
-ghost use Rattle.ipc_queue.specs.Tickets.{next_ticket, next_place, without_next};
+ghost use Rattle.ipc_queue.specs.Tickets.{bytes_in, next_ticket, next_place, without_next};
 
 use crate::queue::Ticket;
 use ipc_terms::NoMemory;
@@ -63,6 +63,13 @@ impl Contents {
         ensures { result ≡ length self.now }
     {
         self.count
+    }
+
+    /// How many bytes they have in all: 2^64 - 1 where there are more. Looks at each.
+    pub fn bytes(&self) -> u64
+        ensures { result ≡ min (bytes_in self.now) (2 ^ 64 - 1) }
+    {
+        self.buckets.size()
     }
 
     /// The one that comes out next.

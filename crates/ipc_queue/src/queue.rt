@@ -1,13 +1,13 @@
 //! The queue.
 
-ghost use Rattle.std.specs.Prelude.{◌≡◌, ◌<◌, ◌≤◌, ◌^◌, [], None, is_none, length, OnOk, OnErr, IfOk, IsOk};
+ghost use Rattle.std.specs.Prelude.{◌≡◌, ◌<◌, ◌≤◌, ◌-◌, ◌^◌, min, [], None, is_none, length, OnOk, OnErr, IfOk, IsOk};
 ghost use Rattle.std.specs.Option.{option_copied, option_map};
 ghost use Rattle.ipc_terms.specs.Lists.{first};
-ghost use Rattle.ipc_queue.specs.Tickets.{IsQueue, next_ticket, next_place, is_full_of, fired, outcome_by_receiver, send_outcome, sent_to, sent, receive_outcome, received, is_parked, withdrawn, with_registration, without_registration};
+ghost use Rattle.ipc_queue.specs.Tickets.{IsQueue, bytes_in, next_ticket, next_place, is_full_of, fired, outcome_by_receiver, send_outcome, sent_to, sent, receive_outcome, received, is_parked, withdrawn, with_registration, without_registration};
 
 use crate::contents::Contents;
 use ipc_terms::{Bytes, Desc, NoMemory, Sid};
-use ipc_waiters::{Waiters, Waiting};
+use ipc_waiters::{Measured, Waiters, Waiting};
 use std::alloc::{AllocError, Global};
 use std::marker::Model;
 
@@ -28,6 +28,15 @@ impl Clone for Ticket {
             priority: self.priority,
             bytes: self.bytes.clone()?,
         })
+    }
+}
+
+impl Measured for Ticket {
+    ghost size = { λ ticket. length ticket.bytes };
+
+    /// The bytes of its message.
+    fn size(&self) -> u64 {
+        self.bytes.as_slice().len() as u64
     }
 }
 
@@ -312,6 +321,14 @@ impl Queue {
         // Reading it tells that it is below 2^32, as `fits` wants.
         let _most = self.maxmsg;
         self.contents.len()
+    }
+
+    /// How many bytes the messages of the queue have in all, without those of parked sends: 2^64 - 1 where there are more.
+    /// Looks at each message.
+    pub fn bytes(&self) -> u64
+        ensures { result ≡ min (bytes_in self.now.tickets) (2 ^ 64 - 1) }
+    {
+        self.contents.bytes()
     }
 
     /// Whether the queue has as many messages as it may. An empty queue is never full.

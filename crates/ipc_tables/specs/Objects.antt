@@ -12,7 +12,7 @@ use Rattle.ipc_terms.specs.declared.ids.Sid.{Sid}
 use Rattle.ipc_terms.specs.declared.ids.Desc.{Desc}
 use Rattle.ipc_descr.specs.declared.row.Row.{Row}
 use Rattle.ipc_descr.specs.Descriptions.{is_desc}
-use Rattle.ipc_queue.specs.Tickets.{Tickets, withdrawn as withdrawn_call, without_registration}
+use Rattle.ipc_queue.specs.Tickets.{Tickets, bytes_in, withdrawn as withdrawn_call, without_registration}
 use Rattle.ipc_sem.specs.Counters.{Counter, withdrawn as withdrawn_wait}
 use Rattle.ipc_tables.specs.declared.counts.Counts.{Counts}
 use Rattle.ipc_tables.specs.declared.rows.Body.{Body}
@@ -38,6 +38,11 @@ semaphore_in (SemaphoreBody semaphore) = Some semaphore
 abbrev pub messages_in : Body → ℕ
 messages_in (QueueBody queue) = length queue.tickets
 messages_in (SemaphoreBody semaphore) = 0
+
+-- and how many bytes they have in all
+abbrev pub bytes_of_messages : Body → ℕ
+bytes_of_messages (QueueBody queue) = bytes_in queue.tickets
+bytes_of_messages (SemaphoreBody semaphore) = 0
 
 -- the queue changes
 abbrev pub with_body : (Tickets → Tickets) → Body → Body
@@ -80,9 +85,9 @@ is_queue row = is_some (queue_in row.body)
 abbrev pub is_semaphore : ObjectRow → Bool
 is_semaphore row = is_some (semaphore_in row.body)
 
--- how many queues and semaphores these objects are, and how many messages stand in the queues, as far as a number of 64 bits tells
+-- how many queues and semaphores these objects are, and how many messages stand in the queues, with how many bytes, as far as a number of 64 bits tells
 abbrev pub counts_of : List ObjectRow → Counts
-counts_of objects = record { queues = count_by is_queue objects; semaphores = count_by is_semaphore objects; messages = min (sum_by (λ row. messages_in row.body) objects) (2 ^ 64 - 1) }
+counts_of objects = record { queues = count_by is_queue objects; semaphores = count_by is_semaphore objects; messages = min (sum_by (λ row. messages_in row.body) objects) (2 ^ 64 - 1); bytes = min (sum_by (λ row. bytes_of_messages row.body) objects) (2 ^ 64 - 1) }
 
 -- the row of object o
 abbrev pub row_at : List ObjectRow → ℕ → Option ObjectRow

@@ -55,7 +55,8 @@ impl Objects {
         self.rows.get_mut(object as usize)?.body.semaphore_mut()
     }
 
-    /// How many queues, semaphores and messages there are. Goes from each object that is alive to the next.
+    /// How many queues, semaphores and messages there are, and how many bytes the messages have. Goes from each object that is
+    /// alive to the next, and looks at each message.
     pub fn counts(&self) -> Counts
         ensures { result ≡ counts_of (rows_in self.now) }
     {
@@ -64,6 +65,7 @@ impl Objects {
             queues: 0,
             semaphores: 0,
             messages: 0,
+            bytes: 0,
         };
         let mut next = 0;
         while let Some(number) = self.rows.next_from(next) {

@@ -114,8 +114,8 @@ impl Tables {
         self.objects.rows.get(number as usize)
     }
 
-    /// How many queues and semaphores are alive, and how many messages stand in the queues. Looks at each object that is
-    /// alive. Takes no memory.
+    /// How many queues and semaphores are alive, and how many messages stand in the queues, with how many bytes. Looks at each
+    /// object that is alive, and at each message. Takes no memory.
     pub fn counts(&self) -> Counts
         ensures { result ≡ counts_of self.now.objects }
     {

@@ -1,9 +1,11 @@
 //! The items of one key.
 
-ghost use Rattle.std.specs.Prelude.{◌≡◌, ◌↔◌, [], ◌∷◌, ◌++◌, drop, IsTrue, OnOk, OnErr, IsOk};
+ghost use Rattle.std.specs.Prelude.{◌≡◌, ◌↔◌, ◌-◌, ◌^◌, min, [], ◌∷◌, ◌++◌, drop, IsTrue, OnOk, OnErr, IsOk};
+ghost use Rattle.std.specs.List.{sum_by};
 ghost use Rattle.std.specs.Option.{option_copied};
 ghost use Rattle.ipc_terms.specs.Lists.{first};
 
+use crate::measured::Measured;
 use ipc_terms::NoMemory;
 use std::alloc::Global;
 use std::collections::VecDeque;
@@ -75,5 +77,21 @@ impl<T: Drop> Bucket<T> {
         ensures { IsTrue result ↔ (self.now ≡ []) }
     {
         self.first.is_none()
+    }
+}
+
+impl<T: Measured + Drop> Bucket<T> {
+    /// How large all items are together: 2^64 - 1 where it is more. Looks at each.
+    pub fn size(&self) -> u64
+        ensures { result ≡ min (sum_by T.size self.now) (2 ^ 64 - 1) }
+    {
+        let mut size = match &self.first {
+            Some(item) => item.size(),
+            None => 0,
+        };
+        for item in self.others.iter() {
+            size = size.saturating_add(item.size());
+        }
+        size
     }
 }

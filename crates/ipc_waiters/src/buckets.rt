@@ -1,11 +1,13 @@
 //! Items in buckets.
 
-ghost use Rattle.std.specs.Prelude.{◌≡◌, ◌==◌, ℕ, List, [], None, if◌then◌else◌, OnOk, OnErr};
+ghost use Rattle.std.specs.Prelude.{◌≡◌, ◌==◌, ◌-◌, ◌^◌, min, ℕ, List, [], filter, None, if◌then◌else◌, OnOk, OnErr};
+ghost use Rattle.std.specs.List.{sum_by};
 ghost use Rattle.std.specs.Option.{unwrap_or, option_copied, option_map};
 ghost use Rattle.ipc_terms.specs.Lists.{first};
 ghost use Rattle.ipc_waiters.specs.Buckets.{bucket_at, with_last, without_front, OthersAreFilled, EmptyStandsAlone, Holds, IsFirstOfGreatest, IsGreatestLeft};
 
 use crate::bucket::Bucket;
+use crate::measured::Measured;
 use ipc_terms::NoMemory;
 use std::alloc::Global;
 use std::collections::BTreeMap;
@@ -108,5 +110,18 @@ impl<T: Drop> Buckets<T> {
         let (key, bucket) = self.buckets.last_key_value()?;
         let item = bucket.first()?;
         Some((*key, item))
+    }
+}
+
+impl<T: Measured + Drop> Buckets<T> {
+    /// How large all items are together: 2^64 - 1 where it is more. Looks at each. Takes no memory.
+    pub fn size(&self) -> u64
+        ensures { (key_of : T → ℕ) (all : List T) → Holds self.now (λ key. filter (λ item. key == key_of item) all) → result ≡ min (sum_by T.size all) (2 ^ 64 - 1) }
+    {
+        let mut size = 0u64;
+        for bucket in self.buckets.values() {
+            size = size.saturating_add(bucket.size());
+        }
+        size
     }
 }

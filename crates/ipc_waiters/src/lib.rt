@@ -3,7 +3,9 @@
 
 mod bucket;
 mod buckets;
+mod measured;
 mod waiters;
 
 pub use buckets::Buckets;
+pub use measured::Measured;
 pub use waiters::{Waiters, Waiting};

@@ -107,6 +107,7 @@ impl Watch {
             queues: objects.queues,
             semaphores: objects.semaphores,
             messages: objects.messages,
+            message_bytes: objects.bytes,
             charged_bytes: charged(state),
             recorded,
             kept: recorded.saturating_sub(hub.first_kept()),

@@ -308,6 +308,28 @@ fn worked_cores(rt: HostRuntime) -> Result<(), Fail> {
     given
 }
 
+/// Two queues, with two messages and with one.
+static ALIVE: [Asked; 6] = [
+    Hello(Some(Uid(1000))),
+    Create(0, b"/q"),
+    Create(0, b"/r"),
+    Send(0, 0, 1, b"abc"),
+    Send(0, 0, 2, b"de"),
+    Send(0, 1, 0, b"f"),
+];
+
+#[test]
+fn what_is_alive_is_counted(rt: HostRuntime) -> Result<(), Fail> {
+    let mut core = core_of(rt.alloc(), FILE)?;
+    for asked in &ALIVE {
+        core.post(rt.alloc(), event(rt.alloc(), asked)?)?;
+    }
+    let counts = core.state().tables().counts();
+    assert!(rt; counts.queues == 2 && counts.semaphores == 0);
+    assert!(rt; counts.messages == 3 && counts.bytes == 6);
+    Ok(())
+}
+
 /// Limits, and the fault of the field that is out of its range.
 static LIMITS: [(u32, u32, u32, Option<CoreFault>); 7] = [
     (1, 1, 0, None),

@@ -324,5 +324,7 @@ fn a_message_stands_with_its_bytes(rt: HostRuntime) -> Result<(), Fail> {
     };
     assert!(rt; next.place == 4 && next.priority == 5);
     assert!(rt; next.bytes.as_slice() == b"build-7".as_slice());
+    assert!(rt; queue.send_message(5, 5, &bytes, ANN)? == SendOutcome::Parked);
+    assert!(rt; queue.bytes() == 7);
     Ok(())
 }

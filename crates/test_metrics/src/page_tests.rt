@@ -16,6 +16,7 @@ fn numbers() -> Numbers {
         queues: 3,
         semaphores: 4,
         messages: 5,
+        message_bytes: 60,
         charged_bytes: 6,
         recorded: 70,
         kept: 7,
@@ -41,6 +42,9 @@ mqserve_objects{family=\"sem\"} 4
 # HELP mqserve_messages Messages that stand in queues.
 # TYPE mqserve_messages gauge
 mqserve_messages 5
+# HELP mqserve_message_bytes Bytes of the messages that stand in queues.
+# TYPE mqserve_message_bytes gauge
+mqserve_message_bytes 60
 # HELP mqserve_charged_bytes Bytes that queues take of their creators' limits.
 # TYPE mqserve_charged_bytes gauge
 mqserve_charged_bytes 6

@@ -32,7 +32,7 @@ static REQUESTS: [(&[u8], Asked); 15] = [
         Asked::OtherPath,
     ),
     (b"GET /metricsx HTTP/1.1\r\n\r\n", Asked::OtherPath),
-    (b"HEAD /metric HTTP/1.1\r\n\r\n", Asked::OtherPath),
+    (b"HEAD /metric HTTP/1.1\r\n\r\n", Asked::OtherPathHead),
     (
         b"\x16\x03\x01\x02\0\x01\0\x01\xfc\x03\x03",
         Asked::Malformed,
@@ -89,7 +89,7 @@ fn header_lines_are_counted(rt: HostRuntime) -> Result<(), Fail> {
 }
 
 /// What is asked for, and the whole response where the page is `up 1`.
-static RESPONSES: [(Asked, &str); 7] = [
+static RESPONSES: [(Asked, &str); 8] = [
     (
         Asked::Page,
         "HTTP/1.1 200 OK\r\nContent-Type: text/plain; version=0.0.4; charset=utf-8\r\nContent-Length: 5\r\nConnection: close\r\n\r\nup 1\n",
@@ -101,6 +101,10 @@ static RESPONSES: [(Asked, &str); 7] = [
     (
         Asked::OtherPath,
         "HTTP/1.1 404 Not Found\r\nContent-Type: text/plain; version=0.0.4; charset=utf-8\r\nContent-Length: 21\r\nConnection: close\r\n\r\nthe page is /metrics\n",
+    ),
+    (
+        Asked::OtherPathHead,
+        "HTTP/1.1 404 Not Found\r\nContent-Type: text/plain; version=0.0.4; charset=utf-8\r\nContent-Length: 21\r\nConnection: close\r\n\r\n",
     ),
     (
         Asked::OtherMethod,

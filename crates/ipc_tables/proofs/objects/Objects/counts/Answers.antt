@@ -4,13 +4,13 @@ use Rattle.std.specs.Option.{option_copied}
 use Rattle.std.proofs.lemmas.List.Sums.{count_by-le-length}
 use Rattle.ipc_numbered.proofs.NumbersLemmas.{value_within}
 use Rattle.ipc_tables.specs.declared.counts.Counts.{Counts}
-use Rattle.ipc_tables.specs.Objects.{is_queue, is_semaphore, messages_in}
+use Rattle.ipc_tables.specs.Objects.{is_queue, is_semaphore, messages_in, bytes_of_messages}
 use Rattle.ipc_tables.specs.Standing.{rows_in}
 use Rattle.ipc_tables.proofs.Numbering.{sum_next, sum_none, count_below}
 use Rattle.ipc_tables.proofs.objects.Objects.counts.Goals as goal
 
-same_counts : (x y : Counts) → x.queues ≡ y.queues → x.semaphores ≡ y.semaphores → x.messages ≡ y.messages → x ≡ y
-same_counts x y q s m = ap (λ n. record x { queues = n }) q ∙ ap (λ n. record x { queues = y.queues; semaphores = n }) s ∙ ap (λ n. record x { queues = y.queues; semaphores = y.semaphores; messages = n }) m
+same_counts : (x y : Counts) → x.queues ≡ y.queues → x.semaphores ≡ y.semaphores → x.messages ≡ y.messages → x.bytes ≡ y.bytes → x ≡ y
+same_counts x y q s m b = ap (λ n. record x { queues = n }) q ∙ ap (λ n. record x { queues = y.queues; semaphores = n }) s ∙ ap (λ n. record x { queues = y.queues; semaphores = y.semaphores; messages = n }) m ∙ ap (λ n. record x { queues = y.queues; semaphores = y.semaphores; messages = y.messages; bytes = n }) b
 
 none_yet : (n : ℕ) → 0 + n ≡ n
 none_yet n = omega arith
@@ -34,7 +34,7 @@ at_bounded_end : (most was rest total : ℕ) → was ≤ most → min (was + res
 at_bounded_end most was rest total le e f = omega arith
 
 pub loop-number-init : goal.loop-number-init
-loop-number-init c = record { queues = none_yet _; semaphores = none_yet _; messages = ap (λ n. min n 18446744073709551615) (none_yet _); bounded = omega arith }
+loop-number-init c = record { queues = none_yet _; semaphores = none_yet _; messages = ap (λ n. min n 18446744073709551615) (none_yet _); messages_bounded = omega arith; bytes = ap (λ n. min n 18446744073709551615) (none_yet _); bytes_bounded = omega arith }
 
 pub add-requires-clause-queues : goal.add-requires-clause-queues
 add-requires-clause-queues c =
@@ -76,7 +76,9 @@ loop-number-preserved c =
       queues = one_more _ _ _ _ _ _ all.queues (sum_next (λ r. cond (is_queue r) 1 0) rows next c.in-Some.number after row c.in-Some.ensures there refl) c.add.ensures.queues;
       semaphores = one_more _ _ _ _ _ _ all.semaphores (sum_next (λ r. cond (is_semaphore r) 1 0) rows next c.in-Some.number after row c.in-Some.ensures there refl) c.add.ensures.semaphores;
       messages = more_bounded 18446744073709551615 _ _ _ _ _ _ all.messages (sum_next (λ r. messages_in r.body) rows next c.in-Some.number after row c.in-Some.ensures there refl) c.add.ensures.messages;
-      bounded = at_most_all _ _ _ c.add.ensures.messages;
+      messages_bounded = at_most_all _ _ _ c.add.ensures.messages;
+      bytes = more_bounded 18446744073709551615 _ _ _ _ _ _ all.bytes (sum_next (λ r. bytes_of_messages r.body) rows next c.in-Some.number after row c.in-Some.ensures there refl) c.add.ensures.bytes;
+      bytes_bounded = at_most_all _ _ _ c.add.ensures.bytes;
     }
 
 pub returns : goal.returns
@@ -87,4 +89,5 @@ returns c =
     same_counts _ _
     (at_end _ _ _ all.queues (sum_none (λ r. cond (is_queue r) 1 0) rows next c.in_default.ensures))
     (at_end _ _ _ all.semaphores (sum_none (λ r. cond (is_semaphore r) 1 0) rows next c.in_default.ensures))
-    (at_bounded_end 18446744073709551615 _ _ _ all.bounded all.messages (sum_none (λ r. messages_in r.body) rows next c.in_default.ensures))
+    (at_bounded_end 18446744073709551615 _ _ _ all.messages_bounded all.messages (sum_none (λ r. messages_in r.body) rows next c.in_default.ensures))
+    (at_bounded_end 18446744073709551615 _ _ _ all.bytes_bounded all.bytes (sum_none (λ r. bytes_of_messages r.body) rows next c.in_default.ensures))
