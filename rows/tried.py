@@ -1,5 +1,6 @@
 #!/usr/bin/env python3
-"""Runs a program without proof over the inputs whose outcome is known: `tried.py mqserve` or `tried.py mqctl`.
+"""Runs a program without proof over the inputs whose outcome is known: `tried.py mqserve` or `tried.py mqctl`. With `2/3` behind
+it, over the second third of them.
 
 `rt try --cases` builds the program once, with checks, and runs it on each input. Standard output, standard error and the exit status
 are compared as rows/run.py does. Prints a line for each case that differs, and a last line with the counts; the status is 1 where one
@@ -74,11 +75,19 @@ def differences(cases, tried):
             yield from (f"{case.name}: {which}: {run.first_difference(*both)}" for which, *both in streams if both[0] != both[1])
 
 
+def share_of(cases, share):
+    """Every so many of the cases: those of the share 2/3 are the second, the fifth, and so on."""
+    number, shares = map(int, share.split("/"))
+    return dict(list(cases.items())[number - 1::shares])
+
+
 def main():
-    if sys.argv[1:] not in [["mqserve"], ["mqctl"]]:
+    words = re.fullmatch(r"(mqserve|mqctl)(?: ([1-9]/[1-9]))?", " ".join(sys.argv[1:]))
+    if not words:
         sys.exit(__doc__)
-    program = sys.argv[1]
-    found, cases = cases_of(program)
+    program, share = words.groups(default="1/1")
+    found, every = cases_of(program)
+    cases = share_of(every, share)
     with tempfile.TemporaryDirectory(prefix="tried-") as folder:
         data = [word for name, file in lay_out(cases, folder).items() for word in ("--data", f"{name}={file}")]
         command = ["rt", "try", "--seconds", SECONDS, "--cases", folder, *data]
@@ -88,7 +97,7 @@ def main():
     wrong = list(differences(cases, tried))
     for line in wrong:
         print(line)
-    print(f"{program}: {len(cases) - len(wrong)} as written, {len(wrong)} not; {len(found) - len(cases)} need a proved program")
+    print(f"{program}: {len(cases) - len(wrong)} as written, {len(wrong)} not; {len(found) - len(every)} need a proved program")
     return 1 if wrong else 0
 
 

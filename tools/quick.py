@@ -18,6 +18,8 @@ import time
 
 from programs import CRATES, NAMES, TOP, below, is_current, uses
 
+# In how many shares the rows of a program run side by side: each is a build of its own.
+SHARES = {"mqserve": 2}
 # Tests' crates that are built as one, since each build begins with all that lies below.
 TESTS = [["test_core", "test_library", "test_log"], ["test_scripts", "test_words", "test_client"], ["test_server"], ["test_metrics"]]
 # What a test may take: 60 seconds are too few for the longest ones beside other work.
@@ -144,7 +146,9 @@ def parts_for(crate):
     if crate:
         yield proof_of(crate)
     for name in filter(stand_on_it, NAMES):
-        yield by_command(f"rows of {name}", f"rows/tried.py {name}")
+        shares = SHARES.get(name, 1)
+        for share in [f"{number}/{shares}" for number in range(1, shares + 1)] if shares > 1 else [""]:
+            yield by_command(f"rows of {name} {share}".strip(), f"rows/tried.py {name} {share}".strip())
     for names in ([name for name in names if stand_on_it(name)] for names in TESTS):
         if names:
             yield tests_of(names)
