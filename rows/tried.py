@@ -1,6 +1,6 @@
 #!/usr/bin/env python3
 """Runs a program without proof over the inputs whose outcome is known: `tried.py mqserve` or `tried.py mqctl`. With `2/3` behind
-it, over the second third of them.
+it, over every third of them, from the second on.
 
 `rt try --cases` builds the program once, with checks, and runs it on each input. Standard output, standard error and the exit status
 are compared as rows/run.py does. Prints a line for each case that differs, and a last line with the counts; the status is 1 where one
@@ -82,10 +82,10 @@ def share_of(cases, share):
 
 
 def main():
-    words = re.fullmatch(r"(mqserve|mqctl)(?: ([1-9]/[1-9]))?", " ".join(sys.argv[1:]))
-    if not words:
+    words = re.fullmatch(r"(mqserve|mqctl)(?: (([1-9])/([1-9])))?", " ".join(sys.argv[1:]))
+    if not words or words[2] and words[3] > words[4]:
         sys.exit(__doc__)
-    program, share = words.groups(default="1/1")
+    program, share = words[1], words[2] or "1/1"
     found, every = cases_of(program)
     cases = share_of(every, share)
     with tempfile.TemporaryDirectory(prefix="tried-") as folder:
