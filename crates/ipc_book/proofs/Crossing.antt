@@ -41,7 +41,10 @@ use Rattle.ipc_tables.specs.contracts.rows.ObjectRow as row
 use Rattle.ipc_tables.specs.contracts.objects.Objects as objects
 use Rattle.ipc_tables.specs.contracts.tables.Tables as tables
 use Rattle.ipc_tables.specs.contracts.tables.Tables.TheInside as tables_inside
-use Rattle.ipc_tables.proofs.sessions.Sessions.TheSendSync as sessions
+use Rattle.ipc_tables.specs.contracts.sessions.Sessions as sessions
+use Rattle.ipc_tables.specs.contracts.sessions.Sessions.TheInside as sessions_inside
+use Rattle.ipc_tables.proofs.rows.Session.TheSendSync as session_row
+use Rattle.ipc_numbered.proofs.numbered.Numbered.TheSendSync as numbered_values
 use Rattle.ipc_trail.specs.contracts.trail.Trail as trail
 use Rattle.ipc_trail.specs.contracts.trail.Trail.TheInside as trail_inside
 use Rattle.ipc_terms.proofs.record.Record.TheSendSync as record'
@@ -85,8 +88,14 @@ row_send = search (sendable, body_send, object.the_field_send, facts.the_field_s
 pub objects_send : IsSend (objects.the_field).row
 objects_send = search (sendable, row_send, numbered.the_send, charges.the_send, global.the_send, globals.the_frees) depth 20
 
+pub sessions_inside_send : IsSend sessions_inside.the_row
+sessions_inside_send = search (sendable, numbered_values.the_send, session_row.the_send, snapshot_send, global.the_send, globals.the_frees) depth 20
+
+pub sessions_send : IsSend sessions.the_row
+sessions_send = search (sendable, sessions_inside_send) depth 20
+
 pub tables_inside_send : IsSend tables_inside.the_row
-tables_inside_send = search (sendable, objects_send, globals.the_frees, vec.the_send, global.the_send, sessions.the_send, dir.the_send, descrs.the_send) depth 20
+tables_inside_send = search (sendable, objects_send, globals.the_frees, global.the_send, sessions_send, dir.the_send, descrs.the_send) depth 20
 
 pub tables_send : IsSend tables.the_row
 tables_send = search (sendable, tables_inside_send) depth 20

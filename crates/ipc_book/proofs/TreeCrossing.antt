@@ -21,7 +21,7 @@ use Rattle.std.specs.declared.alloc.Global.{Global}
 use Rattle.std.specs.contracts.boxed.Box as boxed
 use Rattle.std.proofs.boxed.Box.TheSendSync as boxes
 use Rattle.std.proofs.option.Option.TheSendSync as option
-use Rattle.std.proofs.vec.Vec.TheSendSync as vec
+use Rattle.std.proofs.collections.BTreeMap.TheSendSync as map
 use Rattle.ipc_deadlines.specs.declared.tree.Tree.{Tree}
 use Rattle.ipc_deadlines.specs.declared.tree.Tree.TheDeep.{deep-Node}
 use Rattle.ipc_deadlines.specs.declared.tree.Tree.TheInside.{Inside}
@@ -93,7 +93,7 @@ deadlines_send : IsSend deadlines.the_row
 deadlines_send = search (sendable, deadlines_inside_send) depth 20
 
 timed_calls_inside_send : IsSend timed_calls_inside.the_row
-timed_calls_inside_send = search (sendable, deadlines_send, vec.the_send, option.the_send, option.the_field_send, global.the_send, globals.the_frees) depth 20
+timed_calls_inside_send = search (sendable, deadlines_send, map.the_send, global.the_send, globals.the_frees) depth 20
 
 pub timed_calls_send : IsSend timed_calls.the_row
 timed_calls_send = search (sendable, timed_calls_inside_send) depth 20

@@ -1,36 +1,24 @@
 -- How the places of the sessions' calls are kept.
-use Rattle.std.proofs.Common.{◌≡◌, ℕ, zero, suc, ◌+◌, ◌<◌, ◌≤◌, Bool, true, false, not, eqb, List, [], ◌∷◌, ◌++◌, length, slice_get, slice_set, cond, Option, Some, None, refl, ap, ◌∙◌, sym, subst, inl, inr, ◌⊎◌, arith}
-use Rattle.std.specs.Prelude.{filter, option_and_then}
-use Rattle.std.specs.Option.{option_or}
+use Rattle.std.proofs.Common.{◌≡◌, ℕ, ◌<◌, Bool, true, false, not, eqb, List, [], ◌∷◌, ◌++◌, cond, Option, Some, None, refl, ap, ◌∙◌, sym, subst, inl, inr, ◌⊎◌, arith}
+use Rattle.std.specs.Prelude.{filter}
+use Rattle.std.specs.Ordering.{nat_cmp}
+use Rattle.std.specs.BTreeMap.{BTreeMap, get, is_at}
 use Rattle.std.proofs.lemmas.Bool.{eqb-true, eqb-false, eq-eqb, ne_eqb}
-use Rattle.std.proofs.lemmas.Option.{slice_get_within}
-use Rattle.ipc_terms.proofs.Lists.{slice_get_push}
+use Rattle.std.proofs.lemmas.Bool.Decides.{nat_tests}
 use Rattle.ipc_deadlines.specs.declared.timed.Timed.{Timed}
 use Rattle.ipc_deadlines.specs.Calls.{without, AllBelow}
-use Rattle.ipc_deadlines.specs.TimedView.{TimedView, In, without_session, NoneOf, HasPlace, IsKept}
+use Rattle.ipc_deadlines.specs.Sessions.{In, without_session, NoneOf, HasPlace, IsKept}
 
-get_set_same : {A : Type 0} (xs : List A) (i : ℕ) (x : A) → i < length xs → slice_get (slice_set xs i x) i ≡ Some x
-get_set_same [] i x lt = absurd (omega arith)
-get_set_same (y ∷ xs) zero x lt = refl
-get_set_same (y ∷ xs) (suc i) x lt = get_set_same xs i x (omega arith)
+-- the place at one session is written
+pub record Writes (places after : ℕ → Option ℕ) (s : ℕ) (w : Option ℕ) : Type 0 where
+  pub here : after s ≡ w
+  pub others : (r : ℕ) → (s ≡ r → ⊥) → after r ≡ places r
 
-get_set_other : {A : Type 0} (xs : List A) (i j : ℕ) (x : A) → (i ≡ j → ⊥) → slice_get (slice_set xs i x) j ≡ slice_get xs j
-get_set_other [] i j x ne = refl
-get_set_other (y ∷ xs) zero zero x ne = absurd (ne refl)
-get_set_other (y ∷ xs) zero (suc j) x ne = refl
-get_set_other (y ∷ xs) (suc i) zero x ne = refl
-get_set_other (y ∷ xs) (suc i) (suc j) x ne = get_set_other xs i j x (λ e. ne (ap suc e))
-
-pub length_set : {A : Type 0} (xs : List A) (i : ℕ) (x : A) → length (slice_set xs i x) ≡ length xs
-length_set [] i x = refl
-length_set (y ∷ xs) zero x = refl
-length_set (y ∷ xs) (suc i) x = ap suc (length_set xs i x)
-
-pub as_seen : (calls : List Timed) (n m : ℕ) → n ≡ m → ◌≡◌ {A = TimedView} (record { calls = calls; sessions = n }) (record { calls = calls; sessions = m })
-as_seen calls n m e = ap (λ k. record { calls = calls; sessions = k }) e
-
-pub as_kept : (calls left : List Timed) (n : ℕ) → calls ≡ left → ◌≡◌ {A = TimedView} (record { calls = calls; sessions = n }) (record { calls = left; sessions = n })
-as_kept calls left n e = ap (λ k. record { calls = k; sessions = n }) e
+pub written : (m n : BTreeMap ℕ ℕ) (s : ℕ) (w : Option ℕ) → get nat_cmp n s ≡ w → ((r : ℕ) → is_at (nat_cmp s) r ≡ false → get nat_cmp n r ≡ get nat_cmp m r) → Writes (get nat_cmp m) (get nat_cmp n) s w
+written m n s w here others = record { here = here; others = λ r apart. others r (let other : is_at (nat_cmp s) r ≡ false = at r apart (is_at (nat_cmp s) r) refl in other) } where
+  at : (r : ℕ) → (s ≡ r → ⊥) → (b : Bool) → is_at (nat_cmp s) r ≡ b → is_at (nat_cmp s) r ≡ false
+  at r apart true e = absurd (apart (let same : s ≡ r = grind (arith, nat_tests) in same))
+  at r apart false e = e
 
 -- what is filtered
 filter_same : (f g : Timed → Bool) (xs : List Timed) → ((t : Timed) → In t xs → f t ≡ g t) → filter f xs ≡ filter g xs
@@ -87,43 +75,45 @@ none_at s t (x ∷ xs) all (inl same) e = all.0 (ap (λ (y : Timed). y.session.0
 none_at s t (x ∷ xs) all (inr there) e = none_at s t xs all.1 there e
 
 -- no calls
-pub kept_new : IsKept [] []
-kept_new = record { each = λ t is. absurd is; call = λ s i e. absurd cc; one = λ t u is js e. absurd is }
+pub kept_new : (places : ℕ → Option ℕ) → ((s : ℕ) → places s ≡ None) → IsKept places []
+kept_new places none = record { each = λ t is. absurd is; call = λ s i e. let no : None ≡ Some i = sym (none s) ∙ e in absurd cc; one = λ t u is js e. absurd is }
 
--- a session starts
-pub kept_start : (places : List (Option ℕ)) (calls : List Timed) → IsKept places calls → IsKept (places ++ None ∷ []) calls
-kept_start places calls k = record {
-  each = λ t is. slice_get_push places None t.session.0 ∙ stays (eqb (length places) t.session.0) (slice_get places t.session.0) (Some t.place) (λ e. let lt = slice_get_within places t.session.0 (Some t.place) (k.each t is) in let q = eqb-true _ _ e in absurd (omega arith)) (k.each t is);
-  call = λ s i e. k.call s i (there (eqb (length places) s) (slice_get places s) i (sym (slice_get_push places None s) ∙ e));
-  one = k.one;
-} where
-  stays : (b : Bool) (w : Option (Option ℕ)) (v : Option ℕ) → (b ≡ true → ⊥) → w ≡ Some v → option_or (cond b (Some None) None) w ≡ Some v
-  stays true w v never e = absurd (never refl)
-  stays false w v never e = e
+-- where the same place stands at each session
+kept_alike : (places after : ℕ → Option ℕ) (calls : List Timed) → ((s : ℕ) → after s ≡ places s) → IsKept places calls → IsKept after calls
+kept_alike places after calls same k = record { each = λ t is. same t.session.0 ∙ k.each t is; call = λ s i e. k.call s i (sym (same s) ∙ e); one = k.one }
 
-  there : (b : Bool) (w : Option (Option ℕ)) (i : ℕ) → option_or (cond b (Some None) None) w ≡ Some (Some i) → w ≡ Some (Some i)
-  there true w i e = absurd cc
-  there false w i e = e
+-- a session without a call has no place
+pub none_stands : (places : ℕ → Option ℕ) (calls : List Timed) (s : ℕ) → IsKept places calls → NoneOf s calls → places s ≡ None
+none_stands places calls s k free = at (places s) refl where
+  at : (w : Option ℕ) → places s ≡ w → places s ≡ None
+  at None e = e
+  at (Some i) e = let its = k.call s i e in absurd (none_at s its.call calls free its.stands its.of_session)
+
+-- a place is written, and taken back
+pub kept_back : (places there after : ℕ → Option ℕ) (calls : List Timed) (s i : ℕ) → IsKept places calls → NoneOf s calls → Writes places there s (Some i) → Writes there after s None → IsKept after calls
+kept_back places there after calls s i k free w back = kept_alike places after calls (λ r. at r (eqb s r) refl) k where
+  at : (r : ℕ) (b : Bool) → eqb s r ≡ b → after r ≡ places r
+  at r true q = let same : s ≡ r = eqb-true _ _ q in subst (λ (n : ℕ). after n ≡ places n) same (back.here ∙ sym (none_stands places calls s k free))
+  at r false q = back.others r (eqb-false _ _ q) ∙ w.others r (eqb-false _ _ q)
 
 -- a call comes
-pub kept_push : (places : List (Option ℕ)) (calls : List Timed) (x : Timed) → IsKept places calls → AllBelow x.place calls → x.session.0 < length places → NoneOf x.session.0 calls → IsKept (slice_set places x.session.0 (Some x.place)) (calls ++ x ∷ [])
-kept_push places calls x k behind lt free = record {
+pub kept_push : (places after : ℕ → Option ℕ) (calls : List Timed) (x : Timed) → IsKept places calls → AllBelow x.place calls → NoneOf x.session.0 calls → Writes places after x.session.0 (Some x.place) → IsKept after (calls ++ x ∷ [])
+kept_push places after calls x k behind free w = record {
   each = λ t is. each t (in_joined t x calls is);
   call = λ s i e. call s i e (eqb x.session.0 s) refl;
   one = λ t u is js e. one t u e (in_joined t x calls is) (in_joined u x calls js);
 } where
-  each : (t : Timed) → In t calls ⊎ (x ≡ t) → slice_get (slice_set places x.session.0 (Some x.place)) t.session.0 ≡ Some (Some t.place)
-  each t (inl is) = get_set_other places x.session.0 t.session.0 (Some x.place) (λ (e : x.session.0 ≡ t.session.0). none_at x.session.0 t calls free is (sym e)) ∙ k.each t is
-  each t (inr same) = subst (λ (y : Timed). slice_get (slice_set places x.session.0 (Some x.place)) y.session.0 ≡ Some (Some y.place)) same (get_set_same places x.session.0 (Some x.place) lt)
+  each : (t : Timed) → In t calls ⊎ (x ≡ t) → after t.session.0 ≡ Some t.place
+  each t (inl is) = w.others t.session.0 (λ (e : x.session.0 ≡ t.session.0). none_at x.session.0 t calls free is (sym e)) ∙ k.each t is
+  each t (inr same) = subst (λ (y : Timed). after y.session.0 ≡ Some y.place) same w.here
 
-  call : (s i : ℕ) → slice_get (slice_set places x.session.0 (Some x.place)) s ≡ Some (Some i) → (b : Bool) → eqb x.session.0 s ≡ b → HasPlace s i (calls ++ x ∷ [])
+  call : (s i : ℕ) → after s ≡ Some i → (b : Bool) → eqb x.session.0 s ≡ b → HasPlace s i (calls ++ x ∷ [])
   call s i e true q =
-      let here = get_set_same places x.session.0 (Some x.place) lt in
       let same : x.session.0 ≡ s = eqb-true _ _ q in
-      let both : Some (Some x.place) ≡ Some (Some i) = sym here ∙ ap (slice_get (slice_set places x.session.0 (Some x.place))) same ∙ e in
+      let both : Some x.place ≡ Some i = sym w.here ∙ ap after same ∙ e in
       record { call = x; stands = joined_last x calls; of_session = same; at_place = cc }
   call s i e false q =
-      let was = k.call s i (sym (get_set_other places x.session.0 s (Some x.place) (eqb-false _ _ q)) ∙ e) in
+      let was = k.call s i (sym (w.others s (eqb-false _ _ q)) ∙ e) in
       record { call = was.call; stands = joined_in was.call x calls was.stands; of_session = was.of_session; at_place = was.at_place }
 
   one : (t u : Timed) → t.place ≡ u.place → In t calls ⊎ (x ≡ t) → In u calls ⊎ (x ≡ u) → t ≡ u
@@ -133,48 +123,46 @@ kept_push places calls x k behind lt free = record {
   one t u e (inr p) (inl js) = absurd (let lt = below_at x.place u calls behind js in let f = ap (λ (y : Timed). y.place) p in omega arith)
 
 -- a session's call goes: it is the one of its place
-at_one : (places : List (Option ℕ)) (calls : List Timed) (s i : ℕ) → IsKept places calls → slice_get places s ≡ Some (Some i) → (t : Timed) → In t calls → eqb t.place i ≡ eqb t.session.0 s
+at_one : (places : ℕ → Option ℕ) (calls : List Timed) (s i : ℕ) → IsKept places calls → places s ≡ Some i → (t : Timed) → In t calls → eqb t.place i ≡ eqb t.session.0 s
 at_one places calls s i k here t is = at (eqb t.session.0 s) refl where
   at : (b : Bool) → eqb t.session.0 s ≡ b → eqb t.place i ≡ b
   at true q =
-      let both : Some (Some t.place) ≡ Some (Some i) = sym (k.each t is) ∙ ap (slice_get places) (eqb-true _ _ q) ∙ here in
+      let both : Some t.place ≡ Some i = sym (k.each t is) ∙ ap places (eqb-true _ _ q) ∙ here in
       eq-eqb _ _ (let same : t.place ≡ i = cc in same)
   at false q = ne_eqb _ _ (λ (e : t.place ≡ i).
       let its = k.call s i here in
       let same = k.one t its.call is its.stands (e ∙ sym its.at_place) in
       eqb-false _ _ q (ap (λ (y : Timed). y.session.0) same ∙ its.of_session))
 
-pub call_goes : (places : List (Option ℕ)) (calls : List Timed) (s i : ℕ) → IsKept places calls → slice_get places s ≡ Some (Some i) → without i calls ≡ without_session s calls
+pub call_goes : (places : ℕ → Option ℕ) (calls : List Timed) (s i : ℕ) → IsKept places calls → places s ≡ Some i → without i calls ≡ without_session s calls
 call_goes places calls s i k here = filter_same (λ t. not (eqb t.place i)) (λ t. not (eqb t.session.0 s)) calls (λ t is. ap not (at_one places calls s i k here t is))
 
 -- where it has none, none goes
-pub none_goes : (places : List (Option ℕ)) (calls : List Timed) (s : ℕ) → IsKept places calls → ((i : ℕ) → slice_get places s ≡ Some (Some i) → ⊥) → calls ≡ without_session s calls
-none_goes places calls s k none = sym (filter_all (λ t. not (eqb t.session.0 s)) calls (λ t is. ap not (ne_eqb _ _ (λ (e : t.session.0 ≡ s). none t.place (ap (slice_get places) (sym e) ∙ k.each t is)))))
+pub none_goes : (places : ℕ → Option ℕ) (calls : List Timed) (s : ℕ) → IsKept places calls → places s ≡ None → calls ≡ without_session s calls
+none_goes places calls s k none = sym (filter_all (λ t. not (eqb t.session.0 s)) calls (λ t is. ap not (ne_eqb _ _ (λ (e : t.session.0 ≡ s). let no : None ≡ Some t.place = sym none ∙ ap places (sym e) ∙ k.each t is in absurd cc))))
+
+-- and nothing is written
+pub kept_none : (places after : ℕ → Option ℕ) (calls : List Timed) (s : ℕ) → IsKept places calls → places s ≡ None → Writes places after s None → IsKept after calls
+kept_none places after calls s k none w = kept_alike places after calls (λ r. at r (eqb s r) refl) k where
+  at : (r : ℕ) (b : Bool) → eqb s r ≡ b → after r ≡ places r
+  at r true q = let same : s ≡ r = eqb-true _ _ q in subst (λ (n : ℕ). after n ≡ places n) same (w.here ∙ sym none)
+  at r false q = w.others r (eqb-false _ _ q)
 
 not_true : (b : Bool) → not b ≡ true → b ≡ false
 not_true true k = absurd cc
 not_true false k = refl
 
-pub kept_end : (places : List (Option ℕ)) (calls : List Timed) (s i : ℕ) → IsKept places calls → slice_get places s ≡ Some (Some i) → IsKept (slice_set places s None) (without_session s calls)
-kept_end places calls s i k here = record {
-  each = λ t is. let found = in_filter keep t calls is in get_set_other places s t.session.0 None (λ (e : s ≡ t.session.0). eqb-false _ _ (not_true _ found.1) (sym e)) ∙ k.each t found.0;
+pub kept_end : (places after : ℕ → Option ℕ) (calls : List Timed) (s i : ℕ) → IsKept places calls → places s ≡ Some i → Writes places after s None → IsKept after (without_session s calls)
+kept_end places after calls s i k here w = record {
+  each = λ t is. let found = in_filter keep t calls is in w.others t.session.0 (λ (e : s ≡ t.session.0). eqb-false _ _ (not_true _ found.1) (sym e)) ∙ k.each t found.0;
   call = λ r j e. call r j e (eqb s r) refl;
   one = λ t u is js e. k.one t u (in_filter keep t calls is).0 (in_filter keep u calls js).0 e;
 } where
   keep : Timed → Bool
   keep t = not (eqb t.session.0 s)
 
-  call : (r j : ℕ) → slice_get (slice_set places s None) r ≡ Some (Some j) → (b : Bool) → eqb s r ≡ b → HasPlace r j (filter keep calls)
-  call r j e true q = absurd (let gone = get_set_same places s None (slice_get_within places s (Some i) here) in let wrong : Some None ≡ Some (Some j) = sym gone ∙ ap (slice_get (slice_set places s None)) (eqb-true _ _ q) ∙ e in cc)
+  call : (r j : ℕ) → after r ≡ Some j → (b : Bool) → eqb s r ≡ b → HasPlace r j (filter keep calls)
+  call r j e true q = let wrong : None ≡ Some j = sym w.here ∙ ap after (eqb-true _ _ q) ∙ e in absurd cc
   call r j e false q =
-      let was = k.call r j (sym (get_set_other places s r None (eqb-false _ _ q)) ∙ e) in
+      let was = k.call r j (sym (w.others r (eqb-false _ _ q)) ∙ e) in
       record { call = was.call; stands = filter_in keep was.call calls was.stands (ap not (ne_eqb _ _ (λ (f : was.call.session.0 ≡ s). eqb-false _ _ q (sym f ∙ was.of_session)))); of_session = was.of_session; at_place = was.at_place }
-
--- what is looked up for a session
-pub stands_at : (w : Option (Option ℕ)) (i : ℕ) → Some i ≡ option_and_then (λ (place : Option ℕ). place) w → w ≡ Some (Some i)
-stands_at None i e = absurd cc
-stands_at (Some v) i e = ap Some (sym e)
-
-pub stands_none : (w : Option (Option ℕ)) → None ≡ option_and_then (λ (place : Option ℕ). place) w → (i : ℕ) → w ≡ Some (Some i) → ⊥
-stands_none None e i k = let no : None ≡ Some (Some i) = k in absurd cc
-stands_none (Some v) e i k = let one : v ≡ Some i = cc in let wrong : None ≡ Some i = e ∙ one in cc

@@ -1,4 +1,4 @@
 pub mod Calls
-pub mod TimedView
+pub mod Sessions
 pub mod Trees
 pub mod Falls

@@ -1,6 +1,6 @@
 //! The rules of the policy, each by its name, and the verdict: the first that forbids.
 
-ghost use Rattle.std.specs.Prelude.{◌≡◌, Some};
+ghost use Rattle.std.specs.Prelude.{◌≡◌, false, Some};
 ghost use Rattle.ipc_terms.specs.Timed.{plain};
 ghost use Rattle.ipc_policy.specs.Names.{creating, opening};
 ghost use Rattle.ipc_policy.specs.Rules.{no_session, in_call, not_in_call, name_form, name_long, not_admin, no_user, bad_descr, not_for_write, not_for_read, dir_search, dir_read, absent, present, mode_denied, dir_write, sticky, not_owner, chown_denied, attr_range, value_range, queue_count, byte_limit, descr_limit, prio_range, message_long, buffer_short, notify_taken, would_block, overflow, bad_key, timed_out, no_taker};
@@ -143,6 +143,7 @@ fn name_long(lookup: &Lookup<'_>) -> bool
 #[inline(always)]
 #[tactic(auto, unfolding(ipc_policy::specs::Rules::not_admin))]
 fn not_admin(lookup: &Lookup<'_>) -> bool
+    requires { no_session lookup.now.config lookup.now.history lookup.now.event ≡ false }
     ensures { result ≡ not_admin lookup.now.config lookup.now.history lookup.now.event }
 {
     match lookup.event() {
@@ -219,6 +220,7 @@ fn not_for_read(lookup: &Lookup<'_>) -> bool
 #[inline(always)]
 #[tactic(auto, unfolding(ipc_policy::specs::Rules::dir_search))]
 fn dir_search(lookup: &Lookup<'_>) -> bool
+    requires { no_session lookup.now.config lookup.now.history lookup.now.event ≡ false }
     ensures { result ≡ dir_search lookup.now.config lookup.now.history lookup.now.event }
 {
     match naming_of(lookup.event()) {
@@ -231,6 +233,7 @@ fn dir_search(lookup: &Lookup<'_>) -> bool
 #[inline(always)]
 #[tactic(auto, unfolding(ipc_policy::specs::Rules::dir_read))]
 fn dir_read(lookup: &Lookup<'_>) -> bool
+    requires { no_session lookup.now.config lookup.now.history lookup.now.event ≡ false }
     ensures { result ≡ dir_read lookup.now.config lookup.now.history lookup.now.event }
 {
     match lookup.event() {
@@ -274,6 +277,7 @@ fn present(lookup: &Lookup<'_>) -> bool
 #[inline(always)]
 #[tactic(auto, unfolding(ipc_policy::specs::Rules::mode_denied))]
 fn mode_denied(lookup: &Lookup<'_>) -> bool
+    requires { no_session lookup.now.config lookup.now.history lookup.now.event ≡ false }
     ensures { result ≡ mode_denied lookup.now.config lookup.now.history lookup.now.event }
 {
     match opening_of(lookup.event()) {
@@ -286,6 +290,7 @@ fn mode_denied(lookup: &Lookup<'_>) -> bool
 #[inline(always)]
 #[tactic(auto, unfolding(ipc_policy::specs::Rules::dir_write))]
 fn dir_write(lookup: &Lookup<'_>) -> bool
+    requires { no_session lookup.now.config lookup.now.history lookup.now.event ≡ false }
     ensures { result ≡ dir_write lookup.now.config lookup.now.history lookup.now.event }
 {
     if let Some(asked) = opening_of(lookup.event()) {
@@ -303,6 +308,7 @@ fn dir_write(lookup: &Lookup<'_>) -> bool
 #[inline(always)]
 #[tactic(auto, unfolding(ipc_policy::specs::Rules::sticky))]
 fn sticky(lookup: &Lookup<'_>) -> bool
+    requires { no_session lookup.now.config lookup.now.history lookup.now.event ≡ false }
     ensures { result ≡ sticky lookup.now.config lookup.now.history lookup.now.event }
 {
     match unlinking_of(lookup.event()) {
@@ -319,6 +325,7 @@ fn sticky(lookup: &Lookup<'_>) -> bool
 #[inline(always)]
 #[tactic(auto, unfolding(ipc_policy::specs::Rules::not_owner))]
 fn not_owner(lookup: &Lookup<'_>) -> bool
+    requires { no_session lookup.now.config lookup.now.history lookup.now.event ≡ false }
     ensures { result ≡ not_owner lookup.now.config lookup.now.history lookup.now.event }
 {
     match lookup.event() {
@@ -335,6 +342,7 @@ fn not_owner(lookup: &Lookup<'_>) -> bool
 #[inline(always)]
 #[tactic(auto, unfolding(ipc_policy::specs::Rules::chown_denied))]
 fn chown_denied(lookup: &Lookup<'_>) -> bool
+    requires { no_session lookup.now.config lookup.now.history lookup.now.event ≡ false }
     ensures { result ≡ chown_denied lookup.now.config lookup.now.history lookup.now.event }
 {
     match lookup.event() {
@@ -354,6 +362,7 @@ fn chown_denied(lookup: &Lookup<'_>) -> bool
 #[inline(always)]
 #[tactic(auto, unfolding(ipc_policy::specs::Rules::attr_range))]
 fn attr_range(lookup: &Lookup<'_>) -> bool
+    requires { no_session lookup.now.config lookup.now.history lookup.now.event ≡ false }
     ensures { result ≡ attr_range lookup.now.config lookup.now.history lookup.now.event }
 {
     match opening_of(lookup.event()) {
@@ -389,6 +398,7 @@ fn value_range(lookup: &Lookup<'_>) -> bool
 #[inline(always)]
 #[tactic(auto, unfolding(ipc_policy::specs::Rules::queue_count))]
 fn queue_count(lookup: &Lookup<'_>) -> bool
+    requires { no_session lookup.now.config lookup.now.history lookup.now.event ≡ false }
     ensures { result ≡ queue_count lookup.now.config lookup.now.history lookup.now.event }
 {
     let Some(asked) = opening_of(lookup.event()) else {
@@ -405,6 +415,7 @@ fn queue_count(lookup: &Lookup<'_>) -> bool
 #[inline(always)]
 #[tactic(auto, unfolding(ipc_policy::specs::Rules::byte_limit))]
 fn byte_limit(lookup: &Lookup<'_>) -> bool
+    requires { no_session lookup.now.config lookup.now.history lookup.now.event ≡ false }
     ensures { result ≡ byte_limit lookup.now.config lookup.now.history lookup.now.event }
 {
     let Some(asked) = opening_of(lookup.event()) else {

@@ -80,17 +80,17 @@ least_is c h xs n listed least =
       least = λ s u waits. (let it = standing c h xs s u listed waits in subst (λ m. n ≤ m) it.told (least_below n it.item xs least it.stands));
     }
 
-pub next_is : (c : Config) (h : History) (k : Clock) (w : Option ℕ) → IsOnTime c h k → IfSome w (λ n. IsLeast n k.calls.calls) → IfNone w (k.calls.calls ≡ []) → IsNextDeadline c h w
-next_is c h k None on some none = λ s t waits. (let it = standing c h k.calls.calls s t on.calls waits in subst (In it.item) none it.stands)
-next_is c h k (Some n) on some none = least_is c h k.calls.calls n on.calls some
+pub next_is : (c : Config) (h : History) (k : Clock) (w : Option ℕ) → IsOnTime c h k → IfSome w (λ n. IsLeast n k.calls) → IfNone w (k.calls ≡ []) → IsNextDeadline c h w
+next_is c h k None on some none = λ s t waits. (let it = standing c h k.calls s t on.calls waits in subst (In it.item) none it.stands)
+next_is c h k (Some n) on some none = least_is c h k.calls n on.calls some
 
 any_past : (m : ℕ) (xs : List Timed) (w : Option ℕ) → IfSome w (λ n. IsLeast n xs) → IfNone w (xs ≡ []) → list_any (is_over m) xs ≡ is_past m w
 any_past m xs None some none = ap (list_any (is_over m)) none
 any_past m xs (Some n) some none = sym (some m)
 
 -- a tick ends a call exactly where the least deadline is past
-pub due_past : (c : Config) (h : History) (k : Clock) (moment : ℕ) (w : Option ℕ) → Legal c h → IsOnTime c h k → IfSome w (λ n. IsLeast n k.calls.calls) → IfNone w (k.calls.calls ≡ []) → is_some (due c h moment) ≡ is_past (max moment (now h)) w
+pub due_past : (c : Config) (h : History) (k : Clock) (moment : ℕ) (w : Option ℕ) → Legal c h → IsOnTime c h k → IfSome w (λ n. IsLeast n k.calls) → IfNone w (k.calls ≡ []) → is_some (due c h moment) ≡ is_past (max moment (now h)) w
 due_past c h k moment w legal on some none =
-    ap is_some (sym (first_is_due place_of session_of deadline_told c h k.calls.calls moment legal on.calls))
-    ∙ found_passes (is_over (max moment (now h))) k.calls.calls
-    ∙ any_past (max moment (now h)) k.calls.calls w some none
+    ap is_some (sym (first_is_due place_of session_of deadline_told c h k.calls moment legal on.calls))
+    ∙ found_passes (is_over (max moment (now h))) k.calls
+    ∙ any_past (max moment (now h)) k.calls w some none

@@ -93,11 +93,11 @@ numbered_session : (w : Option Timed) → option_map (λ (x : Sid). x.0) (option
 numbered_session None = refl
 numbered_session (Some t) = refl
 
-pub due_found : (c : Config) (h : History) (k : Clock) (moment : ℕ) (w : Option Sid) → Legal c h → IsOnTime c h k → w ≡ option_map (λ (t : Timed). t.session) (find (is_over (max moment k.time)) k.calls.calls) → option_map (λ (x : Sid). x.0) w ≡ due c h moment
+pub due_found : (c : Config) (h : History) (k : Clock) (moment : ℕ) (w : Option Sid) → Legal c h → IsOnTime c h k → w ≡ option_map (λ (t : Timed). t.session) (find (is_over (max moment k.time)) k.calls) → option_map (λ (x : Sid). x.0) w ≡ due c h moment
 due_found c h k moment w legal on made =
-    ap (option_map (λ (x : Sid). x.0)) (made ∙ ap (λ (n : ℕ). option_map (λ (t : Timed). t.session) (find (is_over (max moment n)) k.calls.calls)) on.time)
-    ∙ numbered_session (find (is_over (max moment (now h))) k.calls.calls)
-    ∙ first_is_due place_of session_of deadline_told c h k.calls.calls moment legal on.calls
+    ap (option_map (λ (x : Sid). x.0)) (made ∙ ap (λ (n : ℕ). option_map (λ (t : Timed). t.session) (find (is_over (max moment n)) k.calls)) on.time)
+    ∙ numbered_session (find (is_over (max moment (now h))) k.calls)
+    ∙ first_is_due place_of session_of deadline_told c h k.calls moment legal on.calls
 
-pub ends_tick : (c : Config) (h : History) (k : Clock) (e : Event) (moment : ℕ) (w : Option Sid) → Legal c h → IsOnTime c h k → e ≡ Tick moment → w ≡ option_map (λ (t : Timed). t.session) (find (is_over (max moment k.time)) k.calls.calls) → Ends c h e w
+pub ends_tick : (c : Config) (h : History) (k : Clock) (e : Event) (moment : ℕ) (w : Option Sid) → Legal c h → IsOnTime c h k → e ≡ Tick moment → w ≡ option_map (λ (t : Timed). t.session) (find (is_over (max moment k.time)) k.calls) → Ends c h e w
 ends_tick c h k e moment w legal on is made = subst (λ (x : Event). Ends c h x w) (sym is) (λ accepted. due_found c h k moment w legal on made)

@@ -1,6 +1,7 @@
 pub mod Mapped
 pub mod Gathered
 pub mod Lookups
+pub mod LiveSessions
 pub mod QueueLookups
 pub mod Accepted
 pub mod QueueSteps

@@ -1,5 +1,5 @@
 -- What an accepted event makes of the parked calls, and of a list of those that are timed.
-use Rattle.std.proofs.Common.{◌≡◌, ℕ, ◌+◌, ◌<◌, Bool, true, false, ◌&&◌, eqb, cond, List, [], ◌∷◌, length, Option, Some, None, is_some, refl, sym, ap, subst, ◌∙◌, arith}
+use Rattle.std.proofs.Common.{◌≡◌, ℕ, ◌+◌, Bool, true, false, ◌&&◌, eqb, cond, List, length, Option, Some, None, is_some, refl, sym, ap, subst, ◌∙◌, arith}
 use Rattle.std.specs.Prelude.{option_and_then}
 use Rattle.std.specs.Option.{option_map, option_or}
 use Rattle.ipc_terms.specs.Lists.{first}
@@ -30,11 +30,11 @@ use Rattle.ipc_policy.proofs.Blocked.TimedSteps.{parked_as_plain, parked_by_tick
 use Rattle.ipc_policy.specs.CallLists.{IsCallList, dropped, joined}
 use Rattle.ipc_policy.proofs.Blocked.DueSteps.{Comes, starting, parked_before, deadline_stays, deadline_here, list_left, list_stays, list_joined, list_same}
 use Rattle.ipc_tables.specs.TablesView.{TablesView}
-use Rattle.ipc_state.specs.Agrees.{Agrees, IsCore}
+use Rattle.ipc_state.specs.Agrees.{IsCore}
 use Rattle.ipc_state.specs.OnTime.{ended_call, new_call, place_of, session_of, deadline_told, IsClock}
 use Rattle.ipc_state.proofs.Accepted.{not_bad_held}
 use Rattle.ipc_state.proofs.ParkedColumn.{there_mapped}
-use Rattle.ipc_state.proofs.Serving.{IsHereQueue, IsHereSemaphore, call_here, semaphore_here, is_open, none_receives, none_sends}
+use Rattle.ipc_state.proofs.Serving.{call_here, semaphore_here, is_open, none_receives, none_sends}
 
 -- after the event a session's call is ended, or one parks, or neither
 pub record IsMoved (c : Config) (h k : History) (s : ℕ) (gone : Option ℕ) (parks : Bool) : Type 0 where

@@ -1,9 +1,9 @@
 -- What an accepted event does to the tables of names, objects and descriptions.
 use Rattle.std.proofs.Common.{◌≡◌, ℕ, zero, suc, map, find, ◌+◌, ◌<◌, Bool, true, false, not, ◌&&◌, ◌||◌, eqb, cond, List, [], ◌∷◌, ◌++◌, filter, Option, Some, None, is_some, refl, sym, ap, ◌∙◌}
-use Rattle.std.specs.Prelude.{option_and_then, if◌then◌else◌}
+use Rattle.std.specs.Prelude.{if◌then◌else◌}
 use Rattle.std.specs.Option.{option_map, option_to_list}
 use Rattle.std.proofs.lemmas.List.{map-append}
-use Rattle.std.proofs.lemmas.Bool.{eqb-true, eq-eqb, ne_eqb}
+use Rattle.std.proofs.lemmas.Bool.{eq-eqb, ne_eqb}
 use Rattle.ipc_terms.specs.declared.facts.Facts.{Facts}
 use Rattle.ipc_terms.specs.declared.ids.Family.{Family}
 use Rattle.ipc_terms.specs.declared.ids.Family.TheVariants.{Mq, Sem}
@@ -14,7 +14,7 @@ use Rattle.ipc_terms.specs.declared.object.Object.{Object}
 use Rattle.ipc_policy.specs.History.{History, unless, gathered_below, any_below}
 use Rattle.ipc_policy.specs.Names.{Opening, creations}
 use Rattle.ipc_policy.specs.Objects.{object, facts, directory}
-use Rattle.ipc_policy.specs.Descriptions.{opens, if_of, held, holds, is_nonblock}
+use Rattle.ipc_policy.specs.Descriptions.{opens, held, is_nonblock}
 use Rattle.ipc_policy.specs.Life.{named, bindings, gives_object, alive}
 use Rattle.ipc_policy.proofs.Lists.Gathering.{gathered_same, gathered_more, passing, gathered_filter, any_below_same, any_below_more, more_at}
 use Rattle.ipc_policy.proofs.Holdings.Holding.{kept_some}

@@ -36,7 +36,6 @@ use Rattle.ipc_tables.specs.Objects.{new_body}
 use Rattle.ipc_state.specs.Agrees.{DescriptionsAgree, row_held, body_of}
 use Rattle.ipc_state.specs.Meetings.{by_name, object_bound}
 use Rattle.ipc_policy.proofs.Directories.Facts.{GivesNothing}
-use Rattle.ipc_state.proofs.ObjectTables.{and_off}
 
 -- an event that says nothing of sessions, of what is parked, and of limits
 pub record Apart (e : Event) : Type 0 where

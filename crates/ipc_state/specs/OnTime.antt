@@ -1,14 +1,14 @@
 -- What the clock has to do with the history: the time, and the timed calls that are parked.
-use Rattle.std.specs.Prelude.{◌≡◌, ℕ, ◌+◌, ◌≤◌, ◌<◌, Bool, true, length, List, Option, Some, None, option_and_then}
+use Rattle.std.specs.Prelude.{◌≡◌, ℕ, Bool, true, List, Option, Some, None, option_and_then}
 use Rattle.std.specs.Option.{option_map}
 use Rattle.ipc_terms.specs.Lists.{first}
 use Rattle.ipc_terms.specs.declared.ids.Sid.{Sid}
 use Rattle.ipc_terms.specs.declared.call.Call.TheVariants.{MqSend, MqReceive, SemPost, Interrupt}
 use Rattle.ipc_terms.specs.declared.record.Event.{Event}
-use Rattle.ipc_terms.specs.declared.record.Event.TheVariants.{Hello, Do, Hangup, Tick}
+use Rattle.ipc_terms.specs.declared.record.Event.TheVariants.{Do, Hangup, Tick}
 use Rattle.ipc_deadlines.specs.declared.timed.Timed.{Timed}
 use Rattle.ipc_deadlines.specs.Calls.{AllBelow}
-use Rattle.ipc_deadlines.specs.TimedView.{TimedView, NoneOf}
+use Rattle.ipc_deadlines.specs.Sessions.{NoneOf}
 use Rattle.ipc_tables.specs.TablesView.{TablesView}
 use Rattle.ipc_state.specs.declared.clock.Clock.{Clock}
 use Rattle.ipc_state.specs.Agrees.{IsCore}
@@ -16,7 +16,6 @@ use Rattle.ipc_policy.specs.CallLists.{IsTimedList}
 use Rattle.ipc_policy.specs.declared.config.Config.{Config}
 use Rattle.ipc_policy.specs.History.{History}
 use Rattle.ipc_policy.specs.Timed.{now}
-use Rattle.ipc_policy.specs.Sessions.{hellos}
 use Rattle.ipc_policy.specs.Descriptions.{holds}
 use Rattle.ipc_policy.specs.Bodies.{senders, receivers, waiters, due}
 
@@ -48,26 +47,19 @@ deadline_told t = t.deadline
 abbrev pub IsClock : Config → History → List Timed → Type 0
 IsClock c h calls = IsTimedList place_of session_of deadline_told c h calls
 
--- the clock tells the time of the history and has its timed calls, and each session that started has room in it
+-- the clock tells the time of the history and has its timed calls
 pub record IsOnTime (c : Config) (h : History) (k : Clock) : Type 0 where
   pub time : k.time ≡ now h
-  pub calls : IsClock c h k.calls.calls
-  pub count : hellos h ≤ k.calls.sessions
+  pub calls : IsClock c h k.calls
 
--- a call may come: it is behind all others, and its session started and has none
-pub record MayCome (call : Timed) (v : TimedView) : Type 0 where
-  pub behind : AllBelow call.place v.calls
-  pub started : call.session.0 < v.sessions
-  pub free : NoneOf call.session.0 v.calls
-
--- with room for a session that starts
-abbrev pub roomier : Event → Clock → Clock
-roomier (Hello found) k = record k { calls = record k.calls { sessions = k.calls.sessions + 1 } }
-roomier _ k = k
+-- a call may come: it is behind all others, and its session has none
+pub record MayCome (call : Timed) (calls : List Timed) : Type 0 where
+  pub behind : AllBelow call.place calls
+  pub free : NoneOf call.session.0 calls
 
 -- with these calls
 abbrev pub with_calls : List Timed → Clock → Clock
-with_calls calls k = record k { calls = record k.calls { calls = calls } }
+with_calls calls k = record k { calls = calls }
 
 -- the tables and the clock are the history's
 pub record IsState (c : Config) (h : History) (t : TablesView) (k : Clock) : Type 0 where

@@ -1,5 +1,5 @@
 -- What is looked up for an event, in tables that agree with the history.
-use Rattle.std.specs.Prelude.{◌≡◌, ℕ, slice_get, Option, option_and_then}
+use Rattle.std.specs.Prelude.{◌≡◌, ℕ, ◌<◌, ◌^◌, length, Option, option_and_then}
 use Rattle.ipc_terms.specs.declared.record.Event.{Event}
 use Rattle.ipc_terms.specs.Events.{caller}
 use Rattle.ipc_access.specs.declared.class.Cred.{Cred}
@@ -10,7 +10,7 @@ use Rattle.ipc_descr.specs.Descriptions.{Descriptions, row_of}
 use Rattle.ipc_tables.specs.declared.rows.Session.{Session}
 use Rattle.ipc_tables.specs.declared.rows.ObjectRow.{ObjectRow}
 use Rattle.ipc_tables.specs.Objects.{row_at}
-use Rattle.ipc_tables.specs.TablesView.{TablesView, directory_kept}
+use Rattle.ipc_tables.specs.TablesView.{TablesView, directory_kept, live_session, parked_on_at}
 use Rattle.ipc_policy.specs.declared.config.Config.{Config}
 use Rattle.ipc_policy.specs.History.{History}
 use Rattle.ipc_state.specs.declared.clock.Clock.{Clock}
@@ -30,12 +30,14 @@ row_meant t e = by_description (row_of t.rows) e
 abbrev pub number_meant : TablesView → Event → Option ℕ
 number_meant t e = by_name (λ x. object_named (directory_kept x.family t).bindings x.name) e
 
--- each was looked up in the tables: the caller's session, the row of the description that the event names and the object
+-- each was looked up in the tables: the caller's session, if it is live, the row of the description that the event names and the object
 -- that it gives, and the object to which the name is bound that the event names
 pub record IsLookup (c : Config) (h : History) (t : TablesView) (k : Clock) (e : Event) (session : Option Session) (row : Option Row) (given : Option ObjectRow) (bound : Option ℕ) (named : Option ObjectRow) : Type 0 where
   pub core : IsCore c h t
   pub on_time : IsOnTime c h k
-  pub of_session : session ≡ slice_get t.sessions (caller e).0
+  pub of_session : session ≡ live_session t.sessions (caller e).0
+  pub parks : option_and_then (λ row. row.parked_on) session ≡ parked_on_at t.sessions (caller e).0
+  pub few : length t.sessions < 2 ^ 64
   pub of_row : row ≡ row_meant t.descriptions e
   pub of_given : given ≡ option_and_then (λ r. row_at t.objects r.object) row
   pub of_bound : bound ≡ number_meant t e

@@ -7,7 +7,7 @@ ghost use Rattle.ipc_terms.specs.Timed.{deadline};
 ghost use Rattle.ipc_deadlines.specs.Calls.{is_over};
 ghost use Rattle.ipc_policy.specs.Timed.{told};
 ghost use Rattle.ipc_policy.specs.CallLists.{dropped, joined};
-ghost use Rattle.ipc_state.specs.OnTime.{MayCome, new_call, roomier, session_of, with_calls};
+ghost use Rattle.ipc_state.specs.OnTime.{MayCome, new_call, session_of, with_calls};
 
 use ipc_deadlines::{Timed, TimedCalls};
 use ipc_terms::{Call, Event, NoMemory, Rule, Sid};
@@ -23,20 +23,9 @@ pub struct Clock {
 
 /// The session whose call a tick of this moment ends, if there is one.
 pub(crate) fn due_at(clock: &Clock, moment: u64) -> Option<Sid>
-    ensures { result ≡ option_map (λ t. t.session) (find (is_over (max moment clock.now.time)) clock.now.calls.calls) }
+    ensures { result ≡ option_map (λ t. t.session) (find (is_over (max moment clock.now.time)) clock.now.calls) }
 {
     clock.calls.due(moment.max(clock.time))
-}
-
-/// Makes room for the session that a hello starts. An `Err` changes nothing.
-pub(crate) fn make_room(clock: &mut Clock, event: &Event) -> Result<(), NoMemory>
-    ensures ok { OnOk result (clock.new ≡ roomier event.now clock.old) }
-    ensures err { OnErr result (clock.new ≡ clock.old) }
-{
-    if let Event::Hello { .. } = event {
-        clock.calls.start()?;
-    }
-    Ok(())
 }
 
 /// The timed call that parks, if the event is one.
@@ -77,7 +66,7 @@ pub(crate) fn deadline_in(event: &Event) -> Option<u64>
 /// The call comes, if there is one. An `Err` changes nothing.
 pub(crate) fn push(clock: &mut Clock, alloc: Global, call: Option<Timed>) -> Result<(), NoMemory>
     requires { IfSome call (λ x. MayCome x clock.old.calls) }
-    ensures ok { OnOk result (clock.new ≡ with_calls (joined call clock.old.calls.calls) clock.old) }
+    ensures ok { OnOk result (clock.new ≡ with_calls (joined call clock.old.calls) clock.old) }
     ensures err { OnErr result (clock.new ≡ clock.old) }
 {
     if let Some(call) = call {
@@ -98,7 +87,7 @@ pub(crate) fn session_in(call: Option<Timed>) -> Option<Sid>
 
 /// The session's call goes, if there is one.
 pub(crate) fn leave(clock: &mut Clock, gone: Option<Sid>)
-    ensures { clock.new ≡ with_calls (dropped session_of (option_map (λ s. s.0) gone) clock.old.calls.calls) clock.old }
+    ensures { clock.new ≡ with_calls (dropped session_of (option_map (λ s. s.0) gone) clock.old.calls) clock.old }
 {
     if let Some(sid) = gone {
         clock.calls.end(sid);

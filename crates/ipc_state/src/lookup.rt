@@ -1,6 +1,6 @@
 //! What an event meets: each table is asked once.
 
-ghost use Rattle.std.specs.Prelude.{◌≡◌, ◌&&◌, is_some, None, option_and_then, IsTrue};
+ghost use Rattle.std.specs.Prelude.{◌≡◌, ◌&&◌, false, is_some, None, option_and_then, IsTrue};
 ghost use Rattle.std.specs.Option.{option_copied, option_map};
 ghost use Rattle.ipc_terms.specs.Events.{caller};
 ghost use Rattle.ipc_terms.specs.Timed.{plain, deadline};
@@ -11,7 +11,7 @@ ghost use Rattle.ipc_policy.specs.Bodies.{due};
 ghost use Rattle.ipc_policy.specs.Descriptions.{holds, is_nonblock};
 ghost use Rattle.ipc_policy.specs.Parking.{parked};
 ghost use Rattle.ipc_policy.specs.Registrations.{registered};
-ghost use Rattle.ipc_policy.specs.Rules.{is_some_and, object_held, is_full, is_empty, is_zero, is_greatest, would_park};
+ghost use Rattle.ipc_policy.specs.Rules.{no_session, is_some_and, object_held, is_full, is_empty, is_zero, is_greatest, would_park};
 ghost use Rattle.ipc_policy.specs.Timed.{now, is_past};
 ghost use Rattle.ipc_policy.specs.Verdict.{verdict, Legal};
 ghost use Rattle.ipc_state.specs.Agrees.{IsCore};
@@ -139,8 +139,9 @@ impl<'a> Lookup<'a> {
         is_parked_in(self.session)
     }
 
-    /// Who the caller's user is.
+    /// Who the caller's user is, where a call or a hang-up is one of a session that is live.
     pub fn cred(&self) -> Option<&'a Cred>
+        requires { no_session self.now.config self.now.history self.now.event ≡ false }
         ensures { option_copied result ≡ cred self.now.config self.now.history (caller self.now.event).0 }
     {
         user_in(self.config, self.session)

@@ -15,7 +15,7 @@ ghost use Rattle.ipc_state.specs.NextDeadline.{IsNextDeadline, EndsOncePast};
 ghost use Rattle.ipc_state.specs.OnTime.{ended_call, IsOnTime, IsState};
 
 use crate::accept::change;
-use crate::clock::{Clock, due_at, leave, make_room, push, session_in, tell, timed_call};
+use crate::clock::{Clock, due_at, leave, push, session_in, tell, timed_call};
 use crate::looking::is_live_in;
 use crate::lookup::Meant;
 use ipc_deadlines::TimedCalls;
@@ -202,7 +202,6 @@ fn step(
     ensures ok { OnOk result (IsState config.now (record { event = event.now; rule = rule } ∷ past.now.history) tables.new clock.new) }
     ensures err { OnErr result (IsState config.now past.now.history tables.new clock.new) }
 {
-    make_room(clock, event)?;
     let call = timed_call(past, event, rule, meant.parks);
     push(clock, alloc, call)?;
     if let Err(full) = change(alloc, tables, config, past, event, rule, meant) {

@@ -1,7 +1,6 @@
 -- What a call on a queue or a semaphore does to the tables: what stands in an object changes, and a session parks or is
 -- parked no more.
-use Rattle.std.proofs.Common.{◌≡◌, ℕ, List, slice_get, Option, Some, None, refl, sym, ap, ◌∙◌}
-use Rattle.std.specs.Prelude.{option_and_then}
+use Rattle.std.proofs.Common.{◌≡◌, ℕ, zero, suc, List, [], ◌∷◌, Option, Some, None, refl, sym, ap, ◌∙◌}
 use Rattle.std.specs.Borrow.{MutBor}
 use Rattle.std.specs.Option.{OnSome, option_copied_mut}
 use Rattle.ipc_terms.specs.Lists.{changed, changed_first}
@@ -51,8 +50,17 @@ module _ {A : Type 0} {of : Body → Option A} {make : A → Body} {with_part : 
       (unchanged_stands inside after has stood, seen inside inside.sessions _ after has ∙ was)
 
 -- a withdrawal, where the session was parked
-pub parked_row : (xs : List Session) (s : ℕ) (row : Session) (o : ℕ) → slice_get xs s ≡ Some row → row.parked_on ≡ Some o → parked_on_at xs s ≡ Some o
-parked_row xs s row o e k = ap (option_and_then (λ (r : Session). r.parked_on)) e ∙ k
-
 pub after_withdrawal_is : (t : TablesView) (sid : Sid) (o : ℕ) (ss : List Session) (cs : List ObjectRow) → parked_on_at t.sessions sid.0 ≡ Some o → ss ≡ changed (with_parked None) t.sessions sid.0 → cs ≡ changed_first (is_number o) (with_withdrawal sid) t.objects → record t { sessions = ss; objects = cs } ≡ after_withdrawal t sid
 after_withdrawal_is t sid o ss cs parked one two = rw (parked, one, two) refl
+
+changed_is : (xs : List Session) (s : ℕ) → parked_on_at (changed (with_parked None) xs s) s ≡ None
+changed_is [] s = refl
+changed_is (x ∷ xs) zero = refl
+changed_is (x ∷ xs) (suc s) = changed_is xs s
+
+-- whose call was withdrawn isn't parked
+pub withdrawn_unparked : (t : TablesView) (sid : Sid) → parked_on_at (after_withdrawal t sid).sessions sid.0 ≡ None
+withdrawn_unparked t sid = by (parked_on_at t.sessions sid.0) refl where
+  by : (w : Option ℕ) → parked_on_at t.sessions sid.0 ≡ w → parked_on_at (after_withdrawal t sid).sessions sid.0 ≡ None
+  by None e = rw e e
+  by (Some o) e = rw e (changed_is t.sessions sid.0)

@@ -4,3 +4,4 @@ pub mod Charging
 pub mod Lending
 pub mod Steps
 pub mod Standing
+pub mod Sessions

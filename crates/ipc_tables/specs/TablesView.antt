@@ -1,5 +1,5 @@
 -- What the tables have, and what is looked up in them.
-use Rattle.std.specs.Prelude.{Bool, false, ℕ, ◌||◌, List, slice_get, Option, Some, None, option_and_then}
+use Rattle.std.specs.Prelude.{Bool, false, ℕ, ◌||◌, List, slice_get, Option, Some, None, option_and_then, if◌then◌else◌}
 use Rattle.ipc_terms.specs.declared.ids.Family.{Family}
 use Rattle.ipc_terms.specs.declared.ids.Family.TheVariants.{Mq, Sem}
 use Rattle.ipc_names.specs.Directory.{Directory, names_object}
@@ -27,6 +27,14 @@ is_live_row (Some row) = row.is_live
 -- whether session s is live
 abbrev pub live_at : List Session → ℕ → Bool
 live_at sessions s = is_live_row (slice_get sessions s)
+
+-- the row, while its session is live
+abbrev pub live_row : Session → Option Session
+live_row row = if row.is_live then Some row else None
+
+-- session s, while it is live
+abbrev pub live_session : List Session → ℕ → Option Session
+live_session sessions s = option_and_then live_row (slice_get sessions s)
 
 -- the object on which the call of session s is parked
 abbrev pub parked_on_at : List Session → ℕ → Option ℕ

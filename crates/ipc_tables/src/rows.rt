@@ -10,7 +10,7 @@ use ipc_terms::{Facts, Kind, Mode, Object, Sid, Uid};
 use std::alloc::Global;
 
 /// A session's user, its present mask, whether it is live, and the object on which its call is
-/// parked. One that hung up keeps its user and its mask.
+/// parked. One that hung up keeps its user and its mask, but in proofs alone.
 #[derive(Clone, Copy)]
 pub struct Session {
     pub user: Uid,

@@ -1,6 +1,6 @@
 //! The tables.
 
-ghost use Rattle.std.specs.Prelude.{count_by, ◌≡◌, ◌+◌, ◌^◌, ◌<◌, [], true, false, find, length, slice_get, is_some, IsSome, Some, None, IfOk, OnOk, OnErr};
+ghost use Rattle.std.specs.Prelude.{count_by, ◌≡◌, ◌+◌, ◌^◌, ◌<◌, [], true, false, find, length, option_and_then, is_some, IsSome, Some, None, IfOk, OnOk, OnErr};
 ghost use Rattle.std.specs.Option.{option_copied, option_map};
 ghost use Rattle.ipc_terms.specs.Objects.{family_of};
 ghost use Rattle.ipc_terms.specs.declared.ids.Family.TheVariants.{Mq, Sem as SemFamily};
@@ -9,7 +9,7 @@ ghost use Rattle.ipc_descr.specs.Descriptions.{is_desc, row_of};
 ghost use Rattle.ipc_tables.specs.Charging.{Covered, Affords};
 ghost use Rattle.ipc_tables.specs.Objects.{HasRoom, is_queue, row_at, queue_at, semaphore_at, counts_of};
 ghost use Rattle.ipc_sem.specs.Counters.{overflows};
-ghost use Rattle.ipc_tables.specs.TablesView.{TablesView, directory_kept};
+ghost use Rattle.ipc_tables.specs.TablesView.{TablesView, directory_kept, live_at, live_session, parked_on_at};
 ghost use Rattle.ipc_tables.specs.Steps.{with_object, with_binding, without_binding, after_post, after_wait, after_try, after_hello, after_umask, after_found, after_created, after_close, after_unlink, after_hangup, after_send, after_receive, after_withdrawal, after_setattr, after_hand_over, after_facts, after_limit, after_notify, first_tables};
 
 use crate::counts::Counts;
@@ -83,10 +83,14 @@ impl Tables {
         })
     }
 
-    /// The session of the number, live or not.
+    /// The session of the number, while it is live. One that ended isn't parked, and none has the number of nobody.
     pub fn session(&self, sid: Sid) -> Option<Session>
-        ensures { result ≡ slice_get self.now.sessions sid.0 }
+        ensures live { result ≡ live_session self.now.sessions sid.0 }
+        ensures parked { option_and_then (λ row. row.parked_on) result ≡ parked_on_at self.now.sessions sid.0 }
+        ensures few { length self.now.sessions < 2 ^ 64 }
     {
+        // Its number fits, which `few` wants.
+        let _next = self.sessions.len();
         self.sessions.get(sid)
     }
 
@@ -276,7 +280,8 @@ impl Tables {
         bytes: &Bytes,
         sid: Sid,
     ) -> Result<(), NoMemory>
-        requires { is_some (queue_at self.old.objects object) ≡ true }
+        requires there { is_some (queue_at self.old.objects object) ≡ true }
+        requires live { live_at self.old.sessions sid.0 ≡ true }
         ensures ok { OnOk result (self.new ≡ after_send self.old object (record { place = ticket; priority = priority; bytes = bytes.now }) sid) }
         ensures err { OnErr result (self.new ≡ self.old) }
     {
@@ -295,7 +300,8 @@ impl Tables {
     /// The session takes the next message from the queue, and lets the longest parked send enter;
     /// or its receive parks. An `Err` changes nothing.
     pub fn receive(&mut self, object: u64, sid: Sid) -> Result<(), NoMemory>
-        requires { is_some (queue_at self.old.objects object) ≡ true }
+        requires there { is_some (queue_at self.old.objects object) ≡ true }
+        requires live { live_at self.old.sessions sid.0 ≡ true }
         ensures ok { OnOk result (self.new ≡ after_receive self.old object sid) }
         ensures err { OnErr result (self.new ≡ self.old) }
     {
@@ -330,7 +336,8 @@ impl Tables {
 
     /// The value is lowered by 1, or the session's wait parks. An `Err` changes nothing.
     pub fn wait(&mut self, object: u64, sid: Sid) -> Result<(), NoMemory>
-        requires { is_some (semaphore_at self.old.objects object) ≡ true }
+        requires there { is_some (semaphore_at self.old.objects object) ≡ true }
+        requires live { live_at self.old.sessions sid.0 ≡ true }
         ensures ok { OnOk result (self.new ≡ after_wait self.old object sid) }
         ensures err { OnErr result (self.new ≡ self.old) }
     {

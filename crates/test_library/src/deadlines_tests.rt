@@ -35,8 +35,6 @@ fn the_earliest_call_that_is_over_is_due(rt: HostRuntime) -> Result<(), Fail> {
 #[test]
 fn a_session_s_call_ends_and_another_comes(rt: HostRuntime) -> Result<(), Fail> {
     let mut calls = TimedCalls::new(rt.alloc());
-    calls.start()?;
-    calls.start()?;
     calls.push(rt.alloc(), EARLIER)?;
     calls.push(rt.alloc(), LATER)?;
     calls.end(Sid(1));

@@ -1,4 +1,4 @@
-use Rattle.std.proofs.Common.{Some, is_some, refl, sym, ap, ◌∙◌}
+use Rattle.std.proofs.Common.{is_some, refl, sym, ap, ◌∙◌}
 use Rattle.ipc_terms.specs.declared.ids.Family.TheVariants.{Mq}
 use Rattle.ipc_terms.specs.declared.call.Call.TheVariants.{MqGive}
 use Rattle.ipc_policy.proofs.Histories.Unforbidden.{call_free}

@@ -9,6 +9,7 @@ use Rattle.ipc_policy.specs.Names.{Opening, opening, bound}
 use Rattle.ipc_policy.proofs.Histories.Known.{opens_le-length, creations_le-length, mask_lt, known_user}
 use Rattle.ipc_names.specs.Directory.{object_named}
 use Rattle.ipc_tables.specs.TablesView.{is_live_row, directory_kept}
+use Rattle.ipc_state.proofs.LiveSessions.{live_same, there_stands}
 use Rattle.ipc_state.proofs.Lookups.{found_is, directory_agrees}
 use Rattle.ipc_state.proofs.Accepted.{cred_row, user_row, opener_live, open_new, open_room, open_affords}
 use Rattle.ipc_state.proofs.Opens.{opens_of, named_by_open}
@@ -25,7 +26,7 @@ found c = sym (named_by_open c.args.past.now.history c.args.event.now c.in-Some.
 
 -- the row of the session that opens what is to be created
 opener : (c : In-Some-session) → slice_get c.args.tables.now.sessions c.asked.inside.session.0 ≡ Some c.in-Some-session.session
-opener c = sym c.session.ensures ∙ c.in-Some-session.is
+opener c = there_stands _ c.asked.inside.session.0 c.in-Some-session.session (sym c.session.ensures.live ∙ c.in-Some-session.is)
 
 -- the name is unbound, and the user of the session is known
 unbound : (c : In-Some-cred) → bound c.args.past.now.history c.in-Some.asked.family c.in-Some.asked.name ≡ None
@@ -60,8 +61,8 @@ unreachable-requires-in_default-session c =
     let session = ap (λ (x : Opening). x.session) c.asked.view_is in
     let live' = opener_live c.args.config.now h c.args.event.now c.in-Some.asked (opens (goal.at.unreachable-requires-in_default-session c).In-Some) c.requires.accepted in
     let lives = c.requires.core.agrees.sessions.lives c.asked.inside.session.0 ∙ subst (λ (s : Sid). live h s.0 ≡ true) (sym session) live' in
-    let none = sym c.session.ensures ∙ c.in_default-session.is in
-    let no = sym (ap is_live_row none) ∙ lives in
+    let none = sym c.session.ensures.live ∙ c.in_default-session.is in
+    let no = sym (ap is_live_row none) ∙ live_same _ c.asked.inside.session.0 ∙ lives in
     cc
 
 pub unreachable-requires-in_default-cred : goal.unreachable-requires-in_default-cred

@@ -1,22 +1,23 @@
-use Rattle.std.proofs.Common.{◌≡◌, ℕ, slice_get, Some, None, refl, sym, ap, ◌∙◌}
-use Rattle.ipc_deadlines.specs.TimedView.{without_session}
-use Rattle.ipc_deadlines.proofs.KeptPlaces.{as_seen, as_kept, length_set, stands_at, stands_none, kept_end, call_goes, none_goes}
+use Rattle.std.proofs.Common.{◌≡◌, None, Some, sym, ap, ◌∙◌}
+use Rattle.std.specs.Ordering.{nat_cmp}
+use Rattle.std.specs.BTreeMap.{get}
+use Rattle.ipc_deadlines.specs.Sessions.{without_session}
+use Rattle.ipc_deadlines.proofs.KeptPlaces.{written, kept_end, kept_none, call_goes, none_goes}
 use Rattle.ipc_deadlines.proofs.timed_calls.TimedCalls.end.Goals as goal
 
 pub invariant_of-self : goal.invariant_of-self
 invariant_of-self c =
-    let places = c.self.inside.places.items in
-    let here : slice_get places c.args.sid.0 ≡ Some (Some c.in-Some.place) = stands_at (slice_get places c.args.sid.0) c.in-Some.place (rw c.deref.ensures.value at (sym c.in-Some.is ∙ c.place_at.ensures)) in
-    rw (c.remove.ensures, call_goes places c.self.inside.deadlines c.args.sid.0 c.in-Some.place c.self.invariant here) (kept_end places c.self.inside.deadlines c.args.sid.0 c.in-Some.place c.self.invariant here)
+    let calls = c.self.inside.deadlines in
+    let here = sym c.in-Some.ensures.value in
+    let updates = c.remove.ensures.updates in
+    rw (c.remove-in-Some.ensures, call_goes _ calls c.args.sid.0 c.in-Some.place c.self.invariant here) (kept_end _ _ calls c.args.sid.0 c.in-Some.place c.self.invariant here (written c.self.inside.places c.remove.new.self c.args.sid.0 None updates.1 updates.2))
 
-pub returns : goal.returns
-returns c =
-    let places = c.self.inside.places.items in
-    let here : slice_get places c.args.sid.0 ≡ Some (Some c.in-Some.place) = stands_at (slice_get places c.args.sid.0) c.in-Some.place (rw c.deref.ensures.value at (sym c.in-Some.is ∙ c.place_at.ensures)) in
-    rw (← c.self.view_is, c.remove.ensures, call_goes places c.self.inside.deadlines c.args.sid.0 c.in-Some.place c.self.invariant here) (as_seen (without_session c.args.sid.0 c.self.inside.deadlines) _ _ (length_set places c.args.sid.0 None))
+pub returns-in-Some : goal.returns-in-Some
+returns-in-Some c =
+    let calls = c.self.inside.deadlines in
+    c.remove-in-Some.ensures ∙ call_goes _ calls c.args.sid.0 c.in-Some.place c.self.invariant (sym c.in-Some.ensures.value) ∙ ap (without_session c.args.sid.0) c.self.view_is
 
 pub returns-in_default : goal.returns-in_default
 returns-in_default c =
-    let places = c.self.inside.places.items in
-    let none = none_goes places c.self.inside.deadlines c.args.sid.0 c.self.invariant (stands_none (slice_get places c.args.sid.0) (rw c.deref.ensures.value at (sym c.in_default.is ∙ c.place_at.ensures))) in
-    rw (← c.self.view_is) (as_kept c.self.inside.deadlines _ _ none)
+    let none : get nat_cmp c.self.inside.places c.args.sid.0 ≡ None = sym c.remove.ensures.value ∙ c.in_default.is in
+    none_goes (get nat_cmp c.self.inside.places) c.self.inside.deadlines c.args.sid.0 c.self.invariant none ∙ ap (without_session c.args.sid.0) c.self.view_is

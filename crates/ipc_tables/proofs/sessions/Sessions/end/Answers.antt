@@ -1,12 +1,8 @@
-use Rattle.ipc_tables.specs.Steps.{hung_up}
-use Rattle.ipc_tables.proofs.SessionRowsLemmas.{row_set, row_past}
+use Rattle.ipc_tables.specs.Sessions.{sessions_of}
+use Rattle.ipc_tables.proofs.SessionRowsLemmas.{row_taken, ended_unparked}
 use Rattle.ipc_tables.proofs.sessions.Sessions.end.Goals as goal
-use Rattle.ipc_tables.proofs.sessions.Sessions.end.Goals.{in-Some, in_default}
 
-pub returns : goal.returns
-returns c =
-    let rows = c.self.inside.rows.items in
-    rw (← c.self.view_is) (elim c.match-get_mut.branch [
-      | in-Some w ↦ rw w.self-inside-is (row_set hung_up rows c.args.sid.0 c.get_mut.result w.in-Some.row c.get_mut.ensures.item w.in-Some.is)
-      | in_default w ↦ rw w.self-inside-is (row_past hung_up rows c.args.sid.0 c.get_mut.result c.get_mut.ensures.item w.in_default.is)
-    ])
+pub invariant_of-self : goal.invariant_of-self
+invariant_of-self c =
+    let all = sessions_of c.self.inside.past.value in
+    rw (c.of-3.ensures, c.of-2.ensures, c.of.ensures, c.take.ensures.rest, c.self.invariant.0) (row_taken all c.args.sid.0, ended_unparked all c.args.sid.0 (rw (← c.self.view_is) at c.requires) c.self.invariant.1)

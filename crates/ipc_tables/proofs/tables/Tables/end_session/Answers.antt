@@ -3,14 +3,18 @@ use Rattle.std.specs.Option.{option_map}
 use Rattle.ipc_descr.specs.Descriptions.{is_of, without_session}
 use Rattle.ipc_descr.proofs.RowsLemmas.{session_less, shorter}
 use Rattle.ipc_tables.specs.contracts.tables.Tables.{the_view}
-use Rattle.ipc_tables.specs.TablesView.{TablesView}
+use Rattle.ipc_tables.specs.TablesView.{TablesView, parked_on_at}
 use Rattle.ipc_tables.specs.Standing.{rows_in}
 use Rattle.ipc_tables.specs.Steps.{after_withdrawal}
+use Rattle.ipc_tables.proofs.CallTables.{withdrawn_unparked}
 use Rattle.ipc_tables.proofs.CoveredCharges.{withdrawal_covered}
 use Rattle.ipc_tables.proofs.HangingUp.{closed_to, begun, closed_more, closed_covered, all_closed}
 use Rattle.ipc_tables.proofs.Touching.{own_held}
 use Rattle.ipc_tables.proofs.Releasing.{none_held}
 use Rattle.ipc_tables.proofs.tables.Tables.end_session.Goals as goal
+
+pub end-requires : goal.end-requires
+end-requires c = ap (λ (t : TablesView). parked_on_at t.sessions c.args.sid.0) (c.self.view_is ∙ c.withdraw.ensures) ∙ withdrawn_unparked c.args.self.now c.args.sid
 
 pub loop-desc-init : goal.loop-desc-init
 loop-desc-init c =

@@ -1,12 +1,14 @@
 use Rattle.std.proofs.Common.{None, refl, sym, ap, ◌∙◌}
+use Rattle.std.specs.Prelude.{option_and_then}
 use Rattle.std.specs.Option.{option_copied_mut}
+use Rattle.ipc_tables.specs.declared.rows.Session.{Session}
 use Rattle.ipc_terms.specs.Lists.{changed, changed_first}
 use Rattle.ipc_tables.specs.declared.tables.Tables.TheInside.{Inside}
 use Rattle.ipc_tables.specs.contracts.tables.Tables.{the_view}
 use Rattle.ipc_tables.specs.Objects.{is_number, with_withdrawal}
 use Rattle.ipc_tables.specs.Standing.{rows_in}
 use Rattle.ipc_tables.specs.Steps.{with_parked}
-use Rattle.ipc_tables.proofs.CallTables.{parked_row, after_withdrawal_is}
+use Rattle.ipc_tables.proofs.CallTables.{after_withdrawal_is}
 use Rattle.ipc_tables.proofs.RowChanges.{row_absent, row_written, sets_row, sets_body}
 use Rattle.ipc_tables.proofs.TableChanges.{IsWritten, seen_parked, written, written_stands}
 use Rattle.ipc_tables.proofs.StandingLemmas.{withdrawn_kind, keeps_withdrawal}
@@ -32,5 +34,5 @@ pub returns : goal.returns
 returns c =
     let inside = c.self.inside in
     let is = withdrawn_rows (goal.at.returns c).Joined-get_mut in
-    let parked = parked_row inside.sessions c.args.sid.0 c.in-Some.session c.in-Some-parked_on.object (sym c.get.ensures ∙ c.in-Some.is) c.in-Some-parked_on.is in
+    let parked = sym c.get.ensures.parked ∙ ap (option_and_then (λ (row : Session). row.parked_on)) c.in-Some.is ∙ c.in-Some-parked_on.is in
     rw (← c.self.view_is) (seen_parked inside _ c.set_parked.new.self _ is ∙ after_withdrawal_is (the_view inside) c.args.sid c.in-Some-parked_on.object _ _ parked (c.set_parked.ensures ∙ ap (λ (x : Inside). changed (with_parked None) x.sessions c.args.sid.0) is.rest) refl)

@@ -1,10 +1,6 @@
--- The timed calls of a server, and at which place each session's stands.
-use Rattle.std.specs.Prelude.{◌≡◌, ◌⊎◌, ℕ, ◌==◌, not, List, [], ◌∷◌, filter, slice_get, Option, Some}
+-- Whose the timed calls are, and at which place each session's stands.
+use Rattle.std.specs.Prelude.{◌≡◌, ◌⊎◌, ℕ, ◌==◌, not, List, [], ◌∷◌, filter, Option, Some}
 use Rattle.ipc_deadlines.specs.declared.timed.Timed.{Timed}
-
-pub record TimedView : Type 0 where
-  pub calls : List Timed
-  pub sessions : ℕ
 
 -- the call stands in the list
 abbrev pub In : Timed → List Timed → Type 0
@@ -27,8 +23,8 @@ pub record HasPlace (s i : ℕ) (calls : List Timed) : Type 0 where
   pub of_session : call.session.0 ≡ s
   pub at_place : call.place ≡ i
 
--- at each session's number stands the place of its call, if it has one; and no two calls have one place
-pub record IsKept (places : List (Option ℕ)) (calls : List Timed) : Type 0 where
-  pub each : (t : Timed) → In t calls → slice_get places t.session.0 ≡ Some (Some t.place)
-  pub call : (s i : ℕ) → slice_get places s ≡ Some (Some i) → HasPlace s i calls
+-- each session that has a call has its place, and no other session has one; and no two calls have one place
+pub record IsKept (places : ℕ → Option ℕ) (calls : List Timed) : Type 0 where
+  pub each : (t : Timed) → In t calls → places t.session.0 ≡ Some t.place
+  pub call : (s i : ℕ) → places s ≡ Some i → HasPlace s i calls
   pub one : (t u : Timed) → In t calls → In u calls → t.place ≡ u.place → t ≡ u
