@@ -86,14 +86,14 @@ dead_steps : (es : List Event) (a : CoreView) (s : ℕ) → IsDead a s → IsDea
 dead_steps [] a s d = d
 dead_steps (e ∷ es) a s d = dead_steps es (after_step e a) s (dead_step e a s d)
 
-ended_steps : (es : List Event) (a : CoreView) (sid : Sid) → HasEnded a sid → HasEnded (after_steps es a) sid
+pub ended_steps : (es : List Event) (a : CoreView) (sid : Sid) → HasEnded a sid → HasEnded (after_steps es a) sid
 ended_steps [] a sid h = h
 ended_steps (e ∷ es) a sid h =
     let later = hellos_later (e ∷ []) a in
     let started = h.started in
     ended_steps es (after_step e a) sid (record { started = omega arith; ended = dead_by a.config a.history e (verdict a.config a.history e) sid.0 h.started h.ended })
 
-untaken_steps : (es : List Event) (a : CoreView) (x : Connection) → untaken a x ≡ [] → ((sid : Sid) → x.session ≡ Some sid → HasEnded a sid) → untaken (after_steps es a) x ≡ []
+pub untaken_steps : (es : List Event) (a : CoreView) (x : Connection) → untaken a x ≡ [] → ((sid : Sid) → x.session ≡ Some sid → HasEnded a sid) → untaken (after_steps es a) x ≡ []
 untaken_steps es a x none ended = at x.has_refusal x.session refl none where
   at : (b : Bool) (s : Option Sid) → x.session ≡ s → cond b (Refused Refusal ∷ []) (untaken_of a s) ≡ [] → cond b (Refused Refusal ∷ []) (untaken_of (after_steps es a) s) ≡ []
   at true s is e = e
@@ -116,7 +116,7 @@ steps_both : (xs ys : List Event) (a : CoreView) → after_steps (xs ++ ys) a �
 steps_both [] ys a = refl
 steps_both (x ∷ xs) ys a = steps_both xs ys (after_step x a)
 
-fed_steps : (fed : Fed) (a b : CoreView) (x y : Connection) (c : Cut) → IsOutcome fed a x c b y → (es : List Event) × (b ≡ after_steps es a)
+pub fed_steps : (fed : Fed) (a b : CoreView) (x y : Connection) (c : Cut) → IsOutcome fed a x c b y → (es : List Event) × (b ≡ after_steps es a)
 fed_steps Done a b x y c h = (events_of a x.session c.requests, h.steps.core)
 fed_steps Short a b x y c h = (events_of a x.session h.done, h.steps.core)
 fed_steps Full a b x y c h = (events_of a x.session h.done, h.steps.core)
@@ -152,7 +152,7 @@ none_taken a (Some sid) (Some other) none = at (eqb sid.0 other.0) refl where
   at true e = ap (λ (s : ℕ). box_at (core_after_take a (Some sid)).untaken s) (sym (eqb-true sid.0 other.0 e)) ∙ taken_here a.untaken sid.0
   at false e = taken_elsewhere a.untaken sid.0 other.0 (λ (q : other.0 ≡ sid.0). let k : sid.0 ≡ other.0 = sym q in eqb-false _ _ e k) ∙ none
 
-ended_taken : (a b : CoreView) (s : Option Sid) (sid : Sid) → b ≡ core_after_take a s → HasEnded a sid → HasEnded b sid
+pub ended_taken : (a b : CoreView) (s : Option Sid) (sid : Sid) → b ≡ core_after_take a s → HasEnded a sid → HasEnded b sid
 ended_taken a b s sid now h =
     let same : b.history ≡ a.history = ap (λ (z : CoreView). z.history) now ∙ same_history a s in
     record { started = subst (λ (k : History). sid.0 < hellos k) (sym same) h.started; ended = ap (λ (k : History). live k sid.0) same ∙ h.ended }
@@ -163,7 +163,7 @@ unrefused a x none = at x.has_refusal none where
   at true e = absurd cc
   at false e = e
 
-still_none : (a : CoreView) (s : Option Sid) (x : Connection) → untaken a x ≡ [] → untaken (core_after_take a s) x ≡ []
+pub still_none : (a : CoreView) (s : Option Sid) (x : Connection) → untaken a x ≡ [] → untaken (core_after_take a s) x ≡ []
 still_none a s x none = at x.has_refusal none where
   at : (b : Bool) → cond b (Refused Refusal ∷ []) (untaken_of a x.session) ≡ [] → cond b (Refused Refusal ∷ []) (untaken_of (core_after_take a s) x.session) ≡ []
   at true e = e

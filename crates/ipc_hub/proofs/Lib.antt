@@ -14,5 +14,6 @@ pub mod LawLemmas
 pub mod RunLemmas
 pub mod RefusalLemmas
 pub mod GoneLemmas
+pub mod KeptLemmas
 pub mod StreamLemmas
 pub mod RaisedLemmas

@@ -284,6 +284,11 @@ abbrev pub fault_of_take : Option Connection → Option HubFault
 fault_of_take None = Some NoSuchConn
 fault_of_take (Some x) = None
 
+-- the fault of a question for the session of this connection: it is known no more of one that is over, and keeps nothing
+abbrev pub IsSessionFault : Option Connection → HubFault → Type 0
+IsSessionFault None fault = fault ≡ NoSuchConn
+IsSessionFault (Some x) fault = (fault ≡ Ended) × (x.is_over ≡ true) × (x.kept ≡ [])
+
 -- the one that there is, or out of memory where there is none
 abbrev pub IsFaultOr : Option HubFault → HubFault → Type 0
 IsFaultOr found fault = MatchOption found (fault ≡ NoMemory) (λ first. fault ≡ first)

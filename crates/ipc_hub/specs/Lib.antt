@@ -5,3 +5,4 @@ pub mod Connections
 pub mod Sessions
 pub mod Stepping
 pub mod Laws
+pub mod Gone

