@@ -12,10 +12,10 @@ use Rattle.ipc_hub.specs.declared.fed.Fed.{Fed}
 use Rattle.ipc_hub.specs.declared.fed.Fed.TheVariants.{Full, Over}
 use Rattle.ipc_hub.specs.declared.fed.End.TheVariants.{BadKey}
 use Rattle.ipc_hub.specs.Hub.{session_or_next, is_hello_refused}
-use Rattle.ipc_hub.specs.Marking.{is_set, owner_of}
-use Rattle.ipc_hub.specs.MarkedCore.{MarkedView, Follows, GainsAtMostTwo}
+use Rattle.ipc_hub.specs.Marking.{is_set}
+use Rattle.ipc_hub.specs.MarkedCore.{MarkedView, IsOwned, Follows, GainsAtMostTwo}
 use Rattle.ipc_hub.specs.Stepping.{Starts, Goes, Ends, IsWithin, is_full, count_of}
-use Rattle.ipc_hub.proofs.MarkedLemmas.{follows_self, follows_both}
+use Rattle.ipc_hub.proofs.MarkedLemmas.{follows_self, follows_both, owned_later}
 use Rattle.ipc_hub.proofs.HubLemmas.{has_session}
 
 pub none_starts : (m : MarkedView) (i : ℕ) (s : Option Sid) → Starts m i s s
@@ -45,9 +45,9 @@ starts_on a b i s t u f h stays k = record {
   marked_at none sid e None is = k.marked is sid e
   marked_at none sid e (Some own) is = f.kept i (h.marked none own is)
 
-  owner_at : s ≡ None → (sid : Sid) → u ≡ Some sid → (w : Option Sid) → t ≡ w → owner_of b.owners sid.0 ≡ Some i
+  owner_at : s ≡ None → (sid : Sid) → u ≡ Some sid → (w : Option Sid) → t ≡ w → IsOwned b sid.0 i
   owner_at none sid e None is = k.owner is sid e
-  owner_at none sid e (Some own) is = f.owners sid.0 i (h.owner none sid (is ∙ sym (stays own is) ∙ e))
+  owner_at none sid e (Some own) is = owned_later a b sid.0 i f (h.owner none sid (is ∙ sym (stays own is) ∙ e))
 
 -- a request more
 pub request_goes : (i : ℕ) (most : Option ℕ) (a b c : MarkedView) (s t : Option Sid) (q : Request) (sid : Sid) → Goes i most a s b t → is_full most (count_of b t) ≡ false → ◌≡◌ {A = Option Sid} (Some sid) (cond (is_hello_refused b.core t (q ∷ [])) None (Some (session_or_next b.core t))) → Follows b c → Starts c i t (Some sid) → count_of c (Some sid) ≤ count_of b t + 2 → Goes i most a s c (Some sid)

@@ -1,5 +1,5 @@
 -- A hub's marks, and whose its sessions are.
-use Rattle.std.proofs.Common.{◌≡◌, ℕ, zero, suc, Bool, true, false, eqb, cond, List, [], ◌∷◌, ◌++◌, length, set, slice_get, Option, Some, None, option_map, refl, sym, ap, subst, ◌∙◌, arith}
+use Rattle.std.proofs.Common.{◌≡◌, ℕ, zero, suc, Bool, true, false, not, eqb, cond, List, [], ◌∷◌, ◌++◌, length, set, slice_get, Option, Some, None, option_map, refl, sym, ap, subst, ◌∙◌, arith}
 use Rattle.std.specs.Prelude.{is_none, unwrap_or}
 use Rattle.std.proofs.lemmas.Bool.{eqb-true, eq-eqb}
 use Rattle.ipc_terms.specs.declared.ids.Sid.{Sid}
@@ -15,8 +15,8 @@ use Rattle.ipc_hub.specs.declared.fed.Fed.TheVariants.{Done, Short, Full, Over}
 use Rattle.ipc_hub.specs.declared.fed.End.TheVariants.{Wire, BadKey}
 use Rattle.ipc_hub.specs.Hub.{Connection, Hub, Marks, new_connection, untaken_of, untaken, untaken_at, hang_up_of, IsOutcome, core_after_take}
 use Rattle.ipc_hub.specs.Marking.{is_set, owner_of}
-use Rattle.ipc_hub.specs.MarkedCore.{MarkedView, Follows}
-use Rattle.ipc_hub.specs.Sessions.{Stands}
+use Rattle.ipc_hub.specs.MarkedCore.{MarkedView, IsOwned, Owned, NoMore, Follows}
+use Rattle.ipc_hub.specs.Sessions.{EachHasItsOwn, Stands}
 use Rattle.ipc_hub.specs.Stepping.{Starts, Ends, IsWithin, is_full, count_of}
 use Rattle.ipc_hub.proofs.SessionLemmas.{Which, Own, Other, AfterOpening, Fresh, Stood, which, get_set, after_opening, fresh_has_none, fed_changes, none_at_all}
 use Rattle.ipc_hub.proofs.MarkLemmas.{set_count}
@@ -39,9 +39,13 @@ count_set (x ∷ xs) (suc i) y = ap suc (count_set xs i y)
 
 each_silent : (m n : MarkedView) (xs : List Connection) (j : ℕ) (z : Connection) → Stands m xs → Follows m n → slice_get xs j ≡ Some z → is_set n.marked j ≡ false → untaken n.core z ≡ untaken m.core z
 each_silent m n xs j z w f there off = at z.has_refusal where
+  own : (sid : Sid) → z.session ≡ Some sid → (over : Bool) → z.is_over ≡ over → untaken_of n.core (Some sid) ≡ untaken_of m.core (Some sid)
+  own sid e false open' = f.silent sid.0 j (w.owned j z sid there e open') off
+  own sid e true over = let is = w.sessions.own j z sid there e in f.ended.silent sid (record { started = is.started; ended = is.live_is ∙ ap not over })
+
   box : (s : Option Sid) → z.session ≡ s → untaken_of n.core s ≡ untaken_of m.core s
   box None e = refl
-  box (Some sid) e = f.silent sid.0 j (w.owned j z sid there e) off
+  box (Some sid) e = own sid e z.is_over refl
 
   at : (b : Bool) → cond b (Refused Refusal ∷ []) (untaken_of n.core z.session) ≡ cond b (Refused Refusal ∷ []) (untaken_of m.core z.session)
   at true = refl
@@ -88,17 +92,17 @@ refusal_kept Full i most m n x y c h e off = ap (λ (z : Connection). z.has_refu
 refusal_kept (Over (Wire fault)) i most m n x y c h e off = ap (λ (z : Connection). z.has_refusal) h.connection
 refusal_kept (Over BadKey) i most m n x y c h e off = absurd (let wrong : true ≡ false = sym (e.refused refl) ∙ off in cc)
 
-session_silent : (m n : MarkedView) (xs : List Connection) (i : ℕ) (x y : Connection) → Stands m xs → slice_get xs i ≡ Some x → Follows m n → Starts n i x.session y.session → ((sid : Sid) → x.session ≡ Some sid → y.session ≡ Some sid) → is_set n.marked i ≡ false → untaken_of n.core y.session ≡ untaken_of m.core x.session
-session_silent m n xs i x y w there f starts stays off = at x.session refl y.session refl where
+session_silent : (m n : MarkedView) (xs : List Connection) (i : ℕ) (x y : Connection) → Stands m xs → slice_get xs i ≡ Some x → x.is_over ≡ false → Follows m n → Starts n i x.session y.session → ((sid : Sid) → x.session ≡ Some sid → y.session ≡ Some sid) → is_set n.marked i ≡ false → untaken_of n.core y.session ≡ untaken_of m.core x.session
+session_silent m n xs i x y w there open' f starts stays off = at x.session refl y.session refl where
   at : (s : Option Sid) → x.session ≡ s → (t : Option Sid) → y.session ≡ t → untaken_of n.core y.session ≡ untaken_of m.core x.session
   at None none None still = ap (untaken_of n.core) still ∙ sym (ap (untaken_of m.core) none)
   at None none (Some sid) e = absurd (let wrong : true ≡ false = sym (starts.marked none sid e) ∙ off in cc)
-  at (Some sid) is t e = ap (untaken_of n.core) (stays sid is) ∙ f.silent sid.0 i (w.owned i x sid there is) off ∙ sym (ap (untaken_of m.core) is)
+  at (Some sid) is t e = ap (untaken_of n.core) (stays sid is) ∙ f.silent sid.0 i (w.owned i x sid there is open') off ∙ sym (ap (untaken_of m.core) is)
 
 pub fed_silent : (fed : Fed) (most : Option ℕ) (m n : MarkedView) (xs : List Connection) (i : ℕ) (x y : Connection) (c : Cut) → Stands m xs → slice_get xs i ≡ Some x → x.is_over ≡ false → IsOutcome fed m.core x c n.core y → Ends fed i most m x.session n y.session → ((sid : Sid) → x.session ≡ Some sid → y.session ≡ Some sid) → is_set n.marked i ≡ false → untaken n.core y ≡ untaken m.core x
 fed_silent fed most m n xs i x y c w there open' h e stays off =
     let none = has_none_refused m xs i x w there open' in
-    plain_untaken n.core y (refusal_kept fed i most m n x y c h e off ∙ none) ∙ session_silent m n xs i x y w there e.goes.follows e.goes.starts stays off ∙ sym (plain_untaken m.core x none)
+    plain_untaken n.core y (refusal_kept fed i most m n x y c h e off ∙ none) ∙ session_silent m n xs i x y w there open' e.goes.follows e.goes.starts stays off ∙ sym (plain_untaken m.core x none)
 
 -- ---- how many answers are untaken then
 
@@ -136,25 +140,32 @@ was_there m xs i x was = ap (left_there m.core) was
 
 -- ---- whose sessions are whose
 
-changed_owned : (m n : MarkedView) (xs : List Connection) (i : ℕ) (x y : Connection) → Stands m xs → slice_get xs i ≡ Some x → ((s j : ℕ) → owner_of m.owners s ≡ Some j → owner_of n.owners s ≡ Some j) → Starts n i x.session y.session → ((sid : Sid) → x.session ≡ Some sid → y.session ≡ Some sid) → (j : ℕ) (z : Connection) (sid : Sid) → slice_get (set xs i y) j ≡ Some z → z.session ≡ Some sid → owner_of n.owners sid.0 ≡ Some j
-changed_owned m n xs i x y w there keeps starts stays j z sid e k = at (which xs i x y j z there e) where
-  own : y.session ≡ Some sid → (s : Option Sid) → x.session ≡ s → owner_of n.owners sid.0 ≡ Some i
-  own now None none = starts.owner none sid now
-  own now (Some was) is = keeps sid.0 i (w.owned i x sid there (is ∙ ap Some (some_sid was sid (sym (stays was is) ∙ now))))
+-- the session of a connection that is not over is live
+still_owned : (n : MarkedView) (xs : List Connection) (j : ℕ) (z : Connection) (sid : Sid) → EachHasItsOwn n.core xs → slice_get xs j ≡ Some z → z.session ≡ Some sid → z.is_over ≡ false → IsOwned n sid.0 j → owner_of n.owners sid.0 ≡ Some j
+still_owned n xs j z sid all there k open' (Owned e) = e
+still_owned n xs j z sid all there k open' (NoMore h) = absurd (let wrong : true ≡ false = sym ((all.own j z sid there k).live_is ∙ ap not open') ∙ h.ended in cc)
 
-  at : Which xs i y j z → owner_of n.owners sid.0 ≡ Some j
-  at (Own same is) = own (ap (λ (v : Connection). v.session) is ∙ k) x.session refl ∙ ap Some same
-  at (Other ne stood) = keeps sid.0 j (w.owned j z sid stood k)
+changed_owned : (m n : MarkedView) (xs : List Connection) (i : ℕ) (x y : Connection) → Stands m xs → slice_get xs i ≡ Some x → ((s j : ℕ) → owner_of m.owners s ≡ Some j → IsOwned n s j) → Starts n i x.session y.session → ((sid : Sid) → x.session ≡ Some sid → y.session ≡ Some sid) → (y.is_over ≡ false → x.is_over ≡ false) → EachHasItsOwn n.core (set xs i y) → (j : ℕ) (z : Connection) (sid : Sid) → slice_get (set xs i y) j ≡ Some z → z.session ≡ Some sid → z.is_over ≡ false → owner_of n.owners sid.0 ≡ Some j
+changed_owned m n xs i x y w there keeps starts stays was_open all j z sid e k open' = still_owned n (set xs i y) j z sid all e k open' (at (which xs i x y j z there e)) where
+  own : y.session ≡ Some sid → y.is_over ≡ false → (s : Option Sid) → x.session ≡ s → IsOwned n sid.0 i
+  own now still None none = starts.owner none sid now
+  own now still (Some was) is = keeps sid.0 i (w.owned i x sid there (is ∙ ap Some (some_sid was sid (sym (stays was is) ∙ now))) (was_open still))
+
+  at : Which xs i y j z → IsOwned n sid.0 j
+  at (Own same is) = subst (λ (l : ℕ). IsOwned n sid.0 l) same (own (ap (λ (v : Connection). v.session) is ∙ k) (ap (λ (v : Connection). v.is_over) is ∙ open') x.session refl)
+  at (Other ne stood) = keeps sid.0 j (w.owned j z sid stood k open')
 
 pub fed_stays : (fed : Fed) (m n : MarkedView) (xs : List Connection) (i : ℕ) (x y : Connection) (bytes : List ℕ) → Stands m xs → slice_get xs i ≡ Some x → x.is_over ≡ false → IsOutcome fed m.core x (cut (is_none x.session) bytes) n.core y → (sid : Sid) → x.session ≡ Some sid → y.session ≡ Some sid
 fed_stays fed m n xs i x y bytes w there open' h = (fed_changes fed m.core n.core x y bytes (open_at m.core xs i x w.sessions there open') h).stays
 
 pub fed_stands : (fed : Fed) (most : Option ℕ) (m n : MarkedView) (xs : List Connection) (i : ℕ) (x y : Connection) (bytes : List ℕ) → Stands m xs → slice_get xs i ≡ Some x → x.is_over ≡ false → IsOutcome fed m.core x (cut (is_none x.session) bytes) n.core y → Ends fed i most m x.session n y.session → Stands n (set xs i y)
-fed_stands fed most m n xs i x y bytes w there open' h e = record {
-  sessions = fed_sessions fed m.core n.core xs i x y bytes w.sessions there open' h;
-  count = e.goes.follows.count ∙ w.count ∙ count_set xs i y;
-  owned = changed_owned m n xs i x y w there e.goes.follows.owners e.goes.starts (fed_stays fed m n xs i x y bytes w there open' h);
-}
+fed_stands fed most m n xs i x y bytes w there open' h e =
+    let all = fed_sessions fed m.core n.core xs i x y bytes w.sessions there open' h in
+    record {
+      sessions = all;
+      count = e.goes.follows.count ∙ w.count ∙ count_set xs i y;
+      owned = changed_owned m n xs i x y w there e.goes.follows.owners e.goes.starts (fed_stays fed m n xs i x y bytes w there open' h) (λ still. open') all;
+    }
 
 no_start : (n : MarkedView) (i : ℕ) (x y : Connection) → y.session ≡ x.session → Starts n i x.session y.session
 no_start n i x y same = record {
@@ -165,10 +176,11 @@ no_start n i x y same = record {
 pub hung_up_stands : (m n : MarkedView) (xs : List Connection) (i : ℕ) (x y : Connection) → Stands m xs → slice_get xs i ≡ Some x → x.is_over ≡ false → n.core ≡ after_steps (hang_up_of x.session) m.core → Follows m n → y ≡ record x { kept = []; is_over = true } → Stands n (set xs i y)
 hung_up_stands m n xs i x y w there open' now f is =
     let same : y.session ≡ x.session = ap (λ (z : Connection). z.session) is in
+    let all = hung_up_sessions m.core n.core xs i x y w.sessions there open' now is in
     record {
-      sessions = hung_up_sessions m.core n.core xs i x y w.sessions there open' now is;
+      sessions = all;
       count = f.count ∙ w.count ∙ count_set xs i y;
-      owned = changed_owned m n xs i x y w there f.owners (no_start n i x y same) (λ sid e. same ∙ e);
+      owned = changed_owned m n xs i x y w there f.owners (no_start n i x y same) (λ sid e. same ∙ e) (λ still. open') all;
     }
 
 pub hung_up_silent : (m n : MarkedView) (xs : List Connection) (i : ℕ) (x y : Connection) → Stands m xs → slice_get xs i ≡ Some x → Follows m n → y ≡ record x { kept = []; is_over = true } → is_set n.marked i ≡ false → untaken n.core y ≡ untaken m.core x
@@ -177,17 +189,18 @@ hung_up_silent m n xs i x y w there f is off = ap (untaken n.core) is ∙ each_s
 pub taken_stands : (m n : MarkedView) (xs : List Connection) (i : ℕ) (x y : Connection) → Stands m xs → slice_get xs i ≡ Some x → n ≡ record m { core = core_after_take m.core x.session } → y ≡ record x { has_refusal = false } → Stands n (set xs i y)
 taken_stands m n xs i x y w there now is =
     let same : y.session ≡ x.session = ap (λ (z : Connection). z.session) is in
+    let all = taken_sessions m.core n.core xs i x y w.sessions there (ap (λ (z : MarkedView). z.core) now) is in
     record {
-      sessions = taken_sessions m.core n.core xs i x y w.sessions there (ap (λ (z : MarkedView). z.core) now) is;
+      sessions = all;
       count = ap (λ (z : MarkedView). length z.marked) now ∙ w.count ∙ count_set xs i y;
-      owned = changed_owned m n xs i x y w there (λ s j e. ap (λ (z : MarkedView). owner_of z.owners s) now ∙ e) (no_start n i x y same) (λ sid e. same ∙ e);
+      owned = changed_owned m n xs i x y w there (λ s j e. Owned (ap (λ (z : MarkedView). owner_of z.owners s) now ∙ e)) (no_start n i x y same) (λ sid e. same ∙ e) (λ still. sym (ap (λ (z : Connection). z.is_over) is) ∙ still) all;
     }
 
 pub opened_stands : (m n : MarkedView) (xs ys : List Connection) (x : Connection) → Stands m xs → x ≡ new_connection → ys ≡ xs ++ x ∷ [] → n ≡ record m { marked = m.marked ++ false ∷ [] } → Stands n ys
 opened_stands m n xs ys x w new all now = subst (λ (k : MarkedView). Stands k ys) (sym now) (subst (λ (zs : List Connection). Stands (record m { marked = m.marked ++ false ∷ [] }) zs) (sym (all ∙ ap (λ (z : Connection). xs ++ z ∷ []) new)) (record {
   sessions = opened_sessions m.core xs (xs ++ new_connection ∷ []) new_connection w.sessions refl refl;
   count = one_more m.marked xs w.count;
-  owned = λ i z sid e k. at i z sid k (after_opening xs i z e);
+  owned = λ i z sid e k open'. at i z sid k open' (after_opening xs i z e);
 })) where
   one_more : (bs : List Bool) (zs : List Connection) → length bs ≡ length zs → length (bs ++ false ∷ []) ≡ length (zs ++ new_connection ∷ [])
   one_more [] [] e = refl
@@ -195,16 +208,18 @@ opened_stands m n xs ys x w new all now = subst (λ (k : MarkedView). Stands k y
   one_more (b ∷ bs) [] e = absurd (omega arith)
   one_more (b ∷ bs) (z ∷ zs) e = ap suc (one_more bs zs (omega arith))
 
-  at : (i : ℕ) (z : Connection) (sid : Sid) → z.session ≡ Some sid → AfterOpening xs i z → owner_of m.owners sid.0 ≡ Some i
-  at i z sid k (Fresh past is) = absurd (fresh_has_none z sid is k)
-  at i z sid k (Stood e) = w.owned i z sid e k
+  at : (i : ℕ) (z : Connection) (sid : Sid) → z.session ≡ Some sid → z.is_over ≡ false → AfterOpening xs i z → owner_of m.owners sid.0 ≡ Some i
+  at i z sid k open' (Fresh past is) = absurd (fresh_has_none z sid is k)
+  at i z sid k open' (Stood e) = w.owned i z sid e k open'
 
 pub ticked_stands : (m n : MarkedView) (xs : List Connection) (moment : ℕ) → Stands m xs → n.core ≡ after_step (Tick moment) m.core → Follows m n → Stands n xs
-ticked_stands m n xs moment w now f = record {
-  sessions = ticked_sessions m.core n.core xs moment now w.sessions;
-  count = f.count ∙ w.count;
-  owned = λ i z sid e k. f.owners sid.0 i (w.owned i z sid e k);
-}
+ticked_stands m n xs moment w now f =
+    let all = ticked_sessions m.core n.core xs moment now w.sessions in
+    record {
+      sessions = all;
+      count = f.count ∙ w.count;
+      owned = λ i z sid e k open'. still_owned n xs i z sid all e k open' (f.owners sid.0 i (w.owned i z sid e k open'));
+    }
 
 -- the connection that is named loses its mark
 pub named_stands : (m n : MarkedView) (xs : List Connection) (i : ℕ) → Stands m xs → n ≡ record m { marked = set m.marked i false } → Stands n xs
@@ -215,4 +230,4 @@ pub forgot_stands : (m n : MarkedView) (first : ℕ) (xs : List Connection) → 
 forgot_stands m n first xs w now = subst (λ (k : MarkedView). Stands k xs) (sym now) (record { sessions = forgot_sessions m.core first xs w.sessions; count = w.count; owned = w.owned })
 
 pub no_connections : (m : MarkedView) → m.marked ≡ [] → Stands m []
-no_connections m e = record { sessions = none_at_all m.core; count = ap (λ (bs : List Bool). length bs) e; owned = λ i x sid there k. absurd cc }
+no_connections m e = record { sessions = none_at_all m.core; count = ap (λ (bs : List Bool). length bs) e; owned = λ i x sid there k open'. absurd cc }

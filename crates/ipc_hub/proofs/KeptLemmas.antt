@@ -1,6 +1,6 @@
 -- The connections that are kept, and those that are gone: what a change of the former makes of all.
-use Rattle.std.proofs.Common.{◌≡◌, ℕ, zero, suc, ◌+◌, ◌<◌, Bool, true, false, eqb, cond, List, [], ◌∷◌, ◌++◌, length, length-append, set, slice_get, Option, Some, None, is_some, refl, sym, ap, subst, ◌∙◌, arith}
-use Rattle.std.specs.Prelude.{option_and_then, take, ◌-◌, OnErr, OnOk, Result, Ok, Err}
+use Rattle.std.proofs.Common.{◌≡◌, ℕ, zero, suc, ◌+◌, ◌<◌, Bool, true, false, eqb, cond, List, [], ◌∷◌, ◌++◌, length, set, slice_get, Option, Some, None, is_some, refl, sym, ap, subst, ◌∙◌, arith}
+use Rattle.std.specs.Prelude.{option_and_then, OnErr, OnOk, Result, Ok, Err}
 use Rattle.std.specs.Result.{is_err}
 use Rattle.std.proofs.lemmas.Bool.{eqb-false, eq-eqb, ne_eqb}
 use Rattle.ipc_terms.specs.Lists.{changed}
@@ -226,13 +226,6 @@ pub same_written : (rows : List (Option Connection)) (i : ℕ) (x y : Connection
 same_written [] i x y e same = refl
 same_written (o ∷ rows) zero x y e same = ap (λ w. w ∷ rows) (ap Some same ∙ sym e)
 same_written (o ∷ rows) (suc i) x y e same = ap (λ l. o ∷ l) (same_written rows i x y e same)
-
--- a push is undone
-pub put_back : (rows : List (Option Connection)) (o : Option Connection) → take (length (rows ++ o ∷ []) - 1) (rows ++ o ∷ []) ≡ rows
-put_back rows o = let long = length-append rows (o ∷ []) in let less : length (rows ++ o ∷ []) - 1 ≡ length rows = omega arith in rw less (front rows (o ∷ [])) where
-  front : (xs ys : List (Option Connection)) → take (length xs) (xs ++ ys) ≡ xs
-  front [] ys = refl
-  front (x ∷ xs) ys = ap (λ l. x ∷ l) (front xs ys)
 
 pub on_err : {T E P : Type 0} (r : Result T E) → P → OnErr r P
 on_err (Ok x) p = tt

@@ -1,60 +1,29 @@
 -- A core steps, and whom it answers is marked.
-use Rattle.std.proofs.Common.{◌≡◌, ℕ, zero, suc, ◌+◌, ◌-◌, ◌<◌, ◌≤◌, Bool, true, false, eqb, cond, List, [], ◌∷◌, ◌++◌, length, map, set, slice_get, Option, Some, None, refl, sym, ap, subst, ◌∙◌, arith}
-use Rattle.std.specs.Prelude.{is_some, nat_lt}
+use Rattle.std.proofs.Common.{◌≡◌, ℕ, ◌+◌, ◌<◌, ◌≤◌, Bool, true, false, eqb, cond, List, [], ◌∷◌, ◌++◌, length, map, set, Option, Some, None, refl, sym, ap, subst, ◌∙◌, arith}
 use Rattle.std.specs.List.{filter}
 use Rattle.std.specs.Option.{option_to_list}
-use Rattle.std.proofs.lemmas.Bool.{eq-eqb, ltb-true}
+use Rattle.std.proofs.lemmas.Bool.{eq-eqb, eqb-true, eqb-false}
 use Rattle.std.proofs.lemmas.List.{append-nil}
 use Rattle.ipc_terms.specs.declared.ids.Sid.{Sid}
-use Rattle.ipc_terms.specs.declared.ids.Uid.{Uid}
-use Rattle.ipc_terms.specs.declared.rule.Rule.{Rule}
 use Rattle.ipc_terms.specs.declared.call.Answer.{Answer}
 use Rattle.ipc_terms.specs.declared.record.Event.{Event}
-use Rattle.ipc_terms.specs.declared.record.Event.TheVariants.{Hello, Do, Hangup, Tick}
+use Rattle.ipc_terms.specs.declared.record.Event.TheVariants.{Hangup}
 use Rattle.ipc_policy.specs.declared.config.Config.{Config}
 use Rattle.ipc_policy.specs.History.{History}
 use Rattle.ipc_policy.specs.Sessions.{hellos, live}
-use Rattle.ipc_policy.specs.Grow.{hellos_after}
-use Rattle.ipc_policy.specs.Verdict.{verdict, answers, for_session, after_event}
-use Rattle.ipc_policy.proofs.Histories.Grown.{grows}
-use Rattle.ipc_policy.proofs.Histories.Refused.{same_values}
+use Rattle.ipc_policy.specs.Verdict.{answers, for_session, after_event}
 use Rattle.ipc_core.specs.Boxes.{box_at}
-use Rattle.ipc_core.specs.Outboxes.{starts, added, after_step, BoxesAgree}
+use Rattle.ipc_core.specs.Outboxes.{added, after_step, BoxesAgree}
 use Rattle.ipc_core.specs.CoreView.{CoreView}
 use Rattle.ipc_core.proofs.BoxTables.{box_past}
 use Rattle.ipc_core.proofs.LawLemmas.{each_is_added}
-use Rattle.ipc_hub.specs.Hub.{untaken_of}
-use Rattle.ipc_hub.specs.Marking.{is_set, owner_of, sessions_in, with_owner, Owners, MarksView, MarksOwners, NoneIs}
-use Rattle.ipc_hub.specs.MarkedCore.{MarkedView, Follows, MarksAnswered, GainsAtMostTwo}
+use Rattle.ipc_hub.specs.Hub.{untaken_of, HasEnded}
+use Rattle.ipc_hub.specs.Marking.{is_set, owner_of, sessions_in, with_owner, without_newest, without_owner, Owners, MarksView, MarksOwners, NoneIs}
+use Rattle.ipc_hub.specs.MarkedCore.{MarkedView, IsOwned, Owned, NoMore, EndedStay, Follows, MarksAnswered, GainsAtMostTwo}
 use Rattle.ipc_hub.proofs.MarkLemmas.{set_at, set_count, both_marked}
-
--- ---- how many sessions have started
-
-hellos_by : (c : Config) (h : History) (e : Event) (rule : Option Rule) → starts None e ≡ false → hellos (record { event = e; rule = rule } ∷ h) ≡ hellos h
-hellos_by c h e (Some rule) plain = (same_values c h e rule).hellos
-hellos_by c h e None plain = (grows c h e).hello_count ∙ at e plain where
-  at : (e : Event) → starts None e ≡ false → hellos_after e (hellos h) ≡ hellos h
-  at (Hello found) plain = absurd cc
-  at (Do sid call) plain = refl
-  at (Hangup sid) plain = refl
-  at (Tick moment) plain = refl
-
-pub none_starts : (a b : CoreView) (e : Event) → starts None e ≡ false → b ≡ after_step e a → hellos b.history ≡ hellos a.history
-none_starts a b e plain now = ap (λ (z : CoreView). hellos z.history) now ∙ hellos_by a.config a.history e (verdict a.config a.history e) plain
-
-refused_by : (c : Config) (h : History) (e : Event) (rule : Option Rule) → is_some rule ≡ true → hellos (record { event = e; rule = rule } ∷ h) ≡ hellos h
-refused_by c h e (Some rule) on = (same_values c h e rule).hellos
-refused_by c h e None on = absurd cc
-
-pub refused_starts : (a b : CoreView) (e : Event) → is_some (verdict a.config a.history e) ≡ true → b ≡ after_step e a → hellos b.history ≡ hellos a.history
-refused_starts a b e on now = ap (λ (z : CoreView). hellos z.history) now ∙ refused_by a.config a.history e (verdict a.config a.history e) on
-
-hello_by : (c : Config) (h : History) (found : Option Uid) (rule : Option Rule) → is_some rule ≡ false → hellos (record { event = Hello found; rule = rule } ∷ h) ≡ hellos h + 1
-hello_by c h found (Some rule) off = absurd cc
-hello_by c h found None off = (grows c h (Hello found)).hello_count
-
-pub hello_more : (a b : CoreView) (found : Option Uid) → is_some (verdict a.config a.history (Hello found)) ≡ false → b ≡ after_step (Hello found) a → hellos b.history ≡ hellos a.history + 1
-hello_more a b found off now = ap (λ (z : CoreView). hellos z.history) now ∙ hello_by a.config a.history found (verdict a.config a.history (Hello found)) off
+use Rattle.ipc_hub.proofs.OwnerLemmas.{length_both, own_owner, owner_stays, newest_undone, owned_within, others_own}
+use Rattle.ipc_hub.proofs.SessionSteps.{hellos_later, hung_up_is_over}
+use Rattle.ipc_hub.proofs.GoneLemmas.{ended_steps}
 
 -- ---- whom a step answers
 
@@ -73,17 +42,22 @@ none_either : (b : Bool) → ◌≡◌ {A = List Answer} (cond b [] []) []
 none_either true = refl
 none_either false = refl
 
-same_box : (a b : CoreView) (e : Event) (s : ℕ) → BoxesAgree a.config a.history a.untaken → b ≡ after_step e a → for_session s (answers a.config a.history e) ≡ [] → box_at b.untaken s ≡ box_at a.untaken s
+same_box : (a b : CoreView) (e : Event) (s : ℕ) → BoxesAgree a.config a.history a.untaken → b ≡ after_step e a → added a.config a.history e s ≡ [] → box_at b.untaken s ≡ box_at a.untaken s
 same_box a b e s agree now none =
     ap (λ (z : CoreView). box_at z.untaken s) now
     ∙ each_is_added a.config a.history e a.untaken s agree
-    ∙ ap (λ (more : List Answer). box_at a.untaken s ++ cond (live (after_event a.config a.history e) s) more []) none
-    ∙ ap (λ (more : List Answer). box_at a.untaken s ++ more) (none_either (live (after_event a.config a.history e) s))
+    ∙ ap (λ (more : List Answer). box_at a.untaken s ++ more) none
     ∙ append-nil (box_at a.untaken s)
 
-length_both : {X : Type 0} (xs ys : List X) → length (xs ++ ys) ≡ length xs + length ys
-length_both [] ys = omega arith
-length_both (x ∷ xs) ys = let e = length_both xs ys in omega arith
+untold : (c : Config) (h : History) (e : Event) (s : ℕ) → for_session s (answers c h e) ≡ [] → added c h e s ≡ []
+untold c h e s none = ap (λ (more : List Answer). cond (live (after_event c h e) s) more []) none ∙ none_either (live (after_event c h e) s)
+
+-- who has ended is told nothing
+ended_stay : (a b : CoreView) (e : Event) → BoxesAgree a.config a.history a.untaken → b ≡ after_step e a → EndedStay a b
+ended_stay a b e agree now = record {
+  ended = λ sid h. subst (λ (z : CoreView). HasEnded z sid) (sym now) (ended_steps (e ∷ []) a sid h);
+  silent = λ sid h. same_box a b e sid.0 agree now (ap (λ on. cond on (for_session sid.0 (answers a.config a.history e)) []) (ended_steps (e ∷ []) a sid h).ended);
+}
 
 length_firsts : (told : List (Sid × Answer)) → length (map (λ p. p.0) told) ≡ length told
 length_firsts [] = refl
@@ -119,7 +93,8 @@ answered_marked a b m k n e v w agree now sids first second =
       same = h.same;
       count = h.count;
       kept = h.kept;
-      silent = λ s i own off. same_box a b e s agree now (none_told s (answers a.config a.history e) (subst (λ (xs : List Sid). NoneIs s xs) sids (h.none s i own off)));
+      silent = λ s i own off. same_box a b e s agree now (untold a.config a.history e s (none_told s (answers a.config a.history e) (subst (λ (xs : List Sid). NoneIs s xs) sids (h.none s i own off))));
+      ended = ended_stay a b e agree now;
     }
 
 -- ---- a core with marks
@@ -128,65 +103,74 @@ abbrev pub marked_view : CoreView → MarksView → MarkedView
 marked_view a m = record { core = a; owners = m.owners; marked = m.marked }
 
 pub follows_self : (m : MarkedView) → Follows m m
-follows_self m = record { count = refl; owners = λ s i e. e; kept = λ i on. on; silent = λ s i e off. refl }
+follows_self m = record { count = refl; owners = λ s i e. Owned e; kept = λ i on. on; silent = λ s i e off. refl; ended = record { ended = λ sid h. h; silent = λ sid h. refl } }
 
 still_off : (p : Bool) {q : Bool} → q ≡ p → (q ≡ true → true ≡ false) → q ≡ false
 still_off false e f = e
 still_off true e f = absurd (let wrong = f e in cc)
 
+pub owned_later : (a b : MarkedView) (s i : ℕ) → Follows a b → IsOwned a s i → IsOwned b s i
+owned_later a b s i f (Owned e) = f.owners s i e
+owned_later a b s i f (NoMore h) = NoMore (f.ended.ended (record { 0 = s }) h)
+
+owned_silent : (a b : MarkedView) (s i : ℕ) → Follows a b → IsOwned a s i → is_set b.marked i ≡ false → box_at b.core.untaken s ≡ box_at a.core.untaken s
+owned_silent a b s i f (Owned e) off = f.silent s i e off
+owned_silent a b s i f (NoMore h) off = f.ended.silent (record { 0 = s }) h
+
 pub follows_both : (a b c : MarkedView) → Follows a b → Follows b c → Follows a c
 follows_both a b c h k = record {
   count = k.count ∙ h.count;
-  owners = λ s i e. k.owners s i (h.owners s i e);
+  owners = λ s i e. owned_later b c s i k (h.owners s i e);
   kept = λ i on. k.kept i (h.kept i on);
-  silent = λ s i e off. k.silent s i (h.owners s i e) off ∙ h.silent s i e (still_off (is_set b.marked i) refl (λ on. sym (k.kept i on) ∙ off));
+  silent = λ s i e off. owned_silent b c s i k (h.owners s i e) off ∙ h.silent s i e (still_off (is_set b.marked i) refl (λ on. sym (k.kept i on) ∙ off));
+  ended = record {
+    ended = λ sid e. k.ended.ended sid (h.ended.ended sid e);
+    silent = λ sid e. k.ended.silent sid (h.ended.ended sid e) ∙ h.ended.silent sid e;
+  };
 }
 
 pub answered_follows : (a b : CoreView) (m n : MarksView) → MarksAnswered a m b n → Follows (marked_view a m) (marked_view b n)
 answered_follows a b m n h = record {
   count = h.count;
-  owners = λ s i e. ap (λ (z : MarksView). owner_of z.owners s) h.same ∙ e;
+  owners = λ s i e. Owned (ap (λ (z : MarksView). owner_of z.owners s) h.same ∙ e);
   kept = h.kept;
   silent = h.silent;
+  ended = h.ended;
 }
 
--- the caller is marked too, and may be the owner of one more session
-front_stands : (xs ys : List ℕ) (s i : ℕ) → slice_get xs s ≡ Some i → slice_get (xs ++ ys) s ≡ Some i
-front_stands [] ys s i e = absurd cc
-front_stands (x ∷ xs) ys zero i e = e
-front_stands (x ∷ xs) ys (suc s) i e = front_stands xs ys s i e
-
-end_stands : (xs : List ℕ) (i s : ℕ) → s ≡ length xs → slice_get (xs ++ i ∷ []) s ≡ Some i
-end_stands [] i zero e = refl
-end_stands [] i (suc s) e = absurd (omega arith)
-end_stands (x ∷ xs) i zero e = absurd (omega arith)
-end_stands (x ∷ xs) i (suc s) e = end_stands xs i s (omega arith)
-
-pub own_owner : (owners now : Owners) (own s : ℕ) → now ≡ with_owner own owners → s ≡ sessions_in owners → owner_of now s ≡ Some own
-own_owner owners now own s e is = ap (λ (o : Owners). owner_of o s) e ∙ at (nat_lt s owners.before) refl where
-  at : (b : Bool) → nat_lt s owners.before ≡ b → cond b None (slice_get (owners.list ++ own ∷ []) (s - owners.before)) ≡ Some own
-  at true k = absurd (let lt : s < owners.before = ltb-true s owners.before k in omega arith)
-  at false k = end_stands owners.list own (s - owners.before) (omega arith)
-
--- who has a session keeps it where a next one comes
-pub owner_stays : (owners : Owners) (own s i : ℕ) → owner_of owners s ≡ Some i → owner_of (with_owner own owners) s ≡ Some i
-owner_stays owners own s i = at (nat_lt s owners.before) where
-  at : (b : Bool) → cond b None (slice_get owners.list (s - owners.before)) ≡ Some i → cond b None (slice_get (owners.list ++ own ∷ []) (s - owners.before)) ≡ Some i
-  at true e = absurd cc
-  at false e = front_stands owners.list (own ∷ []) (s - owners.before) i e
-
-pub own_marked : (n : List Bool) (own : ℕ) → own < length n → is_set (set n own true) own ≡ true
+own_marked : (n : List Bool) (own : ℕ) → own < length n → is_set (set n own true) own ≡ true
 own_marked n own lt = set_at n own true own lt ∙ ap (λ b. cond b true (is_set n own)) (eq-eqb own own refl)
 
-hello_follows_to : (a b : CoreView) (m n : MarksView) (own : ℕ) (owners : Owners) → MarksAnswered a m b n → own < length m.marked → ((s i : ℕ) → owner_of m.owners s ≡ Some i → owner_of owners s ≡ Some i) → Follows (marked_view a m) (record { core = b; owners = owners; marked = set n.marked own true })
-hello_follows_to a b m n own owners h lt keeps = record {
-  count = set_count n.marked own true ∙ h.count;
-  owners = keeps;
-  kept = λ i on. set_at n.marked own true i lt' ∙ still (eqb own i) (is_set n.marked i) (h.kept i on);
-  silent = λ s i e off. h.silent s i e (was_off i (eqb own i) (sym (set_at n.marked own true i lt') ∙ off));
-} where
-  lt' : own < length n.marked
-  lt' = let k = h.count in omega arith
+-- a hello as it goes: from marks k of core a, as they are seen, to m, where the next session is the connection's, and from these to
+-- n, where those who were answered are marked, and now, where the connection is
+pub record AtHello (old : MarkedView) (own : ℕ) (a b : CoreView) (k m n now : MarksView) : Type 0 where
+  pub seen : marked_view a k ≡ old
+  pub pushed : m ≡ record k { owners = with_owner own k.owners }
+  pub answered : MarksAnswered a m b n
+  pub marked : now ≡ record n { marked = set n.marked own true }
+  pub within : own < length old.marked
+
+hello_within : (old : MarkedView) (own : ℕ) (a b : CoreView) (k m n now : MarksView) → AtHello old own a b k m n now → own < length n.marked
+hello_within old own a b k m n now h =
+    let same : length k.marked ≡ length old.marked = ap (λ (z : MarkedView). length z.marked) h.seen in
+    let same' : length m.marked ≡ length k.marked = ap (λ (z : MarksView). length z.marked) h.pushed in
+    let same'' = h.answered.count in
+    let lt = h.within in
+    omega arith
+
+pub hello_owners : (old : MarkedView) (own : ℕ) (a b : CoreView) (k m n now : MarksView) → AtHello old own a b k m n now → now.owners ≡ with_owner own k.owners
+hello_owners old own a b k m n now h = ap (λ (z : MarksView). z.owners) h.marked ∙ ap (λ (z : MarksView). z.owners) h.answered.same ∙ ap (λ (z : MarksView). z.owners) h.pushed
+
+hello_follows : (old : MarkedView) (own : ℕ) (a b : CoreView) (k m n now : MarksView) (owners : Owners) → AtHello old own a b k m n now → ((s i : ℕ) → owner_of k.owners s ≡ Some i → owner_of owners s ≡ Some i) → Follows old (record { core = b; owners = owners; marked = now.marked })
+hello_follows old own a b k m n now owners h keeps = subst (λ (o : MarkedView). Follows o (record { core = b; owners = owners; marked = now.marked })) h.seen (subst (λ (bs : List Bool). Follows (marked_view a k) (record { core = b; owners = owners; marked = bs })) (sym (ap (λ (z : MarksView). z.marked) h.marked)) (record {
+  count = set_count n.marked own true ∙ h.answered.count ∙ ap (λ (z : MarksView). length z.marked) h.pushed;
+  owners = λ s i e. Owned (keeps s i e);
+  kept = λ i on. set_at n.marked own true i lt ∙ still (eqb own i) (is_set n.marked i) (h.answered.kept i (ap (λ (z : MarksView). is_set z.marked i) h.pushed ∙ on));
+  silent = λ s i e off. h.answered.silent s i (ap (λ (z : MarksView). owner_of z.owners s) h.pushed ∙ owner_stays k.owners own s i e) (was_off i (eqb own i) (sym (set_at n.marked own true i lt) ∙ off));
+  ended = h.answered.ended;
+})) where
+  lt : own < length n.marked
+  lt = hello_within old own a b k m n now h
 
   still : (b on : Bool) → on ≡ true → cond b true on ≡ true
   still true on e = refl
@@ -196,49 +180,40 @@ hello_follows_to a b m n own owners h lt keeps = record {
   was_off i true e = absurd (let wrong : true ≡ false = e in cc)
   was_off i false e = e
 
--- of a hello that is refused
-pub refused_follows : (a b : CoreView) (m n : MarksView) (own : ℕ) → MarksAnswered a m b n → own < length m.marked → Follows (marked_view a m) (record { core = b; owners = n.owners; marked = set n.marked own true })
-refused_follows a b m n own h lt = hello_follows_to a b m n own n.owners h lt (λ s i e. ap (λ (z : MarksView). owner_of z.owners s) h.same ∙ e)
+-- of one that is refused: the next session never was
+pub hello_undone : (old : MarkedView) (own : ℕ) (a b : CoreView) (k m n now last : MarksView) → AtHello old own a b k m n now → last ≡ record now { owners = without_newest now.owners } → last.owners ≡ k.owners
+hello_undone old own a b k m n now last h undone = ap (λ (z : MarksView). z.owners) undone ∙ ap without_newest (hello_owners old own a b k m n now h) ∙ newest_undone k.owners own
+
+pub hello_refused_follows : (old : MarkedView) (own : ℕ) (a b : CoreView) (k m n now last : MarksView) → AtHello old own a b k m n now → last ≡ record now { owners = without_newest now.owners } → Follows old (marked_view b last)
+hello_refused_follows old own a b k m n now last h undone = subst (λ (bs : List Bool). Follows old (record { core = b; owners = last.owners; marked = bs })) (sym (ap (λ (z : MarksView). z.marked) undone)) (hello_follows old own a b k m n now last.owners h (λ s i e. ap (λ (o : Owners). owner_of o s) (hello_undone old own a b k m n now last h undone) ∙ e))
 
 -- of one that is accepted
-pub accepted_follows : (a b : CoreView) (m n : MarksView) (own : ℕ) → MarksAnswered a m b n → own < length m.marked → Follows (marked_view a m) (record { core = b; owners = with_owner own n.owners; marked = set n.marked own true })
-accepted_follows a b m n own h lt = hello_follows_to a b m n own (with_owner own n.owners) h lt (λ s i e. owner_stays n.owners own s i (ap (λ (z : MarksView). owner_of z.owners s) h.same ∙ e))
+pub hello_accepted_follows : (old : MarkedView) (own : ℕ) (a b : CoreView) (k m n now : MarksView) → AtHello old own a b k m n now → Follows old (marked_view b now)
+hello_accepted_follows old own a b k m n now h = hello_follows old own a b k m n now now.owners h (λ s i e. ap (λ (o : Owners). owner_of o s) (hello_owners old own a b k m n now h) ∙ owner_stays k.owners own s i e)
 
--- with room for a session more, and as the core is seen
-abbrev pub seen_so : MarkedView → CoreView → MarksView → MarksView → Type 0
-seen_so old a k m = (marked_view a k ≡ old) × (m ≡ record k { room = m.room })
+pub hello_marks : (old : MarkedView) (own : ℕ) (a b : CoreView) (k m n now : MarksView) → AtHello old own a b k m n now → is_set now.marked own ≡ true
+hello_marks old own a b k m n now h = ap (λ (z : MarksView). is_set z.marked own) h.marked ∙ own_marked n.marked own (hello_within old own a b k m n now h)
 
-within_too : (old : MarkedView) (a : CoreView) (k m : MarksView) (own : ℕ) → seen_so old a k m → own < length old.marked → own < length m.marked
-within_too old a k m own is lt =
-    let e : length m.marked ≡ length old.marked = ap (λ (z : MarksView). length z.marked) is.1 ∙ ap (λ (z : MarkedView). length z.marked) is.0 in
-    omega arith
+pub hello_owner : (old : MarkedView) (own : ℕ) (a b : CoreView) (k m n now : MarksView) (s : ℕ) → AtHello old own a b k m n now → s ≡ sessions_in k.owners → owner_of now.owners s ≡ Some own
+hello_owner old own a b k m n now s h is = ap (λ (o : Owners). owner_of o s) (hello_owners old own a b k m n now h) ∙ own_owner k.owners own s is
 
-as_seen : (old : MarkedView) (a : CoreView) (k m : MarksView) (new : MarkedView) → seen_so old a k m → Follows (marked_view a m) new → Follows old new
-as_seen old a k m new is h = subst (λ (z : MarkedView). Follows z new) (ap (λ (z : MarksView). marked_view a z) is.1 ∙ is.0) h
+-- ---- a session is hung up, and its connection goes
 
-pub hello_refused_follows : (old : MarkedView) (a b : CoreView) (k m n now : MarksView) (own : ℕ) → seen_so old a k m → MarksAnswered a m b n → now ≡ record n { marked = set n.marked own true } → own < length old.marked → Follows old (marked_view b now)
-hello_refused_follows old a b k m n now own is h e lt = subst (λ (z : MarksView). Follows old (marked_view b z)) (sym e) (as_seen old a k m (record { core = b; owners = n.owners; marked = set n.marked own true }) is (refused_follows a b m n own h (within_too old a k m own is lt)))
-
-pub hello_accepted_follows : (old : MarkedView) (a b : CoreView) (k m n now last : MarksView) (own : ℕ) → seen_so old a k m → MarksAnswered a m b n → now ≡ record n { marked = set n.marked own true } → last.owners ≡ with_owner own now.owners → last.marked ≡ now.marked → own < length old.marked → Follows old (marked_view b last)
-hello_accepted_follows old a b k m n now last own is h e owners marked lt =
-    let o : last.owners ≡ with_owner own n.owners = owners ∙ ap (λ (z : MarksView). with_owner own z.owners) e in
-    let f : last.marked ≡ set n.marked own true = marked ∙ ap (λ (z : MarksView). z.marked) e in
-    subst (λ (bs : List Bool). Follows old (record { core = b; owners = last.owners; marked = bs })) (sym f) (subst (λ (js : Owners). Follows old (record { core = b; owners = js; marked = set n.marked own true })) (sym o) (as_seen old a k m (record { core = b; owners = with_owner own n.owners; marked = set n.marked own true }) is (accepted_follows a b m n own h (within_too old a k m own is lt))))
-
-pub hello_marks : (old : MarkedView) (a b : CoreView) (k m n now : MarksView) (own : ℕ) → seen_so old a k m → MarksAnswered a m b n → now ≡ record n { marked = set n.marked own true } → own < length old.marked → is_set now.marked own ≡ true
-hello_marks old a b k m n now own is h e lt =
-    let lt' = within_too old a k m own is lt in
-    let count = h.count in
-    ap (λ (z : MarksView). is_set z.marked own) e ∙ own_marked n.marked own (omega arith)
-
-pub owners_kept : (a b : CoreView) (k m n now : MarksView) (own : ℕ) → m ≡ record k { room = m.room } → MarksAnswered a m b n → now ≡ record n { marked = set n.marked own true } → now.owners ≡ k.owners
-owners_kept a b k m n now own e h f = ap (λ (z : MarksView). z.owners) f ∙ ap (λ (z : MarksView). z.owners) h.same ∙ ap (λ (z : MarksView). z.owners) e
-
-pub owners_more : (owners now : Owners) (own k n : ℕ) → now ≡ with_owner own owners → sessions_in owners ≡ k → n ≡ k + 1 → sessions_in now ≡ n
-owners_more owners now own k n e count more =
-    let l : sessions_in now ≡ owners.before + length (owners.list ++ own ∷ []) = ap sessions_in e in
-    let one : length (owners.list ++ own ∷ []) ≡ length owners.list + 1 = length_both owners.list (own ∷ []) in
-    omega arith
+pub hung_up_follows : (old : MarkedView) (a b : CoreView) (m n last : MarksView) (sid : Sid) → marked_view a m ≡ old → sessions_in m.owners ≡ hellos a.history → b ≡ after_step (Hangup sid) a → MarksAnswered a m b n → last ≡ record n { owners = without_owner sid.0 n.owners } → Follows old (marked_view b last)
+hung_up_follows old a b m n last sid seen count now h gone = subst (λ (o : MarkedView). Follows o (marked_view b last)) seen (subst (λ (z : MarksView). Follows (marked_view a m) (marked_view b z)) (sym gone) (record {
+  count = h.count;
+  owners = λ s i e. owned s i e (eqb sid.0 s) refl;
+  kept = h.kept;
+  silent = h.silent;
+  ended = h.ended;
+})) where
+  owned : (s i : ℕ) → owner_of m.owners s ≡ Some i → (b' : Bool) → eqb sid.0 s ≡ b' → IsOwned (marked_view b (record n { owners = without_owner sid.0 n.owners })) s i
+  owned s i e true k =
+      let is : sid.0 ≡ s = eqb-true sid.0 s k in
+      let lt = owned_within m.owners s i e in
+      let later = hellos_later (Hangup sid ∷ []) a in
+      NoMore (subst (λ (z : CoreView). HasEnded z (record { 0 = s })) (sym now) (record { started = omega arith; ended = ap (live (after_step (Hangup sid) a).history) (sym is) ∙ hung_up_is_over a.config a.history sid }))
+  owned s i e false k = Owned (others_own n.owners sid.0 s i (eqb-false sid.0 s k) (ap (λ (z : MarksView). owner_of z.owners s) h.same ∙ e))
 
 -- a session that starts has at most two untaken answers
 pub few_started : (a b : CoreView) (w : Option Sid) (s : ℕ) → BoxesAgree a.config a.history a.untaken → GainsAtMostTwo a b → w ≡ Some (record { 0 = s }) → s ≡ hellos a.history → length (untaken_of b w) ≤ 2

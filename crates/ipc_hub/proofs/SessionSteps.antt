@@ -1,5 +1,5 @@
 -- What events do to sessions: only its own hang-up ends one.
-use Rattle.std.proofs.Common.{◌≡◌, ℕ, ◌+◌, ◌<◌, ◌≤◌, true, false, eqb, List, [], ◌∷◌, map, Option, Some, None, refl, ◌∙◌, arith}
+use Rattle.std.proofs.Common.{◌≡◌, ℕ, ◌+◌, ◌<◌, ◌≤◌, Bool, true, false, eqb, List, [], ◌∷◌, map, Option, Some, None, refl, ◌∙◌, arith}
 use Rattle.std.proofs.lemmas.Bool.{eq-eqb, ne_eqb}
 use Rattle.ipc_terms.specs.declared.rule.Rule.{Rule}
 use Rattle.ipc_terms.specs.declared.ids.Sid.{Sid}
@@ -74,7 +74,7 @@ pub events_hang_no_up : (a : CoreView) (session : Option Sid) (qs : List Request
 events_hang_no_up a session qs s = requests_hang_no_up a (session_or_next a session) qs s
 
 -- a hello that is accepted starts the next session, which is live
-live_at_hello : (c : Config) (h : History) (e : Event) (rule : Option Rule) → rule ≡ None → (s : ℕ) → s ≡ hellos h → live_after s e (hellos h) (live h s) ≡ true → live (record { event = e; rule = rule } ∷ h) s ≡ true
+pub live_at_hello : (c : Config) (h : History) (e : Event) (rule : Option Rule) → rule ≡ None → (s : ℕ) → s ≡ hellos h → live_after s e (hellos h) (live h s) ≡ true → live (record { event = e; rule = rule } ∷ h) s ≡ true
 live_at_hello c h e (Some rule) free s is k = absurd cc
 live_at_hello c h e None free s is k = (grows c h e).live_or_not s ∙ k
 
@@ -101,3 +101,14 @@ ended_by c h sid None free = (grows c h (Hangup sid)).live_or_not sid.0 ∙ (let
 
 pub hang_up_ends : (c : Config) (h : History) (sid : Sid) → live h sid.0 ≡ true → live (after_event c h (Hangup sid)) sid.0 ≡ false
 hang_up_ends c h sid on = ended_by c h sid (verdict c h (Hangup sid)) (hang_up_accepted c h sid on)
+
+-- whether or not it was live before
+still_over : (c : Config) (h : History) (sid : Sid) (rule : Option Rule) → live h sid.0 ≡ false → live (record { event = Hangup sid; rule = rule } ∷ h) sid.0 ≡ false
+still_over c h sid (Some rule) off = (same_values c h (Hangup sid) rule).live sid.0 ∙ off
+still_over c h sid None off = ended_by c h sid None refl
+
+pub hung_up_is_over : (c : Config) (h : History) (sid : Sid) → live (after_event c h (Hangup sid)) sid.0 ≡ false
+hung_up_is_over c h sid = at (live h sid.0) refl where
+  at : (b : Bool) → live h sid.0 ≡ b → live (after_event c h (Hangup sid)) sid.0 ≡ false
+  at true on = hang_up_ends c h sid on
+  at false off = still_over c h sid (verdict c h (Hangup sid)) off

@@ -1,7 +1,8 @@
 -- Which connections were answered since they were last named.
-use Rattle.std.specs.Prelude.{◌≡◌, ◌==◌, ◌<◌, ◌≤◌, Bool, true, false, ℕ, ◌+◌, ◌-◌, List, [], ◌∷◌, ◌++◌, length, nat_lt, slice_get, Option, Some, None, unwrap_or, if◌then◌else◌}
-use Rattle.ipc_terms.specs.Lists.{Each}
+use Rattle.std.specs.Prelude.{◌≡◌, ◌==◌, ◌<◌, ◌≤◌, Bool, true, false, ℕ, ◌+◌, ◌-◌, List, [], ◌∷◌, ◌++◌, length, take, nat_lt, slice_get, Option, Some, None, unwrap_or, if◌then◌else◌}
+use Rattle.ipc_terms.specs.Lists.{changed, Each}
 use Rattle.ipc_terms.specs.declared.ids.Sid.{Sid}
+use Rattle.ipc_numbered.specs.Slots.{at, emptied}
 
 -- whether the flag of this number is set; no, where there is none
 abbrev pub is_set : List Bool → ℕ → Bool
@@ -23,29 +24,35 @@ pub record AreListed (flags : List Bool) (list : List ℕ) : Type 0 where
   pub count : length list ≡ how_many_set flags
 
 -- whose each session is. before: how many sessions began before the first that has a connection. list: the connections of the
--- others, by the sessions' numbers
+-- others, by the sessions' numbers; none of those that ended
 pub record Owners : Type 0 where
   pub before : ℕ
-  pub list : List ℕ
+  pub list : List (Option ℕ)
 
 -- the connection of session s, if it has one
 abbrev pub owner_of : Owners → ℕ → Option ℕ
-owner_of owners s = if nat_lt s owners.before then None else slice_get owners.list (s - owners.before)
+owner_of owners s = if nat_lt s owners.before then None else at owners.list (s - owners.before)
 
--- how many sessions there are
+-- how many sessions there ever were
 abbrev pub sessions_in : Owners → ℕ
 sessions_in owners = owners.before + length owners.list
 
 -- the next session is connection i's
 abbrev pub with_owner : ℕ → Owners → Owners
-with_owner i owners = record owners { list = owners.list ++ i ∷ [] }
+with_owner i owners = record owners { list = owners.list ++ Some i ∷ [] }
 
--- what is seen of marks. owners: whose each session is. marked: whether each connection was answered since it was last named.
--- room: for how many more sessions there is room
+-- the newest session never was
+abbrev pub without_newest : Owners → Owners
+without_newest owners = record owners { list = take (length owners.list - 1) owners.list }
+
+-- session s has no connection any more
+abbrev pub without_owner : ℕ → Owners → Owners
+without_owner s owners = if nat_lt s owners.before then owners else record owners { list = changed emptied owners.list (s - owners.before) }
+
+-- what is seen of marks. owners: whose each session is. marked: whether each connection was answered since it was last named
 pub record MarksView : Type 0 where
   pub owners : Owners
   pub marked : List Bool
-  pub room : ℕ
 
 -- the flags that are set are listed, the list has room for all, and each session's connection has a flag
 pub record AreMarks (owners : Owners) (flags : List Bool) (list : List ℕ) (capacity : ℕ) : Type 0 where

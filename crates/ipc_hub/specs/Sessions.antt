@@ -1,5 +1,5 @@
 -- Whose sessions are whose.
-use Rattle.std.specs.Prelude.{◌≡◌, true, not, ℕ, ◌<◌, List, Some, None, length, slice_get}
+use Rattle.std.specs.Prelude.{◌≡◌, true, false, not, ℕ, ◌<◌, List, Some, None, length, slice_get}
 use Rattle.ipc_terms.specs.declared.ids.Sid.{Sid}
 use Rattle.ipc_policy.specs.Sessions.{hellos, live}
 use Rattle.ipc_core.specs.CoreView.{CoreView}
@@ -18,8 +18,8 @@ pub record EachHasItsOwn (a : CoreView) (xs : List Connection) : Type 0 where
   pub apart : (i j : ℕ) (x y : Connection) (sid : Sid) → slice_get xs i ≡ Some x → slice_get xs j ≡ Some y → x.session ≡ Some sid → y.session ≡ Some sid → i ≡ j
   pub refused : (i : ℕ) (x : Connection) → slice_get xs i ≡ Some x → x.has_refusal ≡ true → (x.session ≡ None) × (x.is_over ≡ true)
 
--- and each connection has a flag for its mark, and owns its session
+-- and each connection has a flag for its mark, and owns its session as long as it is not over
 pub record Stands (m : MarkedView) (xs : List Connection) : Type 0 where
   pub sessions : EachHasItsOwn m.core xs
   pub count : length m.marked ≡ length xs
-  pub owned : (i : ℕ) (x : Connection) (sid : Sid) → slice_get xs i ≡ Some x → x.session ≡ Some sid → owner_of m.owners sid.0 ≡ Some i
+  pub owned : (i : ℕ) (x : Connection) (sid : Sid) → slice_get xs i ≡ Some x → x.session ≡ Some sid → x.is_over ≡ false → owner_of m.owners sid.0 ≡ Some i

@@ -10,8 +10,8 @@ use Rattle.ipc_wire.specs.Streams.{cut, after}
 use Rattle.ipc_hub.specs.declared.fed.Fed.{Fed}
 use Rattle.ipc_hub.specs.declared.fed.Fed.TheVariants.{Done, Short, Full, Over}
 use Rattle.ipc_hub.specs.declared.fed.End.TheVariants.{Wire, BadKey}
-use Rattle.ipc_hub.specs.Marking.{is_set, owner_of}
-use Rattle.ipc_hub.specs.MarkedCore.{MarkedView, Follows}
+use Rattle.ipc_hub.specs.Marking.{is_set}
+use Rattle.ipc_hub.specs.MarkedCore.{MarkedView, IsOwned, Follows}
 use Rattle.ipc_hub.specs.Hub.{Connection, untaken_of, Steps, events_of, is_hello_refused, hang_up_of}
 
 -- what is kept of a connection that is not over
@@ -47,10 +47,10 @@ StepsFrames (Over BadKey) a s w b t rest = RefusesHello a s w b t
 
 -- ---- marks, and how many answers are untaken: where the frames are connection i's
 
--- where its session starts, the connection is marked, and the session is its own
+-- where its session starts, the connection is marked, and the session is its own until it ends
 pub record Starts (new : MarkedView) (i : ℕ) (s t : Option Sid) : Type 0 where
   pub marked : s ≡ None → (sid : Sid) → t ≡ Some sid → is_set new.marked i ≡ true
-  pub owner : s ≡ None → (sid : Sid) → t ≡ Some sid → owner_of new.owners sid.0 ≡ Some i
+  pub owner : s ≡ None → (sid : Sid) → t ≡ Some sid → IsOwned new sid.0 i
 
 -- whether so many are untaken as are allowed; never, where all are
 abbrev pub is_full : Option ℕ → ℕ → Bool

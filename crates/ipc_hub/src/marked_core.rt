@@ -2,15 +2,15 @@
 
 ghost use Rattle.std.specs.Prelude.{◌≡◌, ◌<◌, ◌≤◌, ◌+◌, ◌++◌, ◌∷◌, [], ℕ, Option, true, false, None, Some, is_some, length, min, slice_set, IfOk, IfSome, IfNone, OnOk, OnErr, if◌then◌else◌};
 ghost use Rattle.ipc_terms.specs.Lists.{changed};
-ghost use Rattle.ipc_terms.specs.declared.record.Event.TheVariants.{Hello};
+ghost use Rattle.ipc_terms.specs.declared.record.Event.TheVariants.{Hello, Hangup};
 ghost use Rattle.ipc_access.specs.Users.{user_of_key};
 ghost use Rattle.ipc_policy.specs.Sessions.{hellos};
 ghost use Rattle.ipc_policy.specs.Verdict.{verdict, answers};
 ghost use Rattle.ipc_core.specs.Boxes.{taken};
-ghost use Rattle.ipc_core.specs.Outboxes.{starts, session_at, after_step};
+ghost use Rattle.ipc_core.specs.Outboxes.{session_at, after_step};
 ghost use Rattle.ipc_hub.specs.Hub.{untaken_of};
 ghost use Rattle.ipc_hub.specs.Marking.{is_set, owner_of};
-ghost use Rattle.ipc_hub.specs.MarkedCore.{Follows, MarksAnswered, GainsAtMostTwo};
+ghost use Rattle.ipc_hub.specs.MarkedCore.{is_plain, Follows, MarksAnswered, GainsAtMostTwo};
 
 use crate::marks::Marks;
 use ipc_core::{Core, Posted};
@@ -18,7 +18,7 @@ use ipc_terms::{Bytes, Event, NoMemory, Sid};
 use std::alloc::Global;
 use std::marker::Model;
 
-/// A core, the connections of its sessions, but for those that began before, and the connections that were answered.
+/// A core, the connections of its sessions that are live, but for those that began before, and the connections that were answered.
 #[derive(Drop)]
 pub struct MarkedCore {
     core: Core,
@@ -26,16 +26,13 @@ pub struct MarkedCore {
 }
 
 impl Model for MarkedCore {
-    ghost use Rattle.std.specs.Prelude.{◌≡◌};
-    ghost use Rattle.ipc_policy.specs.Sessions.{hellos};
-    ghost use Rattle.ipc_hub.specs.Marking.{sessions_in};
-    ghost use Rattle.ipc_hub.specs.MarkedCore.{MarkedView};
+    ghost use Rattle.ipc_hub.specs.MarkedCore.{MarkedView, AreOwners};
 
     ghost Value = { MarkedView };
 
     ghost view = { λ m. record { core = m.core; owners = m.marks.owners; marked = m.marks.marked } };
 
-    ghost invariant = { λ m. sessions_in m.marks.owners ≡ hellos m.core.history };
+    ghost invariant = { λ m. AreOwners m.marks.owners m.core.history };
 }
 
 /// Steps an event, and marks the connections of those that it answers. An `Err` changes nothing.
@@ -88,10 +85,10 @@ impl MarkedCore {
         self.marks.push_connection()
     }
 
-    /// Steps an event that is no hello. An `Err` changes nothing.
+    /// Steps an event that is no hello and no hang-up. An `Err` changes nothing.
     #[inline(always)]
     pub fn post(&mut self, alloc: Global, event: Event) -> Result<(), NoMemory>
-        requires { starts None event ≡ false }
+        requires { is_plain event ≡ true }
         ensures ok { OnOk result (self.new.core ≡ after_step event self.old.core) }
         ensures marks { OnOk result (Follows self.old self.new) }
         ensures few { OnOk result (GainsAtMostTwo self.old.core self.new.core) }
@@ -114,16 +111,36 @@ impl MarkedCore {
         ensures err { OnErr result (self.new ≡ self.old) }
     {
         self.core.keeps_the_last();
-        self.marks.reserve_session()?;
+        self.marks.push_session(own)?;
         let found = self.core.config().users.find(key.as_slice());
         let hello = Event::Hello { found };
-        let posted = post_marked(&mut self.core, &mut self.marks, alloc, hello)?;
+        let Ok(posted) = post_marked(&mut self.core, &mut self.marks, alloc, hello) else {
+            self.marks.undo_session();
+            return Err(NoMemory);
+        };
         self.marks.mark(own);
         if posted.verdict.is_some() {
+            self.marks.undo_session();
             return Ok(None);
         }
-        self.marks.push_session(own);
         Ok(posted.caller)
+    }
+
+    /// Hangs a session up, and keeps its connection no longer. An `Err` changes nothing.
+    pub fn hang_up(&mut self, alloc: Global, sid: Sid) -> Result<(), NoMemory>
+        ensures ok { OnOk result (self.new.core ≡ after_step (Hangup sid) self.old.core) }
+        ensures marks { OnOk result (Follows self.old self.new) }
+        ensures few { OnOk result (GainsAtMostTwo self.old.core self.new.core) }
+        ensures err { OnErr result (self.new ≡ self.old) }
+    {
+        post_marked(
+            &mut self.core,
+            &mut self.marks,
+            alloc,
+            Event::Hangup { sid },
+        )?;
+        self.marks.end_session(sid);
+        Ok(())
     }
 
     /// Leaves no untaken answers of the session. Takes no memory.

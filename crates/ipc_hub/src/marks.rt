@@ -2,45 +2,45 @@
 
 ghost use Rattle.std.specs.Prelude.{◌≡◌, ◌<◌, ◌++◌, ◌∷◌, [], ℕ, true, false, length, slice_set, IfSome, IfNone, OnOk, OnErr};
 ghost use Rattle.std.specs.Option.{option_to_list};
-ghost use Rattle.ipc_hub.specs.Marking.{is_set, owner_of, with_owner, MarksOwners};
+ghost use Rattle.ipc_hub.specs.Marking.{is_set, owner_of, with_owner, without_newest, without_owner, MarksOwners};
 
+use ipc_numbered::Numbered;
 use ipc_terms::{NoMemory, Sid};
 use std::alloc::Global;
 use std::marker::Model;
 
-/// Whose each session is, and the connections that were answered. Room for a mark is made with the connection, so a mark
-/// takes no memory.
+/// Whose each session is that is live, and the connections that were answered. Room for a mark is made with the connection, so a
+/// mark takes no memory.
 #[derive(Drop)]
 pub struct Marks {
     /// How many sessions began before the first that has a connection.
     before: u64,
-    /// The connections of the others, by the sessions' numbers.
-    owners: Vec<u64>,
+    /// The connections of the others that are live, by the sessions' numbers.
+    owners: Numbered<u64>,
     is_marked: Vec<bool>,
     /// The connections that are marked, each once.
     list: Vec<u64>,
 }
 
 impl Model for Marks {
-    ghost use Rattle.std.specs.Prelude.{◌-◌, vec_len, vec_capacity};
+    ghost use Rattle.std.specs.Prelude.{vec_capacity};
     ghost use Rattle.ipc_hub.specs.Marking.{MarksView, AreMarks};
 
     ghost Value = { MarksView };
 
-    ghost view = { λ m. record { owners = record { before = m.before; list = m.owners.items }; marked = m.is_marked.items; room = vec_capacity m.owners - vec_len m.owners } };
+    ghost view = { λ m. record { owners = record { before = m.before; list = m.owners }; marked = m.is_marked.items } };
 
-    ghost invariant = { λ m. AreMarks (record { before = m.before; list = m.owners.items }) m.is_marked.items m.list.items (vec_capacity m.list) };
+    ghost invariant = { λ m. AreMarks (record { before = m.before; list = m.owners }) m.is_marked.items m.list.items (vec_capacity m.list) };
 }
 
 impl Marks {
     /// No connection, and so many sessions, of which none has one. Takes no memory.
     pub fn new(alloc: Global, before: u64) -> Marks
-        ensures owners { result.owners ≡ record { before = before; list = [] } }
-        ensures marked { result.marked ≡ [] }
+        ensures { result ≡ record { owners = record { before = before; list = [] }; marked = [] } }
     {
         Marks {
             before,
-            owners: Vec::new(alloc),
+            owners: Numbered::new(alloc),
             is_marked: Vec::new(alloc),
             list: Vec::new(alloc),
         }
@@ -57,23 +57,29 @@ impl Marks {
         Ok(())
     }
 
-    /// Makes room for one more session. An `Err` leaves all but the room.
-    pub fn reserve_session(&mut self) -> Result<(), NoMemory>
-        ensures kept { self.new ≡ record self.old { room = self.new.room } }
-        ensures room { OnOk result (0 < self.new.room) }
+    /// The next session is this connection's. An `Err` changes nothing.
+    pub fn push_session(&mut self, connection: u64) -> Result<(), NoMemory>
+        requires { connection < length self.old.marked }
+        ensures ok { OnOk result (self.new ≡ record self.old { owners = with_owner connection self.old.owners }) }
+        ensures err { OnErr result (self.new ≡ self.old) }
     {
-        self.owners.reserve(1)?;
-        Ok(())
+        self.owners.push(connection)
     }
 
-    /// The next session is this connection's. Takes no memory.
-    pub fn push_session(&mut self, connection: u64)
-        requires room { 0 < self.old.room }
-        requires within { connection < length self.old.marked }
-        ensures owners { self.new.owners ≡ with_owner connection self.old.owners }
-        ensures marked { self.new.marked ≡ self.old.marked }
+    /// Undoes the last push of a session, which did not start. It can't fail.
+    pub fn undo_session(&mut self)
+        ensures { self.new ≡ record self.old { owners = without_newest self.old.owners } }
     {
-        self.owners.push_reserved(connection);
+        self.owners.undo_push();
+    }
+
+    /// Keeps nothing of a session that has ended. It can't fail.
+    pub fn end_session(&mut self, sid: Sid)
+        ensures { self.new ≡ record self.old { owners = without_owner sid.0 self.old.owners } }
+    {
+        if let Some(place) = sid.0.checked_sub(self.before) {
+            self.owners.take(place as usize);
+        }
     }
 
     /// Marks the connection, if there is one. Takes no memory.
@@ -112,7 +118,7 @@ impl Marks {
 }
 
 /// The connection of the session, if it has one: where so many began before the first that has, and these are those of the others.
-fn owner_of(before: u64, owners: &[u64], sid: Sid) -> Option<u64>
+fn owner_of(before: u64, owners: &Numbered<u64>, sid: Sid) -> Option<u64>
     ensures { result ≡ owner_of (record { before = before; list = owners.now }) sid.0 }
 {
     let place = sid.0.checked_sub(before)?;

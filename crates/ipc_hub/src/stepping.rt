@@ -63,7 +63,7 @@ pub fn hang_up(core: &mut MarkedCore, alloc: Global, session: Option<Sid>) -> Re
     ensures err { OnErr result (core.new ≡ core.old) }
 {
     if let Some(sid) = session {
-        core.post(alloc, Event::Hangup { sid })?;
+        core.hang_up(alloc, sid)?;
     }
     Ok(())
 }

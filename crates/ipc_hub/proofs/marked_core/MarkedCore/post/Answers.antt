@@ -1,7 +1,7 @@
-use Rattle.std.proofs.Common.{sym, ap, ◌∙◌}
-use Rattle.ipc_hub.specs.Marking.{sessions_in, MarksView}
-use Rattle.ipc_hub.proofs.MarkedLemmas.{none_starts}
+use Rattle.std.proofs.Common.{ap}
+use Rattle.ipc_hub.specs.Marking.{MarksView}
+use Rattle.ipc_hub.proofs.OwnerLemmas.{plain_owners}
 use Rattle.ipc_hub.proofs.marked_core.MarkedCore.post.Goals as goal
 
 pub invariant_of-self-2 : goal.invariant_of-self-2
-invariant_of-self-2 c = ap (λ (m : MarksView). sessions_in m.owners) c.in_ok-post_marked.ensures.marks.same ∙ c.self.invariant ∙ sym (none_starts c.self.inside.core c.post_marked.new.core c.args.event c.requires c.in_ok-post_marked.ensures.ok)
+invariant_of-self-2 c = plain_owners c.self.inside.core c.post_marked.new.core c.args.event c.self.inside.marks.owners c.post_marked.new.marks.owners c.requires c.in_ok-post_marked.ensures.ok (ap (λ (m : MarksView). m.owners) c.in_ok-post_marked.ensures.marks.same) c.self.invariant

@@ -1,4 +1,4 @@
-use Rattle.std.proofs.Common.{◌≡◌, ◌<◌, ◌∙◌, ℕ, true, List, length, set, Option, Some, sym, ap, subst}
+use Rattle.std.proofs.Common.{◌≡◌, ◌<◌, ◌∙◌, true, length, set, Option, Some, sym, subst}
 use Rattle.std.specs.Option.{option_to_list}
 use Rattle.ipc_terms.specs.declared.ids.Sid.{Sid}
 use Rattle.ipc_hub.specs.Marking.{owner_of, MarksView, MarksOwners}
@@ -10,7 +10,7 @@ returns-in-Some-owner_of c =
     let m = c.args.self.now in
     let sid = c.in-Some.sid in
     let i = c.in-Some-owner_of.connection in
-    let there : owner_of (record { before = c.self.inside.before; list = c.self.inside.owners.items }) sid.0 ≡ Some i = ap (λ (xs : List ℕ). owner_of (record { before = c.self.inside.before; list = xs }) sid.0) (sym c.deref.ensures.value) ∙ sym c.owner_of.ensures ∙ c.in-Some-owner_of.is in
+    let there : owner_of (record { before = c.self.inside.before; list = c.self.inside.owners }) sid.0 ≡ Some i = sym c.owner_of.ensures ∙ c.in-Some-owner_of.is in
     let own : owner_of m.owners sid.0 ≡ Some i = subst (λ (z : MarksView). owner_of z.owners sid.0 ≡ Some i) c.self.view_is there in
     let within : i < length m.marked = subst (λ (z : MarksView). i < length z.marked) c.self.view_is (c.self.invariant.within sid.0 i there) in
     let now : c.mark.new.self ≡ record m { marked = set m.marked i true } = c.mark.ensures in

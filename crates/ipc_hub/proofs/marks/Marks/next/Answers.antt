@@ -1,4 +1,4 @@
-use Rattle.std.proofs.Common.{◌≡◌, ◌<◌, ◌-◌, ℕ, true, false, List, length, set, vec_len, vec_capacity, refl, subst, arith}
+use Rattle.std.proofs.Common.{◌≡◌, ◌<◌, ℕ, true, false, List, length, set, refl, subst, arith}
 use Rattle.std.proofs.lemmas.Grind.{common_steps}
 use Rattle.ipc_hub.specs.Marking.{is_set, AreListed, MarksView}
 use Rattle.ipc_hub.proofs.MarkLemmas.{was_listed, set_within, set_count, listed_named}
@@ -30,4 +30,4 @@ returns-clause-some c =
     let xs = c.self.inside.is_marked.items in
     let listed = subst (λ (js : List ℕ). AreListed xs js) c.in_ok-connection.ensures.items c.self.invariant.listed in
     let on = was_listed xs c.pop.new.self.items c.in_ok-connection.connection listed in
-    subst (λ (m : MarksView). (is_set m.marked c.in_ok-connection.connection ≡ true) × (◌≡◌ {A = MarksView} (record { owners = record { before = c.self.inside.before; list = c.self.inside.owners.items }; marked = set xs c.in_ok-connection.connection false; room = vec_capacity c.self.inside.owners - vec_len c.self.inside.owners }) (record { owners = m.owners; marked = set m.marked c.in_ok-connection.connection false; room = m.room }))) c.self.view_is (on, refl)
+    subst (λ (m : MarksView). (is_set m.marked c.in_ok-connection.connection ≡ true) × (◌≡◌ {A = MarksView} (record { owners = record { before = c.self.inside.before; list = c.self.inside.owners }; marked = set xs c.in_ok-connection.connection false }) (record { owners = m.owners; marked = set m.marked c.in_ok-connection.connection false }))) c.self.view_is (on, refl)
