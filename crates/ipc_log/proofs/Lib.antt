@@ -3,6 +3,7 @@ pub mod EntryLemmas
 pub mod EventLemmas
 pub mod HeadLemmas
 pub mod PendingLemmas
+pub mod SlicingLemmas
 pub mod SpellingLemmas
 pub mod SumLemmas
 pub mod TableLemmas

@@ -45,7 +45,7 @@ shifted_apart a b =
     ∙ ap (λ (z : ℕ). bit_xor z (bit_xor (b / 2) (taken (b % 2)))) (sym (shifted_is a))
     ∙ ap (bit_xor (shifted a)) (sym (shifted_is b))
 
-steps_apart : (n a b : ℕ) → shifted_by n (bit_xor a b) ≡ bit_xor (shifted_by n a) (shifted_by n b)
+pub steps_apart : (n a b : ℕ) → shifted_by n (bit_xor a b) ≡ bit_xor (shifted_by n a) (shifted_by n b)
 unfolding shifted_by
 steps_apart zero a b = refl
 steps_apart (suc n) a b = ap (shifted_by n) (shifted_apart a b) ∙ steps_apart n (shifted a) (shifted b)
@@ -58,7 +58,7 @@ step_down c =
     let half : c * 2 / 2 ≡ c = omega arith in
     rw (bit, half) refl
 
-steps_down : (a : ℕ) → shifted_by 8 (a * 256) ≡ a
+pub steps_down : (a : ℕ) → shifted_by 8 (a * 256) ≡ a
 unfolding shifted_by
 steps_down a =
     let down : (n : ℕ) (c : ℕ) → shifted_by (suc n) (c * 2) ≡ shifted_by n c = λ n c. ap (shifted_by n) (step_down c) in
@@ -66,7 +66,7 @@ steps_down a =
     ap (shifted_by 8) twice ∙ down 7 (a * 2 * 2 * 2 * 2 * 2 * 2 * 2) ∙ down 6 (a * 2 * 2 * 2 * 2 * 2 * 2) ∙ down 5 (a * 2 * 2 * 2 * 2 * 2) ∙ down 4 (a * 2 * 2 * 2 * 2) ∙ down 3 (a * 2 * 2 * 2) ∙ down 2 (a * 2 * 2) ∙ down 1 (a * 2) ∙ down 0 a
 
 -- a number is its lowest byte and the others
-bytes_apart : (x : ℕ) → x ≡ bit_xor (x / 256 * 256) (x % 256)
+pub bytes_apart : (x : ℕ) → x ≡ bit_xor (x / 256 * 256) (x % 256)
 bytes_apart x =
     let parts : bit_xor (x / 256 * 256 + 0) (0 * 256 + x % 256) ≡ bit_xor (x / 256) 0 * 256 + bit_xor 0 (x % 256) = xor_block 8 (x / 256) 0 0 (x % 256) (omega arith) (omega arith) in
     let high : x / 256 * 256 + 0 ≡ x / 256 * 256 = omega arith in

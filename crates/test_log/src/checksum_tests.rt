@@ -1,4 +1,4 @@
-//! Sums that are published.
+//! Sums that are published, and those of each length.
 
 use ipc_log::crc32c;
 use std::alloc::Global;
@@ -41,5 +41,35 @@ fn bytes_that_count_have_the_published_sums(rt: HostRuntime) -> Result<(), Fail>
     let downwards = counted(rt.alloc(), false)?;
     assert!(rt; crc32c(&upwards) == 0x46dd_794e);
     assert!(rt; crc32c(&downwards) == 0x113f_db5c);
+    Ok(())
+}
+
+/// The sum of a text, divided bit by bit.
+fn by_bits(text: &[u8]) -> u32 {
+    let mut crc = u32::MAX;
+    for byte in text {
+        crc ^= u32::from(*byte);
+        for _ in 0..8 {
+            crc = if crc % 2 == 1 {
+                crc / 2 ^ 0x82f6_3b78
+            } else {
+                crc / 2
+            };
+        }
+    }
+    crc ^ u32::MAX
+}
+
+#[test]
+fn texts_of_every_length_have_the_sum_of_their_bits(rt: HostRuntime) -> Result<(), Fail> {
+    let mut text = Vec::new(rt.alloc());
+    for byte in 0..40u8 {
+        text.push(byte.wrapping_mul(37).wrapping_add(131))?;
+    }
+    for end in 0..=text.len() {
+        if crc32c(&text[..end]) != by_bits(&text[..end]) {
+            return Err(Fail::new(format_args!("length {end}")));
+        }
+    }
     Ok(())
 }
