@@ -1,7 +1,7 @@
 -- A hub's marks, and whose its sessions are.
 use Rattle.std.proofs.Common.{◌≡◌, ℕ, zero, suc, Bool, true, false, not, eqb, cond, List, [], ◌∷◌, ◌++◌, length, set, slice_get, Option, Some, None, option_map, refl, sym, ap, subst, ◌∙◌, arith}
 use Rattle.std.specs.Prelude.{is_none, unwrap_or}
-use Rattle.std.proofs.lemmas.Bool.{eqb-true, eq-eqb}
+use Rattle.std.proofs.lemmas.Bool.{eqb-true, eq-eqb, ne_eqb}
 use Rattle.ipc_terms.specs.declared.ids.Sid.{Sid}
 use Rattle.ipc_terms.specs.declared.rule.Rule.TheVariants.{BadKey as Refusal}
 use Rattle.ipc_terms.specs.declared.call.Answer.{Answer}
@@ -40,7 +40,7 @@ count_set (x ∷ xs) (suc i) y = ap suc (count_set xs i y)
 each_silent : (m n : MarkedView) (xs : List Connection) (j : ℕ) (z : Connection) → Stands m xs → Follows m n → slice_get xs j ≡ Some z → is_set n.marked j ≡ false → untaken n.core z ≡ untaken m.core z
 each_silent m n xs j z w f there off = at z.has_refusal where
   own : (sid : Sid) → z.session ≡ Some sid → (over : Bool) → z.is_over ≡ over → untaken_of n.core (Some sid) ≡ untaken_of m.core (Some sid)
-  own sid e false open' = f.silent sid.0 j (w.owned j z sid there e open') off
+  own sid e false open' = f.silent sid.0 j (w.owned j z sid there e open') (w.flagged j z there open') off
   own sid e true over = let is = w.sessions.own j z sid there e in f.ended.silent sid (record { started = is.started; ended = is.live_is ∙ ap not over })
 
   box : (s : Option Sid) → z.session ≡ s → untaken_of n.core s ≡ untaken_of m.core s
@@ -97,7 +97,7 @@ session_silent m n xs i x y w there open' f starts stays off = at x.session refl
   at : (s : Option Sid) → x.session ≡ s → (t : Option Sid) → y.session ≡ t → untaken_of n.core y.session ≡ untaken_of m.core x.session
   at None none None still = ap (untaken_of n.core) still ∙ sym (ap (untaken_of m.core) none)
   at None none (Some sid) e = absurd (let wrong : true ≡ false = sym (starts.marked none sid e) ∙ off in cc)
-  at (Some sid) is t e = ap (untaken_of n.core) (stays sid is) ∙ f.silent sid.0 i (w.owned i x sid there is open') off ∙ sym (ap (untaken_of m.core) is)
+  at (Some sid) is t e = ap (untaken_of n.core) (stays sid is) ∙ f.silent sid.0 i (w.owned i x sid there is open') (w.flagged i x there open') off ∙ sym (ap (untaken_of m.core) is)
 
 pub fed_silent : (fed : Fed) (most : Option ℕ) (m n : MarkedView) (xs : List Connection) (i : ℕ) (x y : Connection) (c : Cut) → Stands m xs → slice_get xs i ≡ Some x → x.is_over ≡ false → IsOutcome fed m.core x c n.core y → Ends fed i most m x.session n y.session → ((sid : Sid) → x.session ≡ Some sid → y.session ≡ Some sid) → is_set n.marked i ≡ false → untaken n.core y ≡ untaken m.core x
 fed_silent fed most m n xs i x y c w there open' h e stays off =
@@ -155,6 +155,13 @@ changed_owned m n xs i x y w there keeps starts stays was_open all j z sid e k o
   at (Own same is) = subst (λ (l : ℕ). IsOwned n sid.0 l) same (own (ap (λ (v : Connection). v.session) is ∙ k) (ap (λ (v : Connection). v.is_over) is ∙ open') x.session refl)
   at (Other ne stood) = keeps sid.0 j (w.owned j z sid stood k open')
 
+-- who is not over keeps its flag
+changed_flagged : (m n : MarkedView) (xs : List Connection) (i : ℕ) (x y : Connection) → Stands m xs → slice_get xs i ≡ Some x → n.flagged ≡ m.flagged → (y.is_over ≡ false → x.is_over ≡ false) → (j : ℕ) (z : Connection) → slice_get (set xs i y) j ≡ Some z → z.is_over ≡ false → is_set n.flagged j ≡ true
+changed_flagged m n xs i x y w there same was_open j z e open' = ap (λ bs. is_set bs j) same ∙ at (which xs i x y j z there e) where
+  at : Which xs i y j z → is_set m.flagged j ≡ true
+  at (Own i_is is) = ap (is_set m.flagged) (sym i_is) ∙ w.flagged i x there (was_open (ap (λ (v : Connection). v.is_over) is ∙ open'))
+  at (Other ne stood) = w.flagged j z stood open'
+
 pub fed_stays : (fed : Fed) (m n : MarkedView) (xs : List Connection) (i : ℕ) (x y : Connection) (bytes : List ℕ) → Stands m xs → slice_get xs i ≡ Some x → x.is_over ≡ false → IsOutcome fed m.core x (cut (is_none x.session) bytes) n.core y → (sid : Sid) → x.session ≡ Some sid → y.session ≡ Some sid
 fed_stays fed m n xs i x y bytes w there open' h = (fed_changes fed m.core n.core x y bytes (open_at m.core xs i x w.sessions there open') h).stays
 
@@ -164,6 +171,8 @@ fed_stands fed most m n xs i x y bytes w there open' h e =
     record {
       sessions = all;
       count = e.goes.follows.count ∙ w.count ∙ count_set xs i y;
+      many = ap (λ (bs : List Bool). length bs) e.goes.follows.flagged ∙ w.many ∙ count_set xs i y;
+      flagged = changed_flagged m n xs i x y w there e.goes.follows.flagged (λ still. open');
       owned = changed_owned m n xs i x y w there e.goes.follows.owners e.goes.starts (fed_stays fed m n xs i x y bytes w there open' h) (λ still. open') all;
     }
 
@@ -180,6 +189,8 @@ hung_up_stands m n xs i x y w there open' now f is =
     record {
       sessions = all;
       count = f.count ∙ w.count ∙ count_set xs i y;
+      many = ap (λ (bs : List Bool). length bs) f.flagged ∙ w.many ∙ count_set xs i y;
+      flagged = changed_flagged m n xs i x y w there f.flagged (λ still. open');
       owned = changed_owned m n xs i x y w there f.owners (no_start n i x y same) (λ sid e. same ∙ e) (λ still. open') all;
     }
 
@@ -193,20 +204,32 @@ taken_stands m n xs i x y w there now is =
     record {
       sessions = all;
       count = ap (λ (z : MarkedView). length z.marked) now ∙ w.count ∙ count_set xs i y;
+      many = ap (λ (z : MarkedView). length z.flagged) now ∙ w.many ∙ count_set xs i y;
+      flagged = changed_flagged m n xs i x y w there (ap (λ (z : MarkedView). z.flagged) now) (λ still. sym (ap (λ (z : Connection). z.is_over) is) ∙ still);
       owned = changed_owned m n xs i x y w there (λ s j e. Owned (ap (λ (z : MarkedView). owner_of z.owners s) now ∙ e)) (no_start n i x y same) (λ sid e. same ∙ e) (λ still. sym (ap (λ (z : Connection). z.is_over) is) ∙ still) all;
     }
 
-pub opened_stands : (m n : MarkedView) (xs ys : List Connection) (x : Connection) → Stands m xs → x ≡ new_connection → ys ≡ xs ++ x ∷ [] → n ≡ record m { marked = m.marked ++ false ∷ [] } → Stands n ys
-opened_stands m n xs ys x w new all now = subst (λ (k : MarkedView). Stands k ys) (sym now) (subst (λ (zs : List Connection). Stands (record m { marked = m.marked ++ false ∷ [] }) zs) (sym (all ∙ ap (λ (z : Connection). xs ++ z ∷ []) new)) (record {
+pub opened_stands : (m n : MarkedView) (xs ys : List Connection) (x : Connection) → Stands m xs → x ≡ new_connection → ys ≡ xs ++ x ∷ [] → n ≡ record m { marked = m.marked ++ false ∷ []; flagged = m.flagged ++ true ∷ [] } → Stands n ys
+opened_stands m n xs ys x w new all now = subst (λ (k : MarkedView). Stands k ys) (sym now) (subst (λ (zs : List Connection). Stands (record m { marked = m.marked ++ false ∷ []; flagged = m.flagged ++ true ∷ [] }) zs) (sym (all ∙ ap (λ (z : Connection). xs ++ z ∷ []) new)) (record {
   sessions = opened_sessions m.core xs (xs ++ new_connection ∷ []) new_connection w.sessions refl refl;
-  count = one_more m.marked xs w.count;
+  count = one_more false m.marked xs w.count;
+  many = one_more true m.flagged xs w.many;
+  flagged = λ i z e open'. flagged m.flagged xs i z w.many w.flagged e open';
   owned = λ i z sid e k open'. at i z sid k open' (after_opening xs i z e);
 })) where
-  one_more : (bs : List Bool) (zs : List Connection) → length bs ≡ length zs → length (bs ++ false ∷ []) ≡ length (zs ++ new_connection ∷ [])
-  one_more [] [] e = refl
-  one_more [] (z ∷ zs) e = absurd (omega arith)
-  one_more (b ∷ bs) [] e = absurd (omega arith)
-  one_more (b ∷ bs) (z ∷ zs) e = ap suc (one_more bs zs (omega arith))
+  one_more : (own : Bool) (bs : List Bool) (zs : List Connection) → length bs ≡ length zs → length (bs ++ own ∷ []) ≡ length (zs ++ new_connection ∷ [])
+  one_more own [] [] e = refl
+  one_more own [] (z ∷ zs) e = absurd (omega arith)
+  one_more own (b ∷ bs) [] e = absurd (omega arith)
+  one_more own (b ∷ bs) (z ∷ zs) e = ap suc (one_more own bs zs (omega arith))
+
+  flagged : (bs : List Bool) (zs : List Connection) (i : ℕ) (z : Connection) → length bs ≡ length zs → ((j : ℕ) (u : Connection) → slice_get zs j ≡ Some u → u.is_over ≡ false → is_set bs j ≡ true) → slice_get (zs ++ new_connection ∷ []) i ≡ Some z → z.is_over ≡ false → is_set (bs ++ true ∷ []) i ≡ true
+  flagged [] [] zero z many all e open' = refl
+  flagged [] [] (suc i) z many all e open' = absurd cc
+  flagged [] (u ∷ us) i z many all e open' = absurd (omega arith)
+  flagged (b ∷ bs) [] i z many all e open' = absurd (omega arith)
+  flagged (b ∷ bs) (u ∷ us) zero z many all e open' = all 0 z e open'
+  flagged (b ∷ bs) (u ∷ us) (suc i) z many all e open' = flagged bs us i z (omega arith) (λ j. all (suc j)) e open'
 
   at : (i : ℕ) (z : Connection) (sid : Sid) → z.session ≡ Some sid → z.is_over ≡ false → AfterOpening xs i z → owner_of m.owners sid.0 ≡ Some i
   at i z sid k open' (Fresh past is) = absurd (fresh_has_none z sid is k)
@@ -218,16 +241,28 @@ ticked_stands m n xs moment w now f =
     record {
       sessions = all;
       count = f.count ∙ w.count;
+      many = ap (λ (bs : List Bool). length bs) f.flagged ∙ w.many;
+      flagged = λ i z e open'. ap (λ bs. is_set bs i) f.flagged ∙ w.flagged i z e open';
       owned = λ i z sid e k open'. still_owned n xs i z sid all e k open' (f.owners sid.0 i (w.owned i z sid e k open'));
     }
 
 -- the connection that is named loses its mark
 pub named_stands : (m n : MarkedView) (xs : List Connection) (i : ℕ) → Stands m xs → n ≡ record m { marked = set m.marked i false } → Stands n xs
-named_stands m n xs i w now = subst (λ (k : MarkedView). Stands k xs) (sym now) (record { sessions = w.sessions; count = set_count m.marked i false ∙ w.count; owned = w.owned })
+named_stands m n xs i w now = subst (λ (k : MarkedView). Stands k xs) (sym now) (record { sessions = w.sessions; count = set_count m.marked i false ∙ w.count; many = w.many; flagged = w.flagged; owned = w.owned })
+
+-- who is over keeps no flag
+pub let_go_stands : (m n : MarkedView) (xs : List Connection) (i : ℕ) (x : Connection) → Stands m xs → slice_get xs i ≡ Some x → x.is_over ≡ true → n ≡ record m { flagged = n.flagged } → length n.flagged ≡ length m.flagged → ((j : ℕ) → eqb j i ≡ false → is_set n.flagged j ≡ is_set m.flagged j) → Stands n xs
+let_go_stands m n xs i x w there over now many others = subst (λ (k : MarkedView). Stands k xs) (sym now) (record { sessions = w.sessions; count = w.count; many = many ∙ w.many; flagged = λ j z e open'. others j (ne_eqb j i (λ (q : j ≡ i). other j z e open' q)) ∙ w.flagged j z e open'; owned = w.owned }) where
+  other : (j : ℕ) (z : Connection) → slice_get xs j ≡ Some z → z.is_over ≡ false → j ≡ i → ⊥
+  other j z e open' q =
+      let same : Some x ≡ Some z = sym there ∙ ap (slice_get xs) (sym q) ∙ e in
+      let is : x ≡ z = cc in
+      let wrong : true ≡ false = sym over ∙ ap (λ (v : Connection). v.is_over) is ∙ open' in
+      absurd cc
 
 -- records are forgotten
 pub forgot_stands : (m n : MarkedView) (first : ℕ) (xs : List Connection) → Stands m xs → n ≡ record m { core = record m.core { first = first } } → Stands n xs
-forgot_stands m n first xs w now = subst (λ (k : MarkedView). Stands k xs) (sym now) (record { sessions = forgot_sessions m.core first xs w.sessions; count = w.count; owned = w.owned })
+forgot_stands m n first xs w now = subst (λ (k : MarkedView). Stands k xs) (sym now) (record { sessions = forgot_sessions m.core first xs w.sessions; count = w.count; many = w.many; flagged = w.flagged; owned = w.owned })
 
-pub no_connections : (m : MarkedView) → m.marked ≡ [] → Stands m []
-no_connections m e = record { sessions = none_at_all m.core; count = ap (λ (bs : List Bool). length bs) e; owned = λ i x sid there k open'. absurd cc }
+pub no_connections : (m : MarkedView) → m.marked ≡ [] → m.flagged ≡ [] → Stands m []
+no_connections m e none = record { sessions = none_at_all m.core; count = ap (λ (bs : List Bool). length bs) e; many = ap (λ (bs : List Bool). length bs) none; flagged = λ i x there open'. absurd cc; owned = λ i x sid there k open'. absurd cc }

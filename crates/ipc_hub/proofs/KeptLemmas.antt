@@ -222,7 +222,7 @@ some_within (x ∷ xs) zero lt = refl
 some_within (x ∷ xs) (suc i) lt = some_within xs i (omega arith)
 
 -- what was lent comes back as it was
-pub same_written : (rows : List (Option Connection)) (i : ℕ) (x y : Connection) → at rows i ≡ Some x → y ≡ x → changed (λ o. Some y) rows i ≡ rows
+pub same_written : {A : Type 0} (rows : List (Option A)) (i : ℕ) (x y : A) → at rows i ≡ Some x → y ≡ x → changed (λ o. Some y) rows i ≡ rows
 same_written [] i x y e same = refl
 same_written (o ∷ rows) zero x y e same = ap (λ w. w ∷ rows) (ap Some same ∙ sym e)
 same_written (o ∷ rows) (suc i) x y e same = ap (λ l. o ∷ l) (same_written rows i x y e same)

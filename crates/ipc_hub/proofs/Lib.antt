@@ -1,4 +1,5 @@
 pub mod MarkLemmas
+pub mod FlagLemmas
 pub mod OwnerLemmas
 pub mod MarkedLemmas
 pub mod FrameMarks

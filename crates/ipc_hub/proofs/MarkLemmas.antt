@@ -1,5 +1,5 @@
 -- Marks are set and taken away.
-use Rattle.std.proofs.Common.{◌≡◌, ℕ, zero, suc, ◌+◌, ◌<◌, ◌≤◌, Bool, true, false, eqb, cond, List, [], ◌∷◌, ◌++◌, length, get_or, set, Option, Some, None, refl, sym, ap, ◌∙◌, arith}
+use Rattle.std.proofs.Common.{◌≡◌, ℕ, zero, suc, ◌+◌, ◌<◌, ◌≤◌, Bool, true, false, eqb, cond, List, [], ◌∷◌, ◌++◌, length, set, Option, Some, None, refl, sym, ap, ◌∙◌, arith}
 use Rattle.ipc_terms.specs.Lists.{Each}
 use Rattle.ipc_terms.specs.declared.ids.Sid.{Sid}
 use Rattle.std.proofs.lemmas.Bool.{ne_eqb, eq-eqb, eqb-true}
@@ -40,11 +40,6 @@ pushed_at [] zero = refl
 pushed_at [] (suc i) = refl
 pushed_at (x ∷ xs) zero = refl
 pushed_at (x ∷ xs) (suc i) = pushed_at xs i
-
-pub count_within : (xs : List Bool) → how_many_set xs ≤ length xs
-count_within [] = omega arith
-count_within (true ∷ xs) = let le = count_within xs in omega arith
-count_within (false ∷ xs) = let le = count_within xs in omega arith
 
 count_pushed : (xs : List Bool) → how_many_set (xs ++ false ∷ []) ≡ how_many_set xs
 count_pushed [] = refl
@@ -122,53 +117,48 @@ listed_named xs js i h = record {
   at j true e k = let one : times j js + 1 ≡ 1 = k ∙ ap (λ b. cond b 1 0) (ap (is_set xs) (sym (eqb-true i j e)) ∙ on) in omega arith
   at j false e k = k
 
--- a flag that was read
-pub read_off : (xs : List Bool) (i : ℕ) (b : Bool) → i < length xs → b ≡ get_or xs i b → b ≡ false → is_set xs i ≡ false
-read_off [] i b lt e off = absurd (omega arith)
-read_off (x ∷ xs) zero b lt e off = sym e ∙ off
-read_off (x ∷ xs) (suc i) b lt e off = read_off xs i b (omega arith) e off
-
-pub less_marked : (xs : List Bool) (js : List ℕ) (i : ℕ) → i < length xs → is_set xs i ≡ false → AreListed xs js → length js < length xs
-less_marked xs js i lt off h =
-    let n : length js ≡ how_many_set xs = h.count in
-    let k : how_many_set (set xs i true) ≡ how_many_set xs + 1 = count_marked xs i lt off in
-    let le : how_many_set (set xs i true) ≤ length (set xs i true) = count_within (set xs i true) in
-    let e : length (set xs i true) ≡ length xs = set_count xs i true in
-    omega arith
-
 -- ---- the connections of sessions
 
 pub none_marked : (m : MarksView) → MarksOwners m [] m
-none_marked m = record { same = refl; count = refl; kept = λ i on. on; none = λ s i e off. tt }
+none_marked m = record { same = refl; count = refl; kept = λ i on. on; none = λ s i e may off. tt }
 
 pub none_owns : (m : MarksView) (sid : Sid) → owner_of m.owners sid.0 ≡ None → MarksOwners m (sid ∷ []) m
 none_owns m sid none = record {
   same = refl;
   count = refl;
   kept = λ i on. on;
-  none = λ s i e off. (ne_eqb sid.0 s (λ (q : sid.0 ≡ s). owned i (sym none ∙ ap (owner_of m.owners) q ∙ e)), tt);
+  none = λ s i e may off. (ne_eqb sid.0 s (λ (q : sid.0 ≡ s). owned i (sym none ∙ ap (owner_of m.owners) q ∙ e)), tt);
 } where
   owned : (i : ℕ) → ◌≡◌ {A = Option ℕ} None (Some i) → ⊥
   owned i e = absurd cc
+
+some_owner : (j k : ℕ) → Some j ≡ Some k → j ≡ k
+some_owner j k e = cc
+
+-- its connection has no flag
+pub unflagged_owner : (m : MarksView) (sid : Sid) (i : ℕ) → owner_of m.owners sid.0 ≡ Some i → is_set m.flagged i ≡ false → MarksOwners m (sid ∷ []) m
+unflagged_owner m sid i own none = record {
+  same = refl;
+  count = refl;
+  kept = λ j on. on;
+  none = λ s j e may off. (ne_eqb sid.0 s (λ (q : sid.0 ≡ s). absurd (let wrong : false ≡ true = sym none ∙ ap (is_set m.flagged) (some_owner i j (sym own ∙ ap (owner_of m.owners) q ∙ e)) ∙ may in cc)), tt);
+}
 
 pub owner_marked : (m : MarksView) (sid : Sid) (i : ℕ) → owner_of m.owners sid.0 ≡ Some i → i < length m.marked → MarksOwners m (sid ∷ []) (record m { marked = set m.marked i true })
 owner_marked m sid i own lt = record {
   same = refl;
   count = set_count m.marked i true;
   kept = λ j on. set_at m.marked i true j lt ∙ still (eqb i j) (is_set m.marked j) on;
-  none = λ s j e off. (at s j e off (eqb sid.0 s) refl, tt);
+  none = λ s j e may off. (at s j e off (eqb sid.0 s) refl, tt);
 } where
   still : (b on : Bool) → on ≡ true → cond b true on ≡ true
   still true on e = refl
   still false on e = e
 
-  some_is : (j k : ℕ) → Some j ≡ Some k → j ≡ k
-  some_is j k e = cc
-
   at : (s j : ℕ) → owner_of m.owners s ≡ Some j → is_set (set m.marked i true) j ≡ false → (b : Bool) → eqb sid.0 s ≡ b → eqb sid.0 s ≡ false
   at s j e off false k = k
   at s j e off true k =
-      let same : i ≡ j = some_is i j (sym own ∙ ap (owner_of m.owners) (eqb-true sid.0 s k) ∙ e) in
+      let same : i ≡ j = some_owner i j (sym own ∙ ap (owner_of m.owners) (eqb-true sid.0 s k) ∙ e) in
       absurd (let on : true ≡ false = sym (ap (λ b. cond b true (is_set m.marked j)) (eq-eqb i j same)) ∙ sym (set_at m.marked i true j lt) ∙ off in cc)
 
 each_both : {X : Type 0} (P : X → Type 0) (xs ys : List X) → Each P xs → Each P ys → Each P (xs ++ ys)
@@ -181,7 +171,7 @@ both_marked a b c xs ys h k = record {
   same = k.same ∙ ap (λ (m : MarksView). record m { marked = c.marked }) h.same;
   count = k.count ∙ h.count;
   kept = λ i on. k.kept i (h.kept i on);
-  none = λ s i e off. each_both (λ (sid : Sid). eqb sid.0 s ≡ false) xs ys (h.none s i e (before (is_set b.marked i) refl (λ on. sym (k.kept i on) ∙ off))) (k.none s i (ap (λ (m : MarksView). owner_of m.owners s) h.same ∙ e) off);
+  none = λ s i e may off. each_both (λ (sid : Sid). eqb sid.0 s ≡ false) xs ys (h.none s i e may (before (is_set b.marked i) refl (λ on. sym (k.kept i on) ∙ off))) (k.none s i (ap (λ (m : MarksView). owner_of m.owners s) h.same ∙ e) (ap (λ (m : MarksView). is_set m.flagged i) h.same ∙ may) off);
 } where
   before : (p : Bool) {q : Bool} → q ≡ p → (q ≡ true → true ≡ false) → q ≡ false
   before false e f = e

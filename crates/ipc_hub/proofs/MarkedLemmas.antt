@@ -93,17 +93,17 @@ answered_marked a b m k n e v w agree now sids first second =
       same = h.same;
       count = h.count;
       kept = h.kept;
-      silent = λ s i own off. same_box a b e s agree now (untold a.config a.history e s (none_told s (answers a.config a.history e) (subst (λ (xs : List Sid). NoneIs s xs) sids (h.none s i own off))));
+      silent = λ s i own may off. same_box a b e s agree now (untold a.config a.history e s (none_told s (answers a.config a.history e) (subst (λ (xs : List Sid). NoneIs s xs) sids (h.none s i own may off))));
       ended = ended_stay a b e agree now;
     }
 
 -- ---- a core with marks
 
 abbrev pub marked_view : CoreView → MarksView → MarkedView
-marked_view a m = record { core = a; owners = m.owners; marked = m.marked }
+marked_view a m = record { core = a; owners = m.owners; marked = m.marked; flagged = m.flagged }
 
 pub follows_self : (m : MarkedView) → Follows m m
-follows_self m = record { count = refl; owners = λ s i e. Owned e; kept = λ i on. on; silent = λ s i e off. refl; ended = record { ended = λ sid h. h; silent = λ sid h. refl } }
+follows_self m = record { count = refl; flagged = refl; owners = λ s i e. Owned e; kept = λ i on. on; silent = λ s i e may off. refl; ended = record { ended = λ sid h. h; silent = λ sid h. refl } }
 
 still_off : (p : Bool) {q : Bool} → q ≡ p → (q ≡ true → true ≡ false) → q ≡ false
 still_off false e f = e
@@ -113,16 +113,17 @@ pub owned_later : (a b : MarkedView) (s i : ℕ) → Follows a b → IsOwned a s
 owned_later a b s i f (Owned e) = f.owners s i e
 owned_later a b s i f (NoMore h) = NoMore (f.ended.ended (record { 0 = s }) h)
 
-owned_silent : (a b : MarkedView) (s i : ℕ) → Follows a b → IsOwned a s i → is_set b.marked i ≡ false → box_at b.core.untaken s ≡ box_at a.core.untaken s
-owned_silent a b s i f (Owned e) off = f.silent s i e off
-owned_silent a b s i f (NoMore h) off = f.ended.silent (record { 0 = s }) h
+owned_silent : (a b : MarkedView) (s i : ℕ) → Follows a b → IsOwned a s i → is_set a.flagged i ≡ true → is_set b.marked i ≡ false → box_at b.core.untaken s ≡ box_at a.core.untaken s
+owned_silent a b s i f (Owned e) may off = f.silent s i e may off
+owned_silent a b s i f (NoMore h) may off = f.ended.silent (record { 0 = s }) h
 
 pub follows_both : (a b c : MarkedView) → Follows a b → Follows b c → Follows a c
 follows_both a b c h k = record {
   count = k.count ∙ h.count;
+  flagged = k.flagged ∙ h.flagged;
   owners = λ s i e. owned_later b c s i k (h.owners s i e);
   kept = λ i on. k.kept i (h.kept i on);
-  silent = λ s i e off. owned_silent b c s i k (h.owners s i e) off ∙ h.silent s i e (still_off (is_set b.marked i) refl (λ on. sym (k.kept i on) ∙ off));
+  silent = λ s i e may off. owned_silent b c s i k (h.owners s i e) (ap (λ bs. is_set bs i) h.flagged ∙ may) off ∙ h.silent s i e may (still_off (is_set b.marked i) refl (λ on. sym (k.kept i on) ∙ off));
   ended = record {
     ended = λ sid e. k.ended.ended sid (h.ended.ended sid e);
     silent = λ sid e. k.ended.silent sid (h.ended.ended sid e) ∙ h.ended.silent sid e;
@@ -132,6 +133,7 @@ follows_both a b c h k = record {
 pub answered_follows : (a b : CoreView) (m n : MarksView) → MarksAnswered a m b n → Follows (marked_view a m) (marked_view b n)
 answered_follows a b m n h = record {
   count = h.count;
+  flagged = ap (λ (z : MarksView). z.flagged) h.same;
   owners = λ s i e. Owned (ap (λ (z : MarksView). owner_of z.owners s) h.same ∙ e);
   kept = h.kept;
   silent = h.silent;
@@ -148,30 +150,20 @@ pub record AtHello (old : MarkedView) (own : ℕ) (a b : CoreView) (k m n now : 
   pub pushed : m ≡ record k { owners = with_owner own k.owners }
   pub answered : MarksAnswered a m b n
   pub marked : now ≡ record n { marked = set n.marked own true }
-  pub within : own < length old.marked
-
-hello_within : (old : MarkedView) (own : ℕ) (a b : CoreView) (k m n now : MarksView) → AtHello old own a b k m n now → own < length n.marked
-hello_within old own a b k m n now h =
-    let same : length k.marked ≡ length old.marked = ap (λ (z : MarkedView). length z.marked) h.seen in
-    let same' : length m.marked ≡ length k.marked = ap (λ (z : MarksView). length z.marked) h.pushed in
-    let same'' = h.answered.count in
-    let lt = h.within in
-    omega arith
+  pub within : own < length n.marked
 
 pub hello_owners : (old : MarkedView) (own : ℕ) (a b : CoreView) (k m n now : MarksView) → AtHello old own a b k m n now → now.owners ≡ with_owner own k.owners
 hello_owners old own a b k m n now h = ap (λ (z : MarksView). z.owners) h.marked ∙ ap (λ (z : MarksView). z.owners) h.answered.same ∙ ap (λ (z : MarksView). z.owners) h.pushed
 
-hello_follows : (old : MarkedView) (own : ℕ) (a b : CoreView) (k m n now : MarksView) (owners : Owners) → AtHello old own a b k m n now → ((s i : ℕ) → owner_of k.owners s ≡ Some i → owner_of owners s ≡ Some i) → Follows old (record { core = b; owners = owners; marked = now.marked })
-hello_follows old own a b k m n now owners h keeps = subst (λ (o : MarkedView). Follows o (record { core = b; owners = owners; marked = now.marked })) h.seen (subst (λ (bs : List Bool). Follows (marked_view a k) (record { core = b; owners = owners; marked = bs })) (sym (ap (λ (z : MarksView). z.marked) h.marked)) (record {
+hello_follows : (old : MarkedView) (own : ℕ) (a b : CoreView) (k m n now : MarksView) (owners : Owners) → AtHello old own a b k m n now → ((s i : ℕ) → owner_of k.owners s ≡ Some i → owner_of owners s ≡ Some i) → Follows old (record { core = b; owners = owners; marked = now.marked; flagged = now.flagged })
+hello_follows old own a b k m n now owners h keeps = subst (λ (o : MarkedView). Follows o (record { core = b; owners = owners; marked = now.marked; flagged = now.flagged })) h.seen (subst (λ (bs : List Bool). Follows (marked_view a k) (record { core = b; owners = owners; marked = bs; flagged = now.flagged })) (sym (ap (λ (z : MarksView). z.marked) h.marked)) (record {
   count = set_count n.marked own true ∙ h.answered.count ∙ ap (λ (z : MarksView). length z.marked) h.pushed;
+  flagged = ap (λ (z : MarksView). z.flagged) h.marked ∙ ap (λ (z : MarksView). z.flagged) h.answered.same ∙ ap (λ (z : MarksView). z.flagged) h.pushed;
   owners = λ s i e. Owned (keeps s i e);
-  kept = λ i on. set_at n.marked own true i lt ∙ still (eqb own i) (is_set n.marked i) (h.answered.kept i (ap (λ (z : MarksView). is_set z.marked i) h.pushed ∙ on));
-  silent = λ s i e off. h.answered.silent s i (ap (λ (z : MarksView). owner_of z.owners s) h.pushed ∙ owner_stays k.owners own s i e) (was_off i (eqb own i) (sym (set_at n.marked own true i lt) ∙ off));
+  kept = λ i on. set_at n.marked own true i h.within ∙ still (eqb own i) (is_set n.marked i) (h.answered.kept i (ap (λ (z : MarksView). is_set z.marked i) h.pushed ∙ on));
+  silent = λ s i e may off. h.answered.silent s i (ap (λ (z : MarksView). owner_of z.owners s) h.pushed ∙ owner_stays k.owners own s i e) (ap (λ (z : MarksView). is_set z.flagged i) h.pushed ∙ may) (was_off i (eqb own i) (sym (set_at n.marked own true i h.within) ∙ off));
   ended = h.answered.ended;
 })) where
-  lt : own < length n.marked
-  lt = hello_within old own a b k m n now h
-
   still : (b on : Bool) → on ≡ true → cond b true on ≡ true
   still true on e = refl
   still false on e = e
@@ -185,14 +177,14 @@ pub hello_undone : (old : MarkedView) (own : ℕ) (a b : CoreView) (k m n now la
 hello_undone old own a b k m n now last h undone = ap (λ (z : MarksView). z.owners) undone ∙ ap without_newest (hello_owners old own a b k m n now h) ∙ newest_undone k.owners own
 
 pub hello_refused_follows : (old : MarkedView) (own : ℕ) (a b : CoreView) (k m n now last : MarksView) → AtHello old own a b k m n now → last ≡ record now { owners = without_newest now.owners } → Follows old (marked_view b last)
-hello_refused_follows old own a b k m n now last h undone = subst (λ (bs : List Bool). Follows old (record { core = b; owners = last.owners; marked = bs })) (sym (ap (λ (z : MarksView). z.marked) undone)) (hello_follows old own a b k m n now last.owners h (λ s i e. ap (λ (o : Owners). owner_of o s) (hello_undone old own a b k m n now last h undone) ∙ e))
+hello_refused_follows old own a b k m n now last h undone = subst (λ (z : MarksView). Follows old (record { core = b; owners = last.owners; marked = z.marked; flagged = z.flagged })) (sym undone) (hello_follows old own a b k m n now last.owners h (λ s i e. ap (λ (o : Owners). owner_of o s) (hello_undone old own a b k m n now last h undone) ∙ e))
 
 -- of one that is accepted
 pub hello_accepted_follows : (old : MarkedView) (own : ℕ) (a b : CoreView) (k m n now : MarksView) → AtHello old own a b k m n now → Follows old (marked_view b now)
 hello_accepted_follows old own a b k m n now h = hello_follows old own a b k m n now now.owners h (λ s i e. ap (λ (o : Owners). owner_of o s) (hello_owners old own a b k m n now h) ∙ owner_stays k.owners own s i e)
 
 pub hello_marks : (old : MarkedView) (own : ℕ) (a b : CoreView) (k m n now : MarksView) → AtHello old own a b k m n now → is_set now.marked own ≡ true
-hello_marks old own a b k m n now h = ap (λ (z : MarksView). is_set z.marked own) h.marked ∙ own_marked n.marked own (hello_within old own a b k m n now h)
+hello_marks old own a b k m n now h = ap (λ (z : MarksView). is_set z.marked own) h.marked ∙ own_marked n.marked own h.within
 
 pub hello_owner : (old : MarkedView) (own : ℕ) (a b : CoreView) (k m n now : MarksView) (s : ℕ) → AtHello old own a b k m n now → s ≡ sessions_in k.owners → owner_of now.owners s ≡ Some own
 hello_owner old own a b k m n now s h is = ap (λ (o : Owners). owner_of o s) (hello_owners old own a b k m n now h) ∙ own_owner k.owners own s is
@@ -202,6 +194,7 @@ hello_owner old own a b k m n now s h is = ap (λ (o : Owners). owner_of o s) (h
 pub hung_up_follows : (old : MarkedView) (a b : CoreView) (m n last : MarksView) (sid : Sid) → marked_view a m ≡ old → sessions_in m.owners ≡ hellos a.history → b ≡ after_step (Hangup sid) a → MarksAnswered a m b n → last ≡ record n { owners = without_owner sid.0 n.owners } → Follows old (marked_view b last)
 hung_up_follows old a b m n last sid seen count now h gone = subst (λ (o : MarkedView). Follows o (marked_view b last)) seen (subst (λ (z : MarksView). Follows (marked_view a m) (marked_view b z)) (sym gone) (record {
   count = h.count;
+  flagged = ap (λ (z : MarksView). z.flagged) h.same;
   owners = λ s i e. owned s i e (eqb sid.0 s) refl;
   kept = h.kept;
   silent = h.silent;

@@ -1,12 +1,16 @@
 -- Which connections were answered since they were last named.
-use Rattle.std.specs.Prelude.{◌≡◌, ◌==◌, ◌<◌, ◌≤◌, Bool, true, false, ℕ, ◌+◌, ◌-◌, List, [], ◌∷◌, ◌++◌, length, take, nat_lt, slice_get, Option, Some, None, unwrap_or, if◌then◌else◌}
+use Rattle.std.specs.Prelude.{◌≡◌, ◌==◌, ◌≤◌, Bool, true, false, ℕ, ◌+◌, ◌-◌, List, [], ◌∷◌, ◌++◌, length, map, take, nat_lt, slice_get, Option, Some, None, unwrap_or, if◌then◌else◌}
 use Rattle.ipc_terms.specs.Lists.{changed, Each}
 use Rattle.ipc_terms.specs.declared.ids.Sid.{Sid}
-use Rattle.ipc_numbered.specs.Slots.{at, emptied}
+use Rattle.ipc_numbered.specs.Slots.{at, emptied, how_many_filled}
 
 -- whether the flag of this number is set; no, where there is none
 abbrev pub is_set : List Bool → ℕ → Bool
 is_set flags i = unwrap_or (slice_get flags i) false
+
+-- what a slot says of its flag: off, where none is kept
+abbrev pub flag_in : Option Bool → Bool
+flag_in slot = unwrap_or slot false
 
 -- how many flags are set
 abbrev pub how_many_set : List Bool → ℕ
@@ -49,24 +53,26 @@ without_newest owners = record owners { list = take (length owners.list - 1) own
 abbrev pub without_owner : ℕ → Owners → Owners
 without_owner s owners = if nat_lt s owners.before then owners else record owners { list = changed emptied owners.list (s - owners.before) }
 
--- what is seen of marks. owners: whose each session is. marked: whether each connection was answered since it was last named
+-- what is seen of marks. owners: whose each session is. marked: whether each connection was answered since it was last named.
+-- flagged: whether its flag is kept
 pub record MarksView : Type 0 where
   pub owners : Owners
   pub marked : List Bool
+  pub flagged : List Bool
 
--- the flags that are set are listed, the list has room for all, and each session's connection has a flag
-pub record AreMarks (owners : Owners) (flags : List Bool) (list : List ℕ) (capacity : ℕ) : Type 0 where
-  pub listed : AreListed flags list
-  pub fits : length flags ≤ capacity
-  pub within : (s i : ℕ) → owner_of owners s ≡ Some i → i < length flags
+-- the flags that are set are listed, those that are kept are so many, and the list has room for all
+pub record AreMarks (flags : List (Option Bool)) (count : ℕ) (list : List ℕ) (capacity : ℕ) : Type 0 where
+  pub listed : AreListed (map flag_in flags) list
+  pub counted : count ≡ how_many_filled flags
+  pub fits : count ≤ capacity
 
 -- no session of this number is among them
 abbrev pub NoneIs : ℕ → List Sid → Type 0
 NoneIs s sids = Each (λ sid. (sid.0 == s) ≡ false) sids
 
--- no mark goes, and a session whose connection has none is none of these
+-- no mark goes, and a session whose connection has a flag, and no mark, is none of these
 pub record MarksOwners (old : MarksView) (sids : List Sid) (new : MarksView) : Type 0 where
   pub same : new ≡ record old { marked = new.marked }
   pub count : length new.marked ≡ length old.marked
   pub kept : (i : ℕ) → is_set old.marked i ≡ true → is_set new.marked i ≡ true
-  pub none : (s i : ℕ) → owner_of old.owners s ≡ Some i → is_set new.marked i ≡ false → NoneIs s sids
+  pub none : (s i : ℕ) → owner_of old.owners s ≡ Some i → is_set old.flagged i ≡ true → is_set new.marked i ≡ false → NoneIs s sids

@@ -5,6 +5,7 @@ ghost use Rattle.ipc_core.specs.Outboxes.{after_steps};
 ghost use Rattle.ipc_fields.specs.Field.{◌⊕◌};
 ghost use Rattle.ipc_wire.specs.Streams.{cut};
 ghost use Rattle.ipc_hub.specs.Hub.{new_connection, untaken_of, untaken, spell_answers, hang_up_of, IsOutcome, core_after_take};
+ghost use Rattle.ipc_hub.specs.Marking.{is_set};
 ghost use Rattle.ipc_hub.specs.MarkedCore.{Follows};
 ghost use Rattle.ipc_hub.specs.Connections.{seen};
 ghost use Rattle.ipc_hub.specs.Stepping.{StepsFrames, Ends, connection_after};
@@ -52,7 +53,7 @@ impl Stream {
         most: Option<usize>,
         piece: &[u8],
     ) -> Result<Fed, NoMemory>
-        requires { own < length core.old.marked }
+        requires { is_set core.old.flagged own ≡ true }
         ensures ok { IfOk result (λ fed. StepsFrames fed core.old.core self.old.session (self.old.kept ++ piece.now) core.new.core self.new.session self.new.kept) }
         ensures marks { IfOk result (λ fed. Ends fed own most core.old self.old.session core.new self.new.session) }
         ensures err { OnErr result (self.new ≡ self.old) }
@@ -221,7 +222,7 @@ impl Connection {
         piece: &[u8],
     ) -> Result<Fed, NoMemory>
         requires open { self.old.is_over ≡ false }
-        requires own { own < length core.old.marked }
+        requires own { is_set core.old.flagged own ≡ true }
         ensures ok { IfOk result (λ fed. IsOutcome fed core.old.core self.old (cut (is_none self.old.session) (self.old.kept ++ piece.now)) core.new.core self.new) }
         ensures marks { IfOk result (λ fed. Ends fed own most core.old self.old.session core.new self.new.session) }
         ensures err { OnErr result (self.new ≡ self.old) }

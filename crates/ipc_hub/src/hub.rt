@@ -94,8 +94,8 @@ impl Hub {
     }
 
     /// The trail is legal, what is untaken is the last of what each session was answered while it was live, no
-    /// two connections have one session, a session is live exactly as long as its connection is not over, and each
-    /// connection has a flag for its mark. Does nothing; facts of every hub.
+    /// two connections have one session, a session is live exactly as long as its connection is not over, and there are
+    /// as many marks, set or not, as connections. Does nothing; facts of every hub.
     pub fn is_sound(&self)
         ensures legal { Legal self.now.core.config self.now.core.history }
         ensures last { BoxesAgree self.now.core.config self.now.core.history self.now.core.untaken }
@@ -213,13 +213,18 @@ impl Hub {
     }
 
     /// A connection that was answered since it was last named here, or opened, if there is one. Each is named once.
-    /// Takes no memory.
+    /// It can't fail.
     pub fn next_answered(&mut self) -> Option<Conn>
         ensures some { IfSome result (λ conn. Names self.old conn.0 self.new) }
         ensures none { IfNone result ((i : ℕ) → is_marked self.old i ≡ false) }
         ensures same { IfNone result (self.new ≡ self.old) }
     {
-        Some(Conn(self.core.next_answered()?))
+        let number = self.core.next_answered()?;
+        // One that is gone is answered nothing more.
+        if self.connections.get(number as usize).is_none() {
+            self.core.let_go(number);
+        }
+        Some(Conn(number))
     }
 
     /// Puts the frames of all that the connection was answered and has not taken at the end of a buffer, and leaves
@@ -251,7 +256,7 @@ impl Hub {
     }
 
     /// Drops all that the connection was answered and has not taken, as a take does whose bytes go nowhere; also of a
-    /// connection that is over, of which nothing is left then. Takes no memory. An `Err` changes nothing.
+    /// connection that is over, of which nothing is left then. No want of memory fails it. An `Err` changes nothing.
     pub fn discard(&mut self, conn: Conn) -> Result<(), HubFault>
         ensures ok { OnOk result ((bytes : List ℕ) × Takes self.old conn.0 bytes self.new) }
         ensures gone { OnOk result (is_over_at self.old conn.0 ≡ true → IsGone self.new conn.0) }
@@ -269,7 +274,7 @@ impl Hub {
         Ok(())
     }
 
-    /// Keeps nothing of the connection if it is over, and nothing of it is left.
+    /// Keeps nothing of the connection if it is over, and nothing of it is left, but its mark until it is named.
     fn let_go(&mut self, i: usize)
         requires { is_over_at self.old i ≡ true → IsGone self.old i }
         ensures { self.new ≡ self.old }
@@ -284,6 +289,7 @@ impl Hub {
                 Snapshot::of(&self.gone),
             ));
             self.connections.take(i);
+            self.core.let_go(i as u64);
         }
     }
 

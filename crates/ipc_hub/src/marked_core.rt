@@ -1,6 +1,6 @@
 //! A core, and the marks of whom it answers.
 
-ghost use Rattle.std.specs.Prelude.{◌≡◌, ◌<◌, ◌≤◌, ◌+◌, ◌++◌, ◌∷◌, [], ℕ, Option, true, false, None, Some, is_some, length, min, slice_set, IfOk, IfSome, IfNone, OnOk, OnErr, if◌then◌else◌};
+ghost use Rattle.std.specs.Prelude.{◌≡◌, ◌==◌, ◌≤◌, ◌+◌, ◌++◌, ◌∷◌, [], ℕ, Option, true, false, None, Some, is_some, length, min, slice_set, IfOk, IfSome, IfNone, OnOk, OnErr, if◌then◌else◌};
 ghost use Rattle.ipc_terms.specs.Lists.{changed};
 ghost use Rattle.ipc_terms.specs.declared.record.Event.TheVariants.{Hello, Hangup};
 ghost use Rattle.ipc_access.specs.Users.{user_of_key};
@@ -30,7 +30,7 @@ impl Model for MarkedCore {
 
     ghost Value = { MarkedView };
 
-    ghost view = { λ m. record { core = m.core; owners = m.marks.owners; marked = m.marks.marked } };
+    ghost view = { λ m. record { core = m.core; owners = m.marks.owners; marked = m.marks.marked; flagged = m.marks.flagged } };
 
     ghost invariant = { λ m. AreOwners m.marks.owners m.core.history };
 }
@@ -61,7 +61,7 @@ fn post_marked(
 impl MarkedCore {
     /// A core that goes on: no session that it has is a connection's, and there is none. Takes no memory.
     pub fn of_core(alloc: Global, core: Core) -> MarkedCore
-        ensures { result ≡ record { core = core; owners = record { before = hellos core.history; list = [] }; marked = [] } }
+        ensures { result ≡ record { core = core; owners = record { before = hellos core.history; list = [] }; marked = []; flagged = [] } }
     {
         let before = core.sessions() as u64;
         MarkedCore {
@@ -79,10 +79,20 @@ impl MarkedCore {
 
     /// One more connection, which has no mark. An `Err` changes nothing.
     pub fn push_connection(&mut self) -> Result<(), NoMemory>
-        ensures ok { OnOk result (self.new ≡ record self.old { marked = self.old.marked ++ false ∷ [] }) }
+        ensures ok { OnOk result (self.new ≡ record self.old { marked = self.old.marked ++ false ∷ []; flagged = self.old.flagged ++ true ∷ [] }) }
         ensures err { OnErr result (self.new ≡ self.old) }
     {
         self.marks.push_connection()
+    }
+
+    /// Keeps no flag of the connection, if it has no mark. It can't fail.
+    pub fn let_go(&mut self, connection: u64)
+        ensures same { self.new ≡ record self.old { flagged = self.new.flagged } }
+        ensures count { length self.new.flagged ≡ length self.old.flagged }
+        ensures others { (j : ℕ) → (j == connection) ≡ false → is_set self.new.flagged j ≡ is_set self.old.flagged j }
+        ensures gone { is_set self.old.marked connection ≡ false → is_set self.new.flagged connection ≡ false }
+    {
+        self.marks.let_go(connection);
     }
 
     /// Steps an event that is no hello and no hang-up. An `Err` changes nothing.
@@ -101,7 +111,7 @@ impl MarkedCore {
     /// Steps the hello of a connection, which brings this key, and gives the session that starts; none where it is
     /// refused. The connection is marked. An `Err` changes nothing.
     pub fn hello(&mut self, alloc: Global, own: u64, key: &Bytes) -> Result<Option<Sid>, NoMemory>
-        requires { own < length self.old.marked }
+        requires { is_set self.old.flagged own ≡ true }
         ensures session { IfOk result (λ session. session ≡ (if is_some (verdict self.old.core.config self.old.core.history (Hello (user_of_key self.old.core.config.users key.now))) then None else Some (record { 0 = hellos self.old.core.history }))) }
         ensures ok { OnOk result (self.new.core ≡ after_step (Hello (user_of_key self.old.core.config.users key.now)) self.old.core) }
         ensures marks { OnOk result (Follows self.old self.new) }

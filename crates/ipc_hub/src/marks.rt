@@ -1,6 +1,6 @@
 //! Which connections were answered since they were last named.
 
-ghost use Rattle.std.specs.Prelude.{◌≡◌, ◌<◌, ◌++◌, ◌∷◌, [], ℕ, true, false, length, slice_set, IfSome, IfNone, OnOk, OnErr};
+ghost use Rattle.std.specs.Prelude.{◌≡◌, ◌==◌, ◌<◌, ◌++◌, ◌∷◌, [], ℕ, true, false, length, slice_set, IfSome, IfNone, OnOk, OnErr};
 ghost use Rattle.std.specs.Option.{option_to_list};
 ghost use Rattle.ipc_hub.specs.Marking.{is_set, owner_of, with_owner, without_newest, without_owner, MarksOwners};
 
@@ -8,6 +8,9 @@ use ipc_numbered::Numbered;
 use ipc_terms::{NoMemory, Sid};
 use std::alloc::Global;
 use std::marker::Model;
+
+/// Room for so many marks stays, however few flags there are.
+const FEW: usize = 64;
 
 /// Whose each session is that is live, and the connections that were answered. Room for a mark is made with the connection, so a
 /// mark takes no memory.
@@ -17,49 +20,84 @@ pub struct Marks {
     before: u64,
     /// The connections of the others that are live, by the sessions' numbers.
     owners: Numbered<u64>,
-    is_marked: Vec<bool>,
+    /// Whether each connection is marked, of those that may be marked, or still are.
+    flags: Numbered<bool>,
+    /// How many flags there are.
+    count: usize,
     /// The connections that are marked, each once.
     list: Vec<u64>,
 }
 
 impl Model for Marks {
-    ghost use Rattle.std.specs.Prelude.{vec_capacity};
-    ghost use Rattle.ipc_hub.specs.Marking.{MarksView, AreMarks};
+    ghost use Rattle.std.specs.Prelude.{map, is_some, vec_capacity};
+    ghost use Rattle.ipc_hub.specs.Marking.{flag_in, MarksView, AreMarks};
 
     ghost Value = { MarksView };
 
-    ghost view = { λ m. record { owners = record { before = m.before; list = m.owners }; marked = m.is_marked.items } };
+    ghost view = { λ m. record { owners = record { before = m.before; list = m.owners }; marked = map flag_in m.flags; flagged = map is_some m.flags } };
 
-    ghost invariant = { λ m. AreMarks (record { before = m.before; list = m.owners }) m.is_marked.items m.list.items (vec_capacity m.list) };
+    ghost invariant = { λ m. AreMarks m.flags m.count m.list.items (vec_capacity m.list) };
 }
 
 impl Marks {
     /// No connection, and so many sessions, of which none has one. Takes no memory.
     pub fn new(alloc: Global, before: u64) -> Marks
-        ensures { result ≡ record { owners = record { before = before; list = [] }; marked = [] } }
+        ensures { result ≡ record { owners = record { before = before; list = [] }; marked = []; flagged = [] } }
     {
         Marks {
             before,
             owners: Numbered::new(alloc),
-            is_marked: Vec::new(alloc),
+            flags: Numbered::new(alloc),
+            count: 0,
             list: Vec::new(alloc),
         }
     }
 
     /// One more connection, which has no mark. An `Err` changes nothing.
     pub fn push_connection(&mut self) -> Result<(), NoMemory>
-        ensures ok { OnOk result (self.new ≡ record self.old { marked = self.old.marked ++ false ∷ [] }) }
+        ensures ok { OnOk result (self.new ≡ record self.old { marked = self.old.marked ++ false ∷ []; flagged = self.old.flagged ++ true ∷ [] }) }
         ensures err { OnErr result (self.new ≡ self.old) }
     {
-        let unlisted = self.is_marked.len() - self.list.len();
-        self.list.reserve(unlisted + 1)?;
-        self.is_marked.push(false)?;
+        let Some(count) = self.count.checked_add(1) else {
+            return Err(NoMemory);
+        };
+        self.list.reserve(count - self.list.len())?;
+        self.flags.push(false)?;
+        self.count = count;
         Ok(())
+    }
+
+    /// Keeps no flag of the connection, if it has no mark. It can't fail.
+    pub fn let_go(&mut self, connection: u64)
+        ensures same { self.new ≡ record self.old { flagged = self.new.flagged } }
+        ensures count { length self.new.flagged ≡ length self.old.flagged }
+        ensures others { (j : ℕ) → (j == connection) ≡ false → is_set self.new.flagged j ≡ is_set self.old.flagged j }
+        ensures gone { is_set self.old.marked connection ≡ false → is_set self.new.flagged connection ≡ false }
+    {
+        let i = connection as usize;
+        let Some(has_mark) = self.flags.get(i) else {
+            return;
+        };
+        if !*has_mark {
+            self.flags.take(i);
+            self.count -= 1;
+            self.give_room_back();
+        }
+    }
+
+    /// Where there is room for over four times as many marks as there are flags, room for twice as many is left. If the smaller
+    /// block is refused, the room stays.
+    fn give_room_back(&mut self)
+        ensures { self.new ≡ self.old }
+    {
+        let wanted = self.count.max(FEW);
+        if self.list.capacity() / 4 > wanted {
+            self.list.shrink_to(2 * wanted);
+        }
     }
 
     /// The next session is this connection's. An `Err` changes nothing.
     pub fn push_session(&mut self, connection: u64) -> Result<(), NoMemory>
-        requires { connection < length self.old.marked }
         ensures ok { OnOk result (self.new ≡ record self.old { owners = with_owner connection self.old.owners }) }
         ensures err { OnErr result (self.new ≡ self.old) }
     {
@@ -82,18 +120,22 @@ impl Marks {
         }
     }
 
-    /// Marks the connection, if there is one. Takes no memory.
+    /// Marks the connection, if its flag is kept. Takes no memory.
     pub fn mark(&mut self, connection: u64)
-        ensures { self.new ≡ record self.old { marked = slice_set self.old.marked connection true } }
+        ensures kept { is_set self.old.flagged connection ≡ true → self.new ≡ record self.old { marked = slice_set self.old.marked connection true } }
+        ensures none { is_set self.old.flagged connection ≡ false → self.new ≡ self.old }
+        ensures within { is_set self.old.flagged connection ≡ true → connection < length self.old.marked }
     {
-        let i = connection as usize;
-        if i < self.is_marked.len() && !self.is_marked[i] {
-            self.is_marked[i] = true;
+        let Some(is_marked) = self.flags.get_mut(connection as usize) else {
+            return;
+        };
+        if !*is_marked {
+            *is_marked = true;
             self.list.push_reserved(connection);
         }
     }
 
-    /// Marks the session's connection, if there is one. Takes no memory.
+    /// Marks the session's connection, if its flag is kept. Takes no memory.
     pub fn mark_session(&mut self, session: Option<Sid>)
         ensures { MarksOwners self.old (option_to_list session) self.new }
     {
@@ -112,7 +154,10 @@ impl Marks {
         ensures same { IfNone result (self.new ≡ self.old) }
     {
         let connection = self.list.pop()?;
-        self.is_marked[connection as usize] = false;
+        let Some(is_marked) = self.flags.get_mut(connection as usize) else {
+            unreachable!();
+        };
+        *is_marked = false;
         Some(connection)
     }
 }

@@ -35,7 +35,7 @@ fn step_request(
     request: Request,
 ) -> Result<Option<Sid>, NoMemory>
     requires order { same (is_hello_request request) (is_none session) ≡ true }
-    requires own { own < length core.old.marked }
+    requires own { is_set core.old.flagged own ≡ true }
     ensures session { IfOk result (λ later. later ≡ (if is_hello_refused core.old.core session (request ∷ []) then None else Some (session_or_next core.old.core session))) }
     ensures ok { OnOk result (core.new.core ≡ after_step (event_of core.old.core (session_or_next core.old.core session) request) core.old.core) }
     ensures marks { OnOk result (Follows core.old core.new) }
@@ -99,7 +99,7 @@ pub fn step_frames<'a>(
     session: &mut Option<Sid>,
     bytes: &'a [u8],
 ) -> (Fed, &'a [u8])
-    requires { own < length core.old.marked }
+    requires { is_set core.old.flagged own ≡ true }
     ensures steps { StepsFrames result.0 core.old.core session.old bytes.now core.new.core session.new result.1.now }
     ensures rest { IsEnd result.1.now bytes.now }
     ensures marks { Ends result.0 own most core.old session.old core.new session.new }

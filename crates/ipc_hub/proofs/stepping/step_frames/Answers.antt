@@ -1,10 +1,11 @@
-use Rattle.std.proofs.Common.{Ok, Some, None, Err, length, sym, ap, ◌∙◌, arith}
+use Rattle.std.proofs.Common.{Ok, Some, None, Err, length, sym, ap, ◌∙◌}
 use Rattle.ipc_wire.proofs.CutLemmas.{front-shorter}
 use Rattle.ipc_wire.proofs.OrderLemmas.{front_stands}
 use Rattle.std.specs.Prelude.{is_none}
 use Rattle.ipc_hub.proofs.StepLemmas.{at_front, front_on, left_behind, hello_refused, cut_waits, cut_fails}
 use Rattle.ipc_core.specs.CoreView.{CoreView}
 use Rattle.ipc_hub.specs.Hub.{untaken_of}
+use Rattle.ipc_hub.specs.Marking.{is_set}
 use Rattle.ipc_hub.specs.Stepping.{is_full}
 use Rattle.ipc_hub.proofs.FrameMarks.{request_goes, plain_ends, hung_up_goes, refused_ends}
 use Rattle.ipc_hub.proofs.stepping.step_frames.Goals as goal
@@ -15,7 +16,7 @@ step_request-requires-clause-order c =
     front_stands (is_none c.frames.session) c.frames.rest.now c.in-Ok-Some.request c.in-Ok-Some.behind.now found
 
 pub step_request-requires-clause-own : goal.step_request-requires-clause-own
-step_request-requires-clause-own c = let n = c.frames.invariant.goes.follows.count in let lt = c.requires in omega arith
+step_request-requires-clause-own c = ap (λ bs. is_set bs c.args.own) c.frames.invariant.goes.follows.flagged ∙ c.requires
 
 pub frames-smaller : goal.frames-smaller
 frames-smaller c = front-shorter c.is_none.result c.frames.rest.now c.in-Ok-Some.request c.in-Ok-Some.behind.now (rw c.in-Ok-Some.field-0-is at c.in-Ok-Some.ensures)

@@ -4,6 +4,7 @@ use Rattle.ipc_numbered.specs.Slots.{at}
 use Rattle.ipc_hub.specs.Hub.{Hub, Connection, fault_of_change}
 use Rattle.ipc_hub.specs.Gone.{all_of}
 use Rattle.ipc_hub.specs.Sessions.{Stands}
+use Rattle.ipc_hub.specs.Marking.{is_set}
 use Rattle.ipc_hub.specs.Stepping.{Ends}
 use Rattle.ipc_hub.proofs.HubLemmas.{found_open}
 use Rattle.ipc_hub.proofs.HubMarks.{hub_view, fed_stands}
@@ -50,11 +51,8 @@ feed-requires-clause-open c = still (goal.at.feed-requires-clause-open c).In-Som
 
 pub feed-requires-clause-own : goal.feed-requires-clause-own
 feed-requires-clause-own c =
-    let lt = c.in_ok-i.ensures.ok.1 in
-    let is = c.in_ok-i.ensures.ok.0 in
-    let same = ap (λ (h : Hub). length h.connections) c.self.view_is in
-    let count = c.self.invariant.0.count in
-    omega arith
+    let here = (goal.at.feed-requires-clause-own c).In-Some in
+    ap (is_set c.self.inside.core.flagged) (sym c.in_ok-i.ensures.ok.0) ∙ c.self.invariant.0.flagged c.in_ok-i.i c.in-Some.connection.now (there here) (still here)
 
 pub invariant_of-self : goal.invariant_of-self
 invariant_of-self c =

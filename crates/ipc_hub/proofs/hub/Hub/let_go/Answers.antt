@@ -3,9 +3,10 @@ use Rattle.std.specs.Prelude.{unwrap_or}
 use Rattle.std.specs.Option.{option_copied, option_map}
 use Rattle.ipc_numbered.specs.Slots.{at}
 use Rattle.ipc_hub.specs.Hub.{Hub, Connection, IsGone, is_over_at}
-use Rattle.ipc_hub.specs.Gone.{all_of, gone_at}
+use Rattle.ipc_hub.specs.Gone.{all_of, gone_at, AreAway}
+use Rattle.ipc_hub.specs.MarkedCore.{MarkedView}
 use Rattle.ipc_hub.specs.Sessions.{Stands}
-use Rattle.ipc_hub.proofs.HubMarks.{hub_view}
+use Rattle.ipc_hub.proofs.HubMarks.{hub_view, let_go_stands}
 use Rattle.ipc_hub.proofs.KeptLemmas.{kept_there, kept_taken, let_go_away, away_of}
 use Rattle.ipc_hub.proofs.hub.Hub.let_go.Goals as goal
 use Rattle.ipc_hub.proofs.hub.Hub.let_go.Goals.{Joined-take}
@@ -27,9 +28,9 @@ invariant_of-self c =
     let over : x.is_over ≡ true = sym c.is_over.ensures ∙ c.if-is_over.true in
     let gone = subst (λ (h : Hub). is_over_at h c.args.i ≡ true → IsGone h c.args.i) (sym c.self.view_is) c.requires in
     let away = away_of (hub_view c.self.inside.core (all_of c.self.inside.connections c.self.inside.gone.value)) c.args.i x there over (let none = c.if-kept-eq0.true in let k = c.kept.ensures in omega arith) (gone (ap (λ (o : Option Connection). unwrap_or (option_map (λ (y : Connection). y.is_over) o) false) there ∙ over)) in (
-      subst (λ (xs : List Connection). Stands c.self.inside.core xs) (sym (same here)) c.self.invariant.0,
-      rw c.take.ensures.rest (let_go_away c.self.inside.core.core c.self.inside.connections c.of-then-kept-eq0-3.result.value c.self.inside.gone.value c.args.i x (named here) away c.self.invariant.1),
+      subst (λ (xs : List Connection). Stands c.let_go.new.self xs) (sym (same here)) (let_go_stands c.self.inside.core c.let_go.new.self (all_of c.self.inside.connections c.self.inside.gone.value) c.args.i x c.self.invariant.0 there over c.let_go.ensures.same c.let_go.ensures.count c.let_go.ensures.others),
+      subst (λ (m : MarkedView). AreAway m.core c.take.new.self c.of-then-kept-eq0-3.result.value) (sym c.let_go.ensures.same) (rw c.take.ensures.rest (let_go_away c.self.inside.core.core c.self.inside.connections c.of-then-kept-eq0-3.result.value c.self.inside.gone.value c.args.i x (named here) away c.self.invariant.1)),
     )
 
 pub returns-then-kept-eq0 : goal.returns-then-kept-eq0
-returns-then-kept-eq0 c = ap (λ (xs : List Connection). hub_view c.self.inside.core xs) (same (goal.at.returns-then-kept-eq0 c).Joined-take) ∙ c.self.view_is
+returns-then-kept-eq0 c = ap (λ (m : MarkedView). hub_view m (all_of c.take.new.self c.of-then-kept-eq0-3.result.value)) c.let_go.ensures.same ∙ ap (λ (xs : List Connection). hub_view c.self.inside.core xs) (same (goal.at.returns-then-kept-eq0 c).Joined-take) ∙ c.self.view_is

@@ -1,4 +1,4 @@
-use Rattle.std.proofs.Common.{Some, None, cond, is_some, refl, sym, ap, ◌∙◌}
+use Rattle.std.proofs.Common.{◌≡◌, Some, None, true, cond, is_some, refl, sym, ap, ◌∙◌}
 use Rattle.ipc_terms.specs.declared.record.Event.TheVariants.{Hello}
 use Rattle.ipc_access.specs.Users.{user_of_key}
 use Rattle.ipc_policy.specs.declared.config.Config.{Config}
@@ -13,7 +13,9 @@ use Rattle.ipc_hub.proofs.marked_core.MarkedCore.hello.Goals as goal
 use Rattle.ipc_hub.proofs.marked_core.MarkedCore.hello.Goals.{After-mark}
 
 goes : (c : After-mark) → AtHello c.args.self.now c.args.own c.self.inside.core c.post_marked.new.core c.self.inside.marks c.push_session.new.self c.post_marked.new.marks c.mark.new.self
-goes c = record { seen = c.self.view_is; pushed = c.in_ok-push_session.ensures.ok; answered = c.in-Ok.ensures.marks; marked = c.mark.ensures; within = c.requires }
+goes c = record { seen = c.self.view_is; pushed = c.in_ok-push_session.ensures.ok; answered = c.in-Ok.ensures.marks; marked = c.mark.ensures.kept may; within = c.mark.ensures.within may } where
+  may : is_set c.post_marked.new.marks.flagged c.args.own ≡ true
+  may = ap (λ (m : MarksView). is_set m.flagged c.args.own) c.in-Ok.ensures.marks.same ∙ ap (λ (m : MarksView). is_set m.flagged c.args.own) c.in_ok-push_session.ensures.ok ∙ ap (λ (m : MarkedView). is_set m.flagged c.args.own) c.self.view_is ∙ c.requires
 
 pub invariant_of-self-then-is_some : goal.invariant_of-self-then-is_some
 invariant_of-self-then-is_some c =
