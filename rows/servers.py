@@ -27,6 +27,8 @@ USERS = TOP / "rows" / "mqserve" / "two.users"
 SECONDS = 60
 SECONDS_OF_AN_ANSWER = 4
 LITTLE_MEMORY, FEW_CALLS = 64 << 20, 100_000
+# What a full server keeps, and how many semaphores it has room for at least.
+FULL_MEMORY, KEPT_MESSAGES, FEW_SEMAPHORES, AT_A_TIME = 32 << 20, 8, 10_000, 64
 # More than little memory has room for, if all are kept.
 MANY_CALLS, FEW_RECORDS = 2_000_000, 1_000
 MANY = 200
@@ -35,8 +37,8 @@ MUCH, MANY_REFUSED = 300_000, 40
 # As /proc/net/tcp has them.
 KEEPALIVE, MINUTE = 2, 6_000
 
-HELLO, UMASK, SEM_OPEN, STARTED, MASK = 1, 2, 11, 65, 68
-MQ_OPEN, MQ_SEND, MQ_TIMED_RECEIVE = 3, 6, 27
+HELLO, UMASK, SEM_OPEN, SEM_CLOSE, STARTED, DONE, MASK = 1, 2, 11, 12, 65, 66, 68
+MQ_OPEN, MQ_SEND, MQ_RECEIVE, MQ_TIMED_RECEIVE = 3, 6, 7, 27
 OPENED, SENT, RECEIVED, REFUSED = 67, 70, 71, 76
 BAD_KEY, TIMED_OUT = 31, 32
 ONE_THREAD = ["--one-thread"]
@@ -307,6 +309,56 @@ def keeps_the_newest(programs, address, *words):
         if not found or not 0 <= int(found[1]) - (MANY_CALLS - FEW_RECORDS) <= 3:
             raise Wrong(f"the audit begins at {shown!r}")
         ends(server, 2)
+
+
+def goes_on_when_full(programs, address, *words):
+    """Who creates semaphores until there is no memory for more is hung up, and so is the next who does. What others have stays,
+    and they are served."""
+    with serving(programs, address, *words, memory=FULL_MEMORY) as server, contextlib.ExitStack() as stack:
+        keeper, waiting = [stack.enter_context(connect(address)) for _ in range(2)]
+        for stream in (keeper, waiting):
+            stream.sendall(frame(HELLO, b"\0\4r00t") + frame(MQ_OPEN, b"\0\5/kept\3\1\1\x80\0"))
+            is_answer(stream, STARTED)
+            is_answer(stream, OPENED)
+        for number in range(KEPT_MESSAGES):
+            keeper.sendall(frame(MQ_SEND, struct.pack(">QI", 0, 0) + b"%d" % number))
+            is_answer(keeper, SENT)
+        first, second = [create_without_end(address, letter) for letter in (b"a", b"b")]
+        if first < FEW_SEMAPHORES or second >= FEW_SEMAPHORES:
+            raise Wrong(f"{first} and {second} semaphores were created in {FULL_MEMORY} bytes of memory")
+        for number in range(KEPT_MESSAGES):
+            keeper.sendall(frame(MQ_RECEIVE, struct.pack(">QI", 0, 8192)))
+            is_same("message", is_answer(keeper, RECEIVED), bytes(4) + b"%d" % number)
+        waiting.sendall(frame(MQ_RECEIVE, struct.pack(">QI", 1, 8192)))
+        is_silent("a receive from an empty queue", waiting)
+        keeper.sendall(frame(MQ_SEND, struct.pack(">QI", 0, 7) + b"on"))
+        is_answer(keeper, SENT)
+        is_same("message", is_answer(waiting, RECEIVED), struct.pack(">I", 7) + b"on")
+        is_same("unlinked", told(programs, address, "r00t", "sem-unlink", name_of(b"a", 0).decode()), b"done\n")
+        is_same("whether it has ended", server.poll(), None)
+
+
+def name_of(letter, number):
+    return b"/%s%0199d" % (letter, number)
+
+
+def create_without_end(address, letter):
+    """Creates semaphores, and closes each, until the server answers no more. Returns how many it created."""
+    created = 0
+    with connect(address) as stream:
+        stream.sendall(frame(HELLO, b"\0\3ka1"))
+        is_answer(stream, STARTED)
+        with contextlib.suppress(OSError, Wrong):
+            while True:
+                names = [name_of(letter, number) for number in range(created, created + AT_A_TIME)]
+                fields = [struct.pack(">H", len(name)) + name + b"\1\1\x80" + bytes(4) for name in names]
+                stream.sendall(b"".join(frame(SEM_OPEN, field) for field in fields))
+                descs = [is_answer(stream, OPENED) for _ in names]
+                created += AT_A_TIME
+                stream.sendall(b"".join(frame(SEM_CLOSE, desc) for desc in descs))
+                for _ in descs:
+                    is_answer(stream, DONE)
+    return created
 
 
 def call_without_end(address):
@@ -599,6 +651,7 @@ ANYWHERE = {
     "no memory": (without_memory, {"one thread": ONE_THREAD}),
     "a stream in two parts": (in_two_parts, {"workers": ["--workers", "2"], "one thread": ONE_THREAD}),
     "few records are kept": (keeps_the_newest, FEW_KEPT),
+    "semaphores without end": (goes_on_when_full, {"one thread": [*ONE_THREAD, "--keep-records", str(FEW_RECORDS)]}),
     "a log at the end of a file": (log, KINDS),
     "a log in a FIFO": (log_in_a_fifo, KINDS),
     "much behind a bad key": (much_behind, {"one thread": ONE_THREAD}),
