@@ -3,8 +3,8 @@
 
 `bench/memory.py [--millions N ..] [--sessions N] [WORDS]` starts the built server with WORDS, as `--keep-all`, at a Unix socket. One
 session makes calls in pieces: it sends and receives 64 bytes, opens, unlinks and closes a queue, and is refused, beside 1,000 messages
-that stay. Behind each piece others come and go, `--sessions` of them for a million calls. Prints the resident memory in MiB after each
-number of millions of calls.
+that stay, and behind each piece it waits for an empty queue until a moment. Then others come and go, `--sessions` of them for a million
+calls: of four one has an unknown key, and three wait so too. Prints the resident memory in MiB after each number of millions of calls.
 """
 
 import argparse
@@ -14,13 +14,16 @@ import struct
 import subprocess
 import sys
 import tempfile
+import time
 
 HERE = pathlib.Path(__file__).resolve().parent
 PROGRAM = HERE.parent / "crates" / "mqserve" / "out" / "mqserve"
 USERS = "ann:ka1:1000:1000::\n"
 
-HELLO, UMASK, MQ_OPEN, MQ_CLOSE, MQ_UNLINK, MQ_SEND, MQ_RECEIVE = 1, 2, 3, 4, 5, 6, 7
-STARTED, OPENED, SENT = 65, 67, 70
+HELLO, UMASK, MQ_OPEN, MQ_CLOSE, MQ_UNLINK, MQ_SEND, MQ_RECEIVE, MQ_TIMED_RECEIVE = 1, 2, 3, 4, 5, 6, 7, 27
+STARTED, DONE, OPENED, MASK, SENT, RECEIVED, REFUSED = 65, 66, 67, 68, 70, 71, 76
+ANSWERS = [SENT, RECEIVED, OPENED, DONE, DONE, REFUSED, MASK]
+TIMED_OUT = 32
 BOTH, CREATE = 3, 1
 STANDING, LIVES, CALLS_OF_A_LIFE = 1_000, 2_000, 7
 
@@ -36,36 +39,46 @@ def text(data):
 class Client:
     """A session over a Unix socket."""
 
-    def __init__(self, path):
+    def __init__(self, path, key=b"ka1", answer=STARTED):
         self.stream = socket.socket(socket.AF_UNIX)
         self.stream.settimeout(60)
         self.stream.connect(path)
         self.kept = b""
-        self.call(frame(HELLO, text(b"ka1")), STARTED)
+        self.call(frame(HELLO, text(key)), answer)
+
+    def wait(self, desc):
+        """Waits for a message of an empty queue until a millisecond from now."""
+        moment = time.time_ns() // 1_000_000 + 1
+        refused = self.call(frame(MQ_TIMED_RECEIVE, struct.pack(">QIQ", desc, 64, moment)), REFUSED)
+        if refused != TIMED_OUT:
+            sys.exit(f"refused by rule {refused}")
 
     def answers(self, count):
-        """The opcodes of so many answers."""
-        opcodes = []
-        while len(opcodes) < count:
+        """The opcode of each of so many answers, and the number in its fields."""
+        found = []
+        while len(found) < count:
             at, data = 0, self.kept
-            while len(opcodes) < count and at + 4 <= len(data):
+            while len(found) < count and at + 4 <= len(data):
                 size = int.from_bytes(data[at : at + 4], "big")
                 if at + 4 + size > len(data):
                     break
-                opcodes.append(data[at + 4])
+                found.append((data[at + 4], int.from_bytes(data[at + 5 : at + 4 + min(size, 9)], "big")))
                 at += 4 + size
             self.kept = data[at:]
-            if len(opcodes) < count:
+            if len(found) < count:
                 more = self.stream.recv(1 << 20)
                 if not more:
                     sys.exit("the server hung up")
                 self.kept += more
-        return opcodes
+        return found
 
     def call(self, request, opcode):
+        """Makes a call that has this answer, and returns the number in it."""
         self.stream.sendall(request)
-        if self.answers(1) != [opcode]:
-            sys.exit(f"no answer {opcode}")
+        [(found, number)] = self.answers(1)
+        if found != opcode:
+            sys.exit(f"answer {found}, and not {opcode}")
+        return number
 
 
 def opening(name, room):
@@ -87,26 +100,48 @@ def life(desc):
     )
 
 
+def expected(answers, desc):
+    """Each life was answered as it must be: sent, received, opened, unlinked, closed, refused, and told its mask."""
+    opcodes = [opcode for opcode, _ in answers]
+    opened = [number for opcode, number in answers if opcode == OPENED]
+    if opcodes != ANSWERS * LIVES or opened != list(range(desc, desc + LIVES)):
+        sys.exit("a life was answered otherwise")
+
+
 def resident(process):
     """Its resident memory in MiB."""
     with open(f"/proc/{process.pid}/statm", encoding="ascii") as file:
         return int(file.read().split()[1]) * 4096 / (1 << 20)
 
 
+def visit(path, number):
+    """A session that comes and goes. Returns how many descriptions it opened."""
+    is_known = number % 4 != 0
+    if is_known:
+        client = Client(path)
+        client.wait(client.call(opening(b"/empty", 1), OPENED))
+    else:
+        client = Client(path, b"unknown", REFUSED)
+    client.stream.close()
+    return int(is_known)
+
+
 def measured(path, server, millions, sessions):
     """Lives, and prints after each of these numbers of millions of calls."""
     client, calls, come = Client(path), 0, 0
     client.call(opening(b"/q", STANDING + 1), OPENED)
+    client.call(opening(b"/empty", 1), OPENED)
     for _ in range(STANDING):
         client.call(frame(MQ_SEND, struct.pack(">QI", 0, 0) + bytes(64)), SENT)
-    desc = 1
+    desc = 2
     for goal in millions:
         while calls < goal * 1_000_000:
             client.stream.sendall(b"".join(life(desc + number) for number in range(LIVES)))
-            client.answers(LIVES * CALLS_OF_A_LIFE)
+            expected(client.answers(LIVES * CALLS_OF_A_LIFE), desc)
             desc, calls = desc + LIVES, calls + LIVES * CALLS_OF_A_LIFE
+            client.wait(1)
             while come < calls * sessions // 1_000_000:
-                Client(path).stream.close()
+                desc += visit(path, come)
                 come += 1
         print(f"{goal} million calls, {come} sessions: {resident(server):.1f} MiB", flush=True)
 
