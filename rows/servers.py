@@ -48,6 +48,10 @@ class Wrong(Exception):
     """A server does other than it must."""
 
 
+class HungUp(Wrong):
+    """The stream ends where an answer must come."""
+
+
 class Programs:
     """The command of each program."""
 
@@ -155,7 +159,7 @@ def exactly(stream, size):
     while len(data) < size:
         piece = stream.recv(size - len(data))
         if not piece:
-            raise Wrong("the server hung up")
+            raise HungUp("the server hung up")
         data += piece
     return data
 
@@ -343,12 +347,12 @@ def name_of(letter, number):
 
 
 def create_without_end(address, letter):
-    """Creates semaphores, and closes each, until the server answers no more. Returns how many it created."""
+    """Creates semaphores, and closes each, until the server hangs up. Returns how many it created."""
     created = 0
     with connect(address) as stream:
         stream.sendall(frame(HELLO, b"\0\3ka1"))
         is_answer(stream, STARTED)
-        with contextlib.suppress(OSError, Wrong):
+        with contextlib.suppress(ConnectionError, HungUp):
             while True:
                 names = [name_of(letter, number) for number in range(created, created + AT_A_TIME)]
                 fields = [struct.pack(">H", len(name)) + name + b"\1\1\x80" + bytes(4) for name in names]
@@ -367,7 +371,7 @@ def call_without_end(address):
     with connect(address) as stream:
         stream.sendall(frame(HELLO, b"\0\3ka1"))
         is_answer(stream, STARTED)
-        with contextlib.suppress(OSError, Wrong):
+        with contextlib.suppress(ConnectionError, HungUp):
             while True:
                 stream.sendall(frame(UMASK, b"\0\0") * many)
                 exactly(stream, len(frame(MASK, b"\0\0")) * many)
