@@ -1,13 +1,12 @@
 -- How the tables of a directory stand for its bindings.
 use Rattle.std.specs.Prelude.{◌≡◌, Bool, ℕ, ◌==◌, List, map, count_by}
 use Rattle.std.specs.BTreeMap.{BTreeMap}
-use Rattle.std.specs.declared.vec.Vec.{Vec}
 use Rattle.ipc_terms.specs.Counting.{count_of}
 use Rattle.ipc_terms.specs.declared.binding.Binding.{Binding}
 
 -- the bindings, from the entries of the map that leads from a name to its object
-abbrev pub bindings_of : {Z : Type 0} → List (Vec ℕ Z × ℕ) → List Binding
-bindings_of entries = map (λ entry. record { name = entry.0.items; object = entry.1 }) entries
+abbrev pub bindings_of : List (List ℕ × ℕ) → List Binding
+bindings_of entries = map (λ entry. record { name = entry.0; object = entry.1 }) entries
 
 -- whether the binding is of object o
 abbrev pub is_to : ℕ → Binding → Bool

@@ -4,6 +4,7 @@ ghost use Rattle.std.specs.Prelude.{◌≡◌, [], ◌∷◌, ◌++◌, None, On
 ghost use Rattle.ipc_terms.specs.Pages.{page};
 ghost use Rattle.ipc_names.specs.Directory.{first_directory, object_named, without_name, names_object, bound_names};
 
+use crate::hashing::NameHashing;
 use crate::listing;
 use indexmap::IndexMap;
 use ipc_access::DirFacts;
@@ -17,7 +18,7 @@ use std::marker::Model;
 #[derive(Drop)]
 pub struct NameDir {
     family: Family,
-    objects: IndexMap<Vec<u8>, u64>,
+    objects: IndexMap<Name, u64, NameHashing>,
     counts: BTreeMap<u64, usize>,
     facts: DirFacts,
 }
@@ -35,13 +36,13 @@ impl Model for NameDir {
 
 impl NameDir {
     /// A directory without names, of user 0, group 0 and mode octal 1777: anyone may make a name,
-    /// and only user 0 and the owner of its object may remove it. Takes no memory.
-    pub fn new(alloc: Global, family: Family) -> Self
+    /// and only user 0 and the owner of its object may remove it. Its names will be hashed so. Takes no memory.
+    pub fn new(alloc: Global, family: Family, hashing: NameHashing) -> Self
         ensures { result ≡ first_directory family }
     {
         NameDir {
             family,
-            objects: IndexMap::new(alloc),
+            objects: IndexMap::with_hasher(alloc, hashing),
             counts: BTreeMap::new(alloc),
             facts: DirFacts {
                 owner: Uid(0),
@@ -61,7 +62,7 @@ impl NameDir {
     pub fn get(&self, name: &Name) -> Option<u64>
         ensures { result ≡ object_named self.now.bindings name.now }
     {
-        self.objects.get(name.as_slice()).copied()
+        self.objects.get(name).copied()
     }
 
     /// Whether a name is bound to the object. An object that has none may live on: it is open
@@ -79,12 +80,11 @@ impl NameDir {
         ensures ok { OnOk result (self.new ≡ record self.old { bindings = self.old.bindings ++ record { name = name; object = object } ∷ [] }) }
         ensures err { OnErr result (self.new ≡ self.old) }
     {
-        let key = Vec::from_slice(*self.objects.allocator(), name.as_slice())?;
         // The length is what says that a name more can be counted.
         let _names = self.objects.len();
         self.objects.reserve(1)?;
         counts::raise(&mut self.counts, object)?;
-        self.objects.insert(key, object).unwrap();
+        self.objects.insert(name, object).unwrap();
         Ok(())
     }
 
@@ -94,7 +94,7 @@ impl NameDir {
         ensures object { result ≡ object_named self.old.bindings name.now }
         ensures rest { self.new ≡ record self.old { bindings = without_name self.old.bindings name.now } }
     {
-        let object = self.objects.shift_remove(name.as_slice())?;
+        let object = self.objects.shift_remove(name)?;
         counts::lower(&mut self.counts, object);
         Some(object)
     }

@@ -3,7 +3,9 @@
 
 mod directory;
 mod form;
+mod hashing;
 mod listing;
 
 pub use directory::NameDir;
 pub use form::{check, has_form, is_long};
+pub use hashing::NameHashing;

@@ -1,17 +1,17 @@
 //! Names in a row.
 
-ghost use Rattle.std.specs.Prelude.{◌≡◌, map, IfOk};
+ghost use Rattle.std.specs.Prelude.{◌≡◌, IfOk};
 
-use ipc_terms::{Bytes, Name, NoMemory};
+use ipc_terms::{Name, NoMemory};
 use std::alloc::Global;
 
-/// These names, copied.
-pub(crate) fn names_of(alloc: Global, keys: &[Vec<u8>]) -> Result<Vec<Name>, NoMemory>
-    ensures { IfOk result (λ names. names.items ≡ map (λ key. key.items) keys.now) }
+/// These names, which share their bytes.
+pub(crate) fn names_of(alloc: Global, keys: &[Name]) -> Result<Vec<Name>, NoMemory>
+    ensures { IfOk result (λ names. names.items ≡ keys.now) }
 {
     let mut names = Vec::with_capacity(alloc, keys.len())?;
     for key in keys {
-        names.push(Name::new(Bytes::from_slice(alloc, key)?))?;
+        names.push(key.clone()?)?;
     }
     Ok(names)
 }

@@ -18,7 +18,7 @@ use crate::rows::{Body, ObjectRow, Session};
 use crate::sessions::Sessions;
 use ipc_access::Users;
 use ipc_descr::{Charges, Descrs};
-use ipc_names::NameDir;
+use ipc_names::{NameDir, NameHashing};
 use ipc_numbered::NumberedBoxes;
 use ipc_queue::{Queue, ReceiveOutcome, SendOutcome};
 use ipc_sem::{Sem, WaitOutcome};
@@ -70,10 +70,11 @@ impl Tables {
         ensures { IfOk result (λ tables. tables ≡ first_tables users.now) }
     {
         let charges = Charges::new(alloc, users)?;
+        let hashing = NameHashing::of(users);
         Ok(Tables {
             sessions: Sessions::new(alloc),
-            queues: NameDir::new(alloc, Family::Mq),
-            semaphores: NameDir::new(alloc, Family::Sem),
+            queues: NameDir::new(alloc, Family::Mq, hashing),
+            semaphores: NameDir::new(alloc, Family::Sem, hashing),
             objects: Objects {
                 rows: NumberedBoxes::new(alloc),
                 queue_count: 0,

@@ -1,6 +1,6 @@
 //! Names.
 
-ghost use Rattle.std.specs.Prelude.{◌≡◌, ◌==◌, ℕ, List};
+ghost use Rattle.std.specs.Prelude.{◌≡◌, ◌==◌, ℕ, List, [], ◌∷◌};
 ghost use Rattle.std.specs.Cmp.Lexicographic.{pointwise};
 ghost use Rattle.std.specs.Cmp.Rules.{comparing};
 ghost use Rattle.std.proofs.Common.{rules};
@@ -9,6 +9,7 @@ ghost use Rattle.ipc_terms.specs.Names.{same_name};
 use crate::bytes::Bytes;
 use crate::items::Items;
 use std::alloc::AllocError;
+use std::hash::{Hash, Hasher};
 use std::marker::Model;
 
 /// The name of an object as a caller gave it, whether or not it has the form of one; seen as the
@@ -70,6 +71,21 @@ impl PartialEq for Name {
 
     fn eq(&self, other: &Name) -> bool {
         self.as_slice() == other.as_slice()
+    }
+}
+
+impl Eq for Name {
+    ghost laws = { Prim.search rules };
+}
+
+// A name's bytes are written at once, which takes a hasher less than one after another.
+impl Hash for Name {
+    ghost hash_input = { λ name. name ∷ [] };
+
+    ghost respects_eq = { Prim.search (comparing, rules) };
+
+    fn hash<H: Hasher>(&self, state: &mut H) {
+        state.write(self.as_slice());
     }
 }
 

@@ -1,7 +1,7 @@
 //! Directories, as tables of steps, and what has the form of a name.
 
 use ipc_access::DirFacts;
-use ipc_names::{NameDir, check, has_form, is_long};
+use ipc_names::{NameDir, NameHashing, check, has_form, is_long};
 use ipc_terms::{Family, Gid, Mode, Name, NoMemory, Rule, Uid};
 use std::alloc::{AllocError, Global};
 use std::test::Fail;
@@ -90,7 +90,7 @@ fn gives(alloc: Global, directory: &mut NameDir, step: &Step) -> Result<bool, No
 
 /// Starts again, and says whether the directory is of the family.
 fn starts(alloc: Global, directory: &mut NameDir, family: Family) -> bool {
-    *directory = NameDir::new(alloc, family);
+    *directory = NameDir::new(alloc, family, NameHashing::new(7));
     directory.family() == family
 }
 
@@ -153,7 +153,7 @@ static STEPS: [Step; 41] = [
 
 #[test]
 fn worked_directories(rt: HostRuntime) -> Result<(), Fail> {
-    let mut directory = NameDir::new(rt.alloc(), Family::Mq);
+    let mut directory = NameDir::new(rt.alloc(), Family::Mq, NameHashing::new(7));
     all_give(rt.alloc(), &mut directory, &STEPS)
 }
 

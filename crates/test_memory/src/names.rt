@@ -3,7 +3,7 @@
 use crate::fault::Fault;
 use crate::made::name;
 use crate::subject::{Fresh, Subject};
-use ipc_names::NameDir;
+use ipc_names::{NameDir, NameHashing};
 use ipc_terms::{Family, Name};
 use std::alloc::Global;
 
@@ -83,6 +83,6 @@ impl Subject for NameDir {
 
 impl Fresh for NameDir {
     fn fresh(alloc: Global) -> Result<NameDir, Fault> {
-        Ok(NameDir::new(alloc, Family::Mq))
+        Ok(NameDir::new(alloc, Family::Mq, NameHashing::new(7)))
     }
 }

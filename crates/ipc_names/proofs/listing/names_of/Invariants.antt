@@ -1,5 +1,5 @@
-use Rattle.std.proofs.Common.{◌≡◌, take, map}
+use Rattle.std.proofs.Common.{◌≡◌, take}
 use Rattle.ipc_names.proofs.listing.names_of.Given as goal
 
 abbrev pub invariant-loop-key : goal.invariant-loop-key
-invariant-loop-key l = l.names.items ≡ map (λ key. key.items) (take l.key-index l.keys)
+invariant-loop-key l = l.names.items ≡ take l.key-index l.keys

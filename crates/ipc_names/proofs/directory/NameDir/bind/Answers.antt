@@ -11,15 +11,13 @@ use Rattle.ipc_names.proofs.directory.NameDir.bind.Goals as goal
 pub raise-requires : goal.raise-requires
 raise-requires c = one_fits c.self.inside.counts c.self.inside.objects.entries c.args.object c.len-names.result c.self.invariant c.len-names.ensures.len c.len-names.ensures.small
 
-done : (c : goal.After-drop-name-inside-2) → bindings_of c.insert.new.self.entries ≡ bindings_of c.self.inside.objects.entries ++ record { name = c.args.name; object = c.args.object } ∷ []
+done : (c : goal.After-unwrap) → bindings_of c.insert.new.self.entries ≡ bindings_of c.self.inside.objects.entries ++ record { name = c.args.name; object = c.args.object } ∷ []
 done c =
-    let key = c.in_ok-key.key in
-    let is = c.in_ok-key.ensures.items ∙ c.as_slice.ensures in
     let same = c.reserve.ensures.entries in
-    let inserted = subst (λ r. OnOk r (c.insert.new.self.entries ≡ insert_entry (λ x y. pointwise nat_eq x.items y.items) c.reserve.new.self.entries key c.args.object)) c.unwrap.ensures c.insert.ensures.entries in
+    let inserted = subst (λ r. OnOk r (c.insert.new.self.entries ≡ insert_entry (λ x y. pointwise nat_eq x y) c.reserve.new.self.entries c.args.name c.args.object)) c.unwrap.ensures c.insert.ensures.entries in
     let none = ap (λ d. object_named d.bindings c.args.name) c.self.view_is ∙ c.requires in
-    let new = insert_entry-new (λ x y. pointwise nat_eq x.items y.items) c.reserve.new.self key c.args.object (absent c.args.name key c.self.inside.objects.entries c.reserve.new.self.entries is same none) in
-    pushed c.args.name key c.args.object c.self.inside.objects.entries c.reserve.new.self.entries c.insert.new.self.entries is same (inserted ∙ new)
+    let new = insert_entry-new (λ x y. pointwise nat_eq x y) c.reserve.new.self c.args.name c.args.object (absent c.args.name c.self.inside.objects.entries c.reserve.new.self.entries same none) in
+    pushed c.args.name c.args.object c.self.inside.objects.entries c.reserve.new.self.entries c.insert.new.self.entries same (inserted ∙ new)
 
 pub invariant_of-self-2 : goal.invariant_of-self-2
 invariant_of-self-2 c = rw (done c) (counts_more c.self.inside.counts c.raise.new.counts (bindings_of c.self.inside.objects.entries) _ c.self.invariant c.in_ok-raise.ensures.ok)
