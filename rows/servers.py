@@ -27,8 +27,9 @@ USERS = TOP / "rows" / "mqserve" / "two.users"
 SECONDS = 60
 SECONDS_OF_AN_ANSWER = 4
 LITTLE_MEMORY, FEW_CALLS = 64 << 20, 100_000
-# What a full server keeps, and how many semaphores it has room for at least.
-FULL_MEMORY, KEPT_MESSAGES, FEW_SEMAPHORES, AT_A_TIME = 32 << 20, 8, 10_000, 64
+# Less memory than as many semaphores take as may have names, and more.
+FULL_MEMORY, ENOUGH_MEMORY, MOST_SEMAPHORES = 32 << 20, 256 << 20, 65_536
+KEPT_MESSAGES, FEW_SEMAPHORES, AT_A_TIME = 8, 10_000, 64
 # More than little memory has room for, if all are kept.
 MANY_CALLS, FEW_RECORDS = 2_000_000, 1_000
 MANY = 200
@@ -317,8 +318,13 @@ def keeps_the_newest(programs, address, *words):
 
 def goes_on_when_full(programs, address, *words):
     """Who creates semaphores until there is no memory for more is hung up, and so is the next who does. What others have stays,
-    and they are served."""
-    with serving(programs, address, *words, memory=FULL_MEMORY) as server, contextlib.ExitStack() as stack:
+    and they are served. So too where there is memory, and as many semaphores have names as may."""
+    for memory in (FULL_MEMORY, ENOUGH_MEMORY):
+        goes_on(programs, address, memory, *words)
+
+
+def goes_on(programs, address, memory, *words):
+    with serving(programs, address, *words, memory=memory) as server, contextlib.ExitStack() as stack:
         keeper, waiting = [stack.enter_context(connect(address)) for _ in range(2)]
         for stream in (keeper, waiting):
             stream.sendall(frame(HELLO, b"\0\4r00t") + frame(MQ_OPEN, b"\0\5/kept\3\1\1\x80\0"))
@@ -328,8 +334,9 @@ def goes_on_when_full(programs, address, *words):
             keeper.sendall(frame(MQ_SEND, struct.pack(">QI", 0, 0) + b"%d" % number))
             is_answer(keeper, SENT)
         first, second = [create_without_end(address, letter) for letter in (b"a", b"b")]
-        if first < FEW_SEMAPHORES or second >= FEW_SEMAPHORES:
-            raise Wrong(f"{first} and {second} semaphores were created in {FULL_MEMORY} bytes of memory")
+        is_bound = first == MOST_SEMAPHORES and second == 0
+        if not is_bound and (memory == ENOUGH_MEMORY or first < FEW_SEMAPHORES or second >= FEW_SEMAPHORES):
+            raise Wrong(f"{first} and {second} semaphores were created in {memory} bytes of memory")
         for number in range(KEPT_MESSAGES):
             keeper.sendall(frame(MQ_RECEIVE, struct.pack(">QI", 0, 8192)))
             is_same("message", is_answer(keeper, RECEIVED), bytes(4) + b"%d" % number)

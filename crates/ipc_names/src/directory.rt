@@ -1,6 +1,6 @@
 //! The directory of a family.
 
-ghost use Rattle.std.specs.Prelude.{◌≡◌, [], ◌∷◌, ◌++◌, None, OnOk, OnErr, IfOk};
+ghost use Rattle.std.specs.Prelude.{◌≡◌, [], ◌∷◌, ◌++◌, None, OnOk, OnErr, IfOk, length};
 ghost use Rattle.ipc_terms.specs.Pages.{page};
 ghost use Rattle.ipc_names.specs.Directory.{first_directory, object_named, without_name, names_object, bound_names};
 
@@ -56,6 +56,13 @@ impl NameDir {
         ensures { result ≡ self.now.family }
     {
         self.family
+    }
+
+    /// How many names are bound.
+    pub fn len(&self) -> usize
+        ensures { result ≡ length self.now.bindings }
+    {
+        self.objects.len()
     }
 
     /// The object to which the name is bound; `None` where it is unbound.

@@ -26,6 +26,10 @@ use ipc_terms::{Access, Bytes, Desc, Facts, Family, Kind, Mode, Name, NoMemory, 
 use std::alloc::Global;
 use std::marker::Model;
 
+/// How many semaphores have names at most. No rule bounds them, and each user may create some; one more finds no memory. Of queues
+/// a limit of the configuration, which is no higher, lets in as many.
+const MOST_NAMED_SEMAPHORES: usize = 65_536;
+
 /// Who opens a description, and what it gives besides the object.
 #[derive(Clone, Copy)]
 pub struct Grant {
@@ -208,10 +212,19 @@ impl Tables {
         ensures err { OnErr result (self.new ≡ self.old) }
     {
         let family = object.kind.family();
+        self.has_room(family)?;
         let number = self.objects.created();
         self.bind(family, name.clone()?, number)?;
         if self.add(alloc, grant, object, facts).is_err() {
             unbind(&mut self.queues, &mut self.semaphores, family, name);
+            return Err(NoMemory);
+        }
+        Ok(())
+    }
+
+    /// Whether one more name of the family may be bound.
+    fn has_room(&self, family: Family) -> Result<(), NoMemory> {
+        if family == Family::Sem && self.semaphores.len() >= MOST_NAMED_SEMAPHORES {
             return Err(NoMemory);
         }
         Ok(())
