@@ -55,6 +55,7 @@ impl<V: Drop> Numbered<V> {
     }
 
     /// How many values there ever were: the number of the next.
+    #[inline(always)]
     pub fn next_number(&self) -> usize
         ensures { result ≡ length self.now }
     {
@@ -62,6 +63,7 @@ impl<V: Drop> Numbered<V> {
     }
 
     /// The value of the number, if it wasn't taken.
+    #[inline(always)]
     pub fn get(&self, number: usize) -> Option<&V>
         ensures { option_copied result ≡ at self.now number }
     {
@@ -162,6 +164,7 @@ impl<V: Drop> Numbered<V> {
     }
 
     /// The value of the number, if it wasn't taken, to be changed.
+    #[inline(always)]
     pub fn get_mut(&mut self, number: usize) -> Option<&mut V>
         ensures* writes_back { sem 𝓛 (LendsSo (the_row V.row) V.row self.entry result (λ after v. OnSome result (after ≡ changed (λ x. Some v) self.old number)) (λ after. after ≡ self.old)) }
         ensures value { option_copied_mut result ≡ at self.old number }

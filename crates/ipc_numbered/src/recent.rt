@@ -51,6 +51,7 @@ impl<V: Drop> Recent<V> {
     }
 
     /// How many slots there are.
+    #[inline(always)]
     pub fn len(&self) -> usize
         ensures count { result ≡ length self.now }
         ensures small { result < 2 ^ 63 }
@@ -66,6 +67,7 @@ impl<V: Drop> Recent<V> {
     }
 
     /// The value in the slot, if there is one.
+    #[inline(always)]
     pub fn get(&self, slot: usize) -> Option<&V>
         ensures { option_copied result ≡ at self.now slot }
     {
@@ -86,6 +88,7 @@ impl<V: Drop> Recent<V> {
     }
 
     /// The value in the slot, if there is one, to be changed.
+    #[inline(always)]
     pub fn get_mut(&mut self, slot: usize) -> Option<&mut V>
         ensures* writes_back { sem 𝓛 (LendsSo (the_row V.row) V.row self.entry result (λ after v. OnSome result (after ≡ changed (λ x. Some v) self.old slot)) (λ after. after ≡ self.old)) }
         ensures value { option_copied_mut result ≡ at self.old slot }
