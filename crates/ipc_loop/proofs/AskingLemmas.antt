@@ -8,12 +8,12 @@ use Rattle.ipc_loop.specs.declared.ending.Ending.{Ending}
 use Rattle.ipc_loop.specs.declared.ending.Ending.TheVariants.{NoMemory}
 use Rattle.ipc_loop.specs.Moves.{Moved, LinkOpened, LinkGave, LinkTook, LinkClosed, NobodyCame, GaveNothing, TookNothing, GoOn, is_asked, is_offered, left_by}
 use Rattle.ipc_loop.specs.Ports.{Port, new_port, port_at, with_port, left_of, unfed_of, is_all, stands_in, KeepsListed}
-use Rattle.ipc_loop.specs.Standing.{TakesOut, IsOut, IsSettled}
+use Rattle.ipc_loop.specs.Standing.{IsListedSo, IsSettled}
 use Rattle.ipc_loop.specs.Serving.{ServesPort, Serves, is_done, has_no_more}
 use Rattle.ipc_loop.specs.Asking.{IsLeft, OffersNothing, how_many_left, has_left, may_be_read, may_be_written, IsServed, IsOffered, IsStillRead, IsStillWritten, TakesTurn, OffersPort, Refuses, Asks, AsksAll}
 use Rattle.ipc_loop.proofs.MoveLemmas.{go_both, go_nowhere, or_or, or_left, or_right}
 use Rattle.ipc_loop.proofs.PassingLemmas.{passes_stop}
-use Rattle.ipc_loop.proofs.PortLemmas.{Slots, slot_set, slot_none, taken_out, stands_both, pushed_port}
+use Rattle.ipc_loop.proofs.PortLemmas.{Slots, slot_set, slot_here, stands_both, pushed_port}
 
 abbrev pub Moves : Type 0
 Moves = Option (List Moved)
@@ -145,19 +145,13 @@ asks_gone k t m m' p p' gone shut a = record { moved = a.moved; went = a.went; l
   at i true is (inr still) = absurd (gone still.0.0 (ap p' (eqb-true k i is) ∙ still.0.1.0) still.0.1.1)
   at i false is (inr still) = inr (still.0, not_either (stands_in i t) (stands_in i (k ∷ [])) (stands_in i (t ++ k ∷ [])) (stands_both i t (k ∷ [])) still.1 (ap (λ (b : Bool). cond b true false) is))
 
--- nor does a link whose port is taken out, or that is still to come
-out_quiet : (k : ℕ) (xs ys : Slots) (test : Port → Bool) → IsOut xs k ys → test new_port ≡ false → (port : Port) → port_at ys k ≡ Some port → test port ≡ true → ⊥
-out_quiet k xs ys test out quiet port e on = at (slice_get ys k) refl e where
-  at : (s : Option (Option Port)) → slice_get ys k ≡ s → unwrap_or s (Some new_port) ≡ Some port → ⊥
+-- nor does a link that is closed, or still to come
+none_quiet : (k : ℕ) (xs : Slots) (test : Port → Bool) → ((port : Port) → slice_get xs k ≡ Some (Some port) → ⊥) → test new_port ≡ false → (port : Port) → port_at xs k ≡ Some port → test port ≡ true → ⊥
+none_quiet k xs test none quiet port e on = at (slice_get xs k) refl e where
+  at : (s : Option (Option Port)) → slice_get xs k ≡ s → unwrap_or s (Some new_port) ≡ Some port → ⊥
   at None is f = let same : new_port ≡ port = cc in let wrong : false ≡ true = sym quiet ∙ ap test same ∙ on in absurd cc
   at (Some None) is f = absurd cc
-  at (Some (Some q)) is f = out.here q is
-
-pub out_unread : (k : ℕ) (xs ys : Slots) → IsOut xs k ys → (port : Port) → port_at ys k ≡ Some port → may_be_read port ≡ true → ⊥
-out_unread k xs ys out port e may = out_quiet k xs ys may_be_read out refl port e may
-
-pub out_unwritten : (k : ℕ) (xs ys : Slots) → IsOut xs k ys → (port : Port) → port_at ys k ≡ Some port → may_be_written port ≡ true → ⊥
-out_unwritten k xs ys out port e may = out_quiet k xs ys may_be_written out refl port e may
+  at (Some (Some q)) is f = none q is
 
 -- the same ports, told in another way
 pub asks_so : (t : List ℕ) (m m' : Moves) (p q p' q' : Ports) → ((i : ℕ) → q i ≡ p i) → ((i : ℕ) → q' i ≡ p' i) → Asks t m m' p p' → Asks t m m' q q'
@@ -334,30 +328,25 @@ done_unwritten h k p done may = at (is_over_at h k) p.left done may where
   at true (Some (b ∷ bytes)) d e = absurd cc
   at false left d e = absurd cc
 
-pub settled_asks : (k : ℕ) (t : List ℕ) (h' h'' : Hub) (m m' m'' : Moves) (p p' : Port) (xs ys : Slots) → slice_get xs k ≡ Some None → Asks t m m' (with_port (port_at xs) k (Some p)) (with_port (port_at xs) k (Some p')) → IsSettled h' m' xs k p' h'' m'' ys → Asks t m m'' (with_port (port_at xs) k (Some p)) (port_at ys)
-settled_asks k t h' h'' m m' m'' p p' xs ys empty asks (inl put) =
-    subst (λ (w : Moves). Asks t m w (with_port (port_at xs) k (Some p)) (port_at ys)) (sym put.1)
-    (asks_so t m m' (with_port (port_at xs) k (Some p)) (with_port (port_at xs) k (Some p)) (with_port (port_at xs) k (Some p')) (port_at ys) (λ i. refl) (λ i. ap (λ (zs : Slots). port_at zs i) put.2 ∙ slot_set (Some new_port) xs k None (Some p') i empty) asks)
-settled_asks k t h' h'' m m' m'' p p' xs ys empty asks (inr gone) =
-    asks_fewer (t ++ []) t m m'' (with_port (port_at xs) k (Some p)) (port_at ys) (λ i on. stands_both i t [] ∙ ap (λ (b : Bool). b || false) on)
-    (asks_both t [] m m' m'' (with_port (port_at xs) k (Some p)) (with_port (port_at xs) k (Some p')) (port_at ys) asks
-    (asks_so [] m' m'' (with_port (port_at xs) k (Some p')) (with_port (port_at xs) k (Some p')) (with_port (port_at xs) k None) (port_at ys) (λ i. refl) (λ i. ap (λ (zs : Slots). port_at zs i) gone.2 ∙ slot_none (Some new_port) xs k i empty) (closed_asks k (unwrap_or p'.ending NoMemory) m' m'' p' (port_at xs) (done_unwritten h' k p' gone.0.done) gone.1)))
+pub settled_asks : (k : ℕ) (t : List ℕ) (h' h'' : Hub) (m m' m'' : Moves) (p p' : Port) (xs ys : Slots) → slice_get xs k ≡ Some (Some p) → Asks t m m' (with_port (port_at xs) k (Some p)) (with_port (port_at xs) k (Some p')) → IsSettled h' m' xs k p' h'' m'' ys → Asks t m m'' (port_at xs) (port_at ys)
+settled_asks k t h' h'' m m' m'' p p' xs ys there asks (inl put) =
+    subst (λ (w : Moves). Asks t m w (port_at xs) (port_at ys)) (sym put.1)
+    (asks_so t m m' (with_port (port_at xs) k (Some p)) (port_at xs) (with_port (port_at xs) k (Some p')) (port_at ys) (λ i. slot_here (Some new_port) xs k (Some p) i there) (λ i. ap (λ (zs : Slots). port_at zs i) put.2 ∙ slot_set (Some new_port) xs k (Some p) (Some p') i there) asks)
+settled_asks k t h' h'' m m' m'' p p' xs ys there asks (inr gone) =
+    asks_fewer (t ++ []) t m m'' (port_at xs) (port_at ys) (λ i on. stands_both i t [] ∙ ap (λ (b : Bool). b || false) on)
+    (asks_both t [] m m' m'' (port_at xs) (with_port (port_at xs) k (Some p')) (port_at ys)
+    (asks_so t m m' (with_port (port_at xs) k (Some p)) (port_at xs) (with_port (port_at xs) k (Some p')) (with_port (port_at xs) k (Some p')) (λ i. slot_here (Some new_port) xs k (Some p) i there) (λ i. refl) asks)
+    (asks_so [] m' m'' (with_port (port_at xs) k (Some p')) (with_port (port_at xs) k (Some p')) (with_port (port_at xs) k None) (port_at ys) (λ i. refl) (λ i. ap (λ (zs : Slots). port_at zs i) gone.2 ∙ slot_set (Some new_port) xs k (Some p) None i there) (closed_asks k (unwrap_or p'.ending NoMemory) m' m'' p' (port_at xs) (done_unwritten h' k p' gone.0.done) gone.1)))
 
-pub settled_refuses : (k : ℕ) (h' h'' : Hub) (m m' m'' : Moves) (p p' : Port) (xs ys : Slots) → slice_get xs k ≡ Some None → Refuses m m' (with_port (port_at xs) k (Some p)) (with_port (port_at xs) k (Some p')) → IsSettled h' m' xs k p' h'' m'' ys → Refuses m m'' (with_port (port_at xs) k (Some p)) (port_at ys)
-settled_refuses k h' h'' m m' m'' p p' xs ys empty refuses (inl put) =
-    subst (λ (w : Moves). Refuses m w (with_port (port_at xs) k (Some p)) (port_at ys)) (sym put.1)
-    (refuses_so m m' (with_port (port_at xs) k (Some p)) (with_port (port_at xs) k (Some p)) (with_port (port_at xs) k (Some p')) (port_at ys) (λ i. refl) (λ i. ap (λ (zs : Slots). port_at zs i) put.2 ∙ slot_set (Some new_port) xs k None (Some p') i empty) refuses)
-settled_refuses k h' h'' m m' m'' p p' xs ys empty refuses (inr gone) =
+pub settled_refuses : (k : ℕ) (h' h'' : Hub) (m m' m'' : Moves) (p p' : Port) (xs ys : Slots) → slice_get xs k ≡ Some (Some p) → Refuses m m' (with_port (port_at xs) k (Some p)) (with_port (port_at xs) k (Some p')) → IsSettled h' m' xs k p' h'' m'' ys → Refuses m m'' (port_at xs) (port_at ys)
+settled_refuses k h' h'' m m' m'' p p' xs ys there refuses (inl put) =
+    subst (λ (w : Moves). Refuses m w (port_at xs) (port_at ys)) (sym put.1)
+    (refuses_so m m' (with_port (port_at xs) k (Some p)) (port_at xs) (with_port (port_at xs) k (Some p')) (port_at ys) (λ i. slot_here (Some new_port) xs k (Some p) i there) (λ i. ap (λ (zs : Slots). port_at zs i) put.2 ∙ slot_set (Some new_port) xs k (Some p) (Some p') i there) refuses)
+settled_refuses k h' h'' m m' m'' p p' xs ys there refuses (inr gone) =
     let closed = closed_asks k (unwrap_or p'.ending NoMemory) m' m'' p' (port_at xs) (done_unwritten h' k p' gone.0.done) gone.1 in
-    refuses_both m m' m'' (with_port (port_at xs) k (Some p)) (with_port (port_at xs) k (Some p')) (port_at ys) refuses
-    (refuses_so m' m'' (with_port (port_at xs) k (Some p')) (with_port (port_at xs) k (Some p')) (with_port (port_at xs) k None) (port_at ys) (λ i. refl) (λ i. ap (λ (zs : Slots). port_at zs i) gone.2 ∙ slot_none (Some new_port) xs k i empty) (record { moved = closed.moved; went = closed.went; left = closed.left }))
-
--- the same, of a port that stood among the others
-pub taken_asks : (k : ℕ) (t : List ℕ) (m m' : Moves) (p : Port) (xs ys zs : Slots) → TakesOut xs k p ys → Asks t m m' (with_port (port_at ys) k (Some p)) (port_at zs) → Asks t m m' (port_at xs) (port_at zs)
-taken_asks k t m m' p xs ys zs out asks = asks_so t m m' (with_port (port_at ys) k (Some p)) (port_at xs) (port_at zs) (port_at zs) (λ i. sym (taken_out (Some new_port) xs ys k p out i)) (λ i. refl) asks
-
-pub taken_refuses : (k : ℕ) (m m' : Moves) (p : Port) (xs ys zs : Slots) → TakesOut xs k p ys → Refuses m m' (with_port (port_at ys) k (Some p)) (port_at zs) → Refuses m m' (port_at xs) (port_at zs)
-taken_refuses k m m' p xs ys zs out refuses = refuses_so m m' (with_port (port_at ys) k (Some p)) (port_at xs) (port_at zs) (port_at zs) (λ i. sym (taken_out (Some new_port) xs ys k p out i)) (λ i. refl) refuses
+    refuses_both m m' m'' (port_at xs) (with_port (port_at xs) k (Some p')) (port_at ys)
+    (refuses_so m m' (with_port (port_at xs) k (Some p)) (port_at xs) (with_port (port_at xs) k (Some p')) (with_port (port_at xs) k (Some p')) (λ i. slot_here (Some new_port) xs k (Some p) i there) (λ i. refl) refuses)
+    (refuses_so m' m'' (with_port (port_at xs) k (Some p')) (with_port (port_at xs) k (Some p')) (with_port (port_at xs) k None) (port_at ys) (λ i. refl) (λ i. ap (λ (zs : Slots). port_at zs i) gone.2 ∙ slot_set (Some new_port) xs k (Some p) None i there) (record { moved = closed.moved; went = closed.went; left = closed.left }))
 
 -- ---- lists of who gets a turn
 
@@ -367,8 +356,16 @@ listed_same xs ys same i on = ap (λ (zs : List ℕ). stands_in i zs) same ∙ o
 pub listed_more : (xs ys : List ℕ) (n : ℕ) → ys ≡ xs ++ n ∷ [] → KeepsListed xs ys
 listed_more xs ys n more i on = ap (λ (zs : List ℕ). stands_in i zs) more ∙ stands_both i xs (n ∷ []) ∙ ap (λ (b : Bool). b || stands_in i (n ∷ [])) on
 
+pub listed_so : (k : ℕ) (was is : Bool) (xs ys : List ℕ) → IsListedSo k was xs is ys → KeepsListed xs ys
+listed_so k was is xs ys (inl same) = listed_same xs ys same.1
+listed_so k was is xs ys (inr more) = listed_more xs ys k more.2
+
 pub listed_both : (xs ys zs : List ℕ) → KeepsListed xs ys → KeepsListed ys zs → KeepsListed xs zs
 listed_both xs ys zs a b i on = b i (a i on)
+
+-- number k, whose link has no port, had its turn
+pub none_asks : (k : ℕ) (m : Moves) (xs : Slots) → ((port : Port) → slice_get xs k ≡ Some (Some port) → ⊥) → Asks (k ∷ []) m m (port_at xs) (port_at xs)
+none_asks k m xs none = asks_gone k [] m m (port_at xs) (port_at xs) (none_quiet k xs may_be_read none refl) (none_quiet k xs may_be_written none refl) (asked_nothing m (port_at xs))
 
 -- ---- accepting
 
@@ -429,9 +426,3 @@ noted_may p p' more writable ended is may = ap may_be_read is ∙ noted (is_none
 
 pub noted_write : (p p' : Port) (more writable ended : Bool) → p' ≡ record p { may_read = p.may_read || more || ended; may_write = p.may_write || writable } → p.may_write ≡ true → p'.may_write ≡ true
 noted_write p p' more writable ended is on = ap (λ (q : Port). q.may_write) is ∙ ap (λ (b : Bool). b || writable) on
-
-pub noted_left : (p p' q : Port) (more writable ended : Bool) → p' ≡ record p { may_read = p.may_read || more || ended; may_write = p.may_write || writable } → p ≡ q → p'.left ≡ q.left
-noted_left p p' q more writable ended is was = ap (λ (x : Port). x.left) is ∙ ap (λ (x : Port). x.left) was
-
-pub noted_unfed : (p p' q : Port) (more writable ended : Bool) → p' ≡ record p { may_read = p.may_read || more || ended; may_write = p.may_write || writable } → p ≡ q → unfed_of (Some p') ≡ unfed_of (Some q)
-noted_unfed p p' q more writable ended is was = ap (λ (x : Port). unfed_of (Some x)) is ∙ ap (λ (x : Port). unfed_of (Some x)) was

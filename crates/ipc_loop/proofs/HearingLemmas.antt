@@ -1,5 +1,5 @@
 -- What comes of what a host tells.
-use Rattle.std.proofs.Common.{◌≡◌, ◌⊎◌, inl, inr, ℕ, Bool, true, false, not, ◌||◌, ◌&&◌, eqb, cond, List, [], ◌∷◌, ◌++◌, slice_get, Option, Some, None, refl, sym, ap, subst, ◌∙◌, append_assoc}
+use Rattle.std.proofs.Common.{◌≡◌, ◌⊎◌, inl, inr, ℕ, Bool, true, false, not, ◌||◌, ◌&&◌, eqb, cond, List, [], ◌∷◌, ◌++◌, set, slice_get, Option, Some, None, refl, sym, ap, subst, ◌∙◌, append_assoc}
 use Rattle.std.specs.Prelude.{is_none, unwrap_or}
 use Rattle.std.proofs.lemmas.Bool.{eqb-true}
 use Rattle.std.proofs.lemmas.List.{append-nil}
@@ -12,12 +12,12 @@ use Rattle.ipc_loop.specs.declared.accepting.Bounds.{Bounds}
 use Rattle.ipc_loop.specs.Moves.{Moved, GoOn, is_offered}
 use Rattle.ipc_loop.specs.Ports.{Port, new_port, port_at, unfed_of, is_all, has_work, has_work_left, stands_in, OnlyCloses}
 use Rattle.ipc_loop.specs.Serving.{is_done}
-use Rattle.ipc_loop.specs.Standing.{TakesOut, IsOut, IsSettled, EachIsQueued}
+use Rattle.ipc_loop.specs.Standing.{IsSettled, EachIsQueued}
 use Rattle.ipc_loop.specs.Asking.{has_left, how_many_left, may_be_read, may_be_written, IsServed, IsOffered, IsStillRead, IsStillWritten, Asks, Refuses}
 use Rattle.ipc_loop.specs.Listening.{Listens}
 use Rattle.ipc_loop.specs.Hearing.{is_listener, can_be_read, can_be_written, tells, TellsAlso, noted, noted_all, NotesAll, Hears, HearsAll}
 use Rattle.ipc_loop.proofs.MoveLemmas.{go_both, or_or}
-use Rattle.ipc_loop.proofs.PortLemmas.{Slots, get_set, empty_slot}
+use Rattle.ipc_loop.proofs.PortLemmas.{Slots, slot_now, slot_other}
 use Rattle.ipc_loop.proofs.AskingLemmas.{done_unwritten, served_first, served_second, offered_first, offered_second}
 
 abbrev pub Told : Type 0
@@ -119,15 +119,12 @@ notes_both a b xs ys zs closed x y i port e = at (x i port e) where
 pub notes_listener : (xs ys : Slots) → ys ≡ xs → NotesAll (ready.Listener ∷ []) xs ys
 notes_listener xs ys same i port e = inl (ap (λ (zs : Slots). slice_get zs i) same ∙ e ∙ ap (λ (p : Port). Some (Some p)) (sym (noted_same i ready.Listener port refl refl)))
 
--- a link is told of whose port isn't there
-pub notes_out : (k : ℕ) (r w d : Bool) (xs ys : Slots) → ys ≡ xs → IsOut xs k ys → NotesAll (ready.Link k r w d ∷ []) xs ys
-notes_out k r w d xs ys same out i port e = at (eqb k i) refl where
-  now : slice_get ys i ≡ Some (Some port)
-  now = ap (λ (zs : Slots). slice_get zs i) same ∙ e
-
-  at : (here : Bool) → eqb k i ≡ here → (slice_get ys i ≡ Some (Some (noted_all i (ready.Link k r w d ∷ []) port))) ⊎ ((slice_get ys i ≡ Some None) × (has_left port.left ≡ false))
-  at true is = absurd (out.here port (ap (λ (j : ℕ). slice_get ys j) (eqb-true k i is) ∙ now))
-  at false is = inl (now ∙ ap (λ (p : Port). Some (Some p)) (sym (noted_same i (ready.Link k r w d) port (ap (λ (b : Bool). cond b (r || d) false) is) (ap (λ (b : Bool). cond b w false) is))))
+-- a link is told of that has no port
+pub notes_none : (k : ℕ) (r w d : Bool) (xs : Slots) → ((port : Port) → slice_get xs k ≡ Some (Some port) → ⊥) → NotesAll (ready.Link k r w d ∷ []) xs xs
+notes_none k r w d xs none i port e = at (eqb k i) refl where
+  at : (here : Bool) → eqb k i ≡ here → (slice_get xs i ≡ Some (Some (noted_all i (ready.Link k r w d ∷ []) port))) ⊎ ((slice_get xs i ≡ Some None) × (has_left port.left ≡ false))
+  at true is = absurd (none port (ap (λ (j : ℕ). slice_get xs j) (eqb-true k i is) ∙ e))
+  at false is = inl (e ∙ ap (λ (p : Port). Some (Some p)) (sym (noted_same i (ready.Link k r w d) port (ap (λ (b : Bool). cond b (r || d) false) is) (ap (λ (b : Bool). cond b w false) is))))
 
 same_port : (p q : Port) → Some (Some p) ≡ Some (Some q) → p ≡ q
 same_port p q e = let inner : Some p ≡ Some q = cc in cc
@@ -139,16 +136,13 @@ unleft h k p done = at (has_left p.left) refl where
   at false e = refl
 
 -- its port is there, takes notice, and is settled
-pub notes_settled : (k : ℕ) (r w d : Bool) (h h' : Hub) (m m' : Moves) (p p' : Port) (xs ys zs : Slots) → TakesOut xs k p ys → p' ≡ record p { may_read = p.may_read || r || d; may_write = p.may_write || w } → IsSettled h m ys k p' h' m' zs → NotesAll (ready.Link k r w d ∷ []) xs zs
-notes_settled k r w d h h' m m' p p' xs ys zs out is settled i port e = at (eqb k i) refl where
-  elsewhere : eqb k i ≡ false → slice_get ys i ≡ Some (Some port)
-  elsewhere other = ap (λ (ws : Slots). slice_get ws i) out.rest ∙ get_set xs k (Some p) None i out.there ∙ ap (λ (b : Bool). cond b (Some None) (slice_get xs i)) other ∙ e
-
+pub notes_settled : (k : ℕ) (r w d : Bool) (h h' : Hub) (m m' : Moves) (p p' : Port) (xs zs : Slots) → slice_get xs k ≡ Some (Some p) → p' ≡ record p { may_read = p.may_read || r || d; may_write = p.may_write || w } → IsSettled h m xs k p' h' m' zs → NotesAll (ready.Link k r w d ∷ []) xs zs
+notes_settled k r w d h h' m m' p p' xs zs there is settled i port e = at (eqb k i) refl where
   unnoted : eqb k i ≡ false → noted i (ready.Link k r w d) port ≡ port
   unnoted other = noted_same i (ready.Link k r w d) port (ap (λ (b : Bool). cond b (r || d) false) other) (ap (λ (b : Bool). cond b w false) other)
 
   mine : eqb k i ≡ true → p ≡ port
-  mine here = same_port p port (sym out.there ∙ ap (λ (j : ℕ). slice_get xs j) (eqb-true k i here) ∙ e)
+  mine here = same_port p port (sym there ∙ ap (λ (j : ℕ). slice_get xs j) (eqb-true k i here) ∙ e)
 
   made : eqb k i ≡ true → p' ≡ noted i (ready.Link k r w d) port
   made here =
@@ -161,11 +155,11 @@ notes_settled k r w d h h' m m' p p' xs ys zs out is settled i port e = at (eqb 
 
   at : (here : Bool) → eqb k i ≡ here → (slice_get zs i ≡ Some (Some (noted i (ready.Link k r w d) port))) ⊎ ((slice_get zs i ≡ Some None) × (has_left port.left ≡ false))
   at here e' = by here e' settled where
-    by : (here : Bool) → eqb k i ≡ here → IsSettled h m ys k p' h' m' zs → (slice_get zs i ≡ Some (Some (noted i (ready.Link k r w d) port))) ⊎ ((slice_get zs i ≡ Some None) × (has_left port.left ≡ false))
-    by true on (inl put) = inl (ap (λ (ws : Slots). slice_get ws i) put.2 ∙ get_set ys k None (Some p') i (empty_slot xs ys k p out) ∙ ap (λ (b : Bool). cond b (Some (Some p')) (slice_get ys i)) on ∙ ap (λ (q : Port). Some (Some q)) (made on))
-    by false on (inl put) = inl (ap (λ (ws : Slots). slice_get ws i) put.2 ∙ get_set ys k None (Some p') i (empty_slot xs ys k p out) ∙ ap (λ (b : Bool). cond b (Some (Some p')) (slice_get ys i)) on ∙ elsewhere on ∙ ap (λ (q : Port). Some (Some q)) (sym (unnoted on)))
-    by true on (inr gone) = inr (ap (λ (ws : Slots). slice_get ws i) gone.2 ∙ ap (λ (j : ℕ). slice_get ys j) (sym (eqb-true k i on)) ∙ empty_slot xs ys k p out, ap (λ (q : Port). has_left q.left) (sym (mine on)) ∙ ap (λ (q : Port). has_left q.left) (sym is) ∙ unleft h k p' gone.0.done)
-    by false on (inr gone) = inl (ap (λ (ws : Slots). slice_get ws i) gone.2 ∙ elsewhere on ∙ ap (λ (q : Port). Some (Some q)) (sym (unnoted on)))
+    by : (here : Bool) → eqb k i ≡ here → IsSettled h m xs k p' h' m' zs → (slice_get zs i ≡ Some (Some (noted i (ready.Link k r w d) port))) ⊎ ((slice_get zs i ≡ Some None) × (has_left port.left ≡ false))
+    by true on (inl put) = inl (ap (λ (ws : Slots). slice_get ws i) put.2 ∙ ap (λ (j : ℕ). slice_get (set xs k (Some p')) j) (sym (eqb-true k i on)) ∙ slot_now xs k (Some p) (Some p') there ∙ ap (λ (q : Port). Some (Some q)) (made on))
+    by false on (inl put) = inl (ap (λ (ws : Slots). slice_get ws i) put.2 ∙ slot_other xs k (Some p) (Some p') i there on ∙ e ∙ ap (λ (q : Port). Some (Some q)) (sym (unnoted on)))
+    by true on (inr gone) = inr (ap (λ (ws : Slots). slice_get ws i) gone.2 ∙ ap (λ (j : ℕ). slice_get (set xs k None) j) (sym (eqb-true k i on)) ∙ slot_now xs k (Some p) None there, ap (λ (q : Port). has_left q.left) (sym (mine on)) ∙ ap (λ (q : Port). has_left q.left) (sym is) ∙ unleft h k p' gone.0.done)
+    by false on (inr gone) = inl (ap (λ (ws : Slots). slice_get ws i) gone.2 ∙ slot_other xs k (Some p) None i there on ∙ e ∙ ap (λ (q : Port). Some (Some q)) (sym (unnoted on)))
 
 -- ---- one thing after another is told
 

@@ -1,30 +1,25 @@
 -- What always holds of ports.
-use Rattle.std.proofs.Common.{◌≡◌, ℕ, zero, suc, ◌+◌, ◌-◌, ◌≤◌, ◌<◌, length, arith, Bool, true, false, eqb, cond, List, [], ◌∷◌, ◌++◌, set, slice_get, Option, Some, None, refl, sym, ap, ◌∙◌}
-use Rattle.std.specs.Prelude.{IfSome, OnSome}
-use Rattle.std.specs.Global.{Box}
+use Rattle.std.proofs.Common.{◌≡◌, inl, inr, ℕ, zero, suc, ◌+◌, ◌-◌, ◌≤◌, ◌<◌, length, arith, Bool, true, false, eqb, cond, List, [], ◌∷◌, ◌++◌, set, slice_get, Option, Some, None, refl, sym, ap, ◌∙◌}
 use Rattle.std.proofs.lemmas.Bool.{eqb-true}
 use Rattle.std.proofs.lemmas.List.{length-set, length_push}
 use Rattle.ipc_hub.specs.Marking.{is_set}
 use Rattle.ipc_loop.specs.Ports.{Port, new_port, has_work, how_many_open}
-use Rattle.ipc_loop.specs.Standing.{AreKept, IsOut, IsUnset, how_many_idle, may_be_listed}
-use Rattle.ipc_loop.proofs.PortLemmas.{Slots}
-use Rattle.ipc_loop.proofs.StandingLemmas.{queued_none, queued_push, queued_undo, queued_take, queued_turn, queued_close, queued_round, queued_more, queued_put, out_same}
-use Rattle.ipc_loop.proofs.OpeningLemmas.{one_out, one_in, one_more}
+use Rattle.ipc_loop.specs.Standing.{AreKept, AreKeptBut, IsListedSo, IsUnset, how_many_idle}
+use Rattle.ipc_loop.proofs.PortLemmas.{Slots, slot_now, slot_other}
+use Rattle.ipc_loop.proofs.StandingLemmas.{queued_none, queued_push, queued_undo, queued_round, others_acted, all_queued, set_flag, set_here, listed_next, listed_turn, listed_unset}
+use Rattle.ipc_loop.proofs.OpeningLemmas.{one_out, one_more}
 
 pub open_below : (xs : Slots) → how_many_open xs ≤ length xs
 open_below [] = omega arith
 open_below (None ∷ xs) = let few : how_many_open xs ≤ length xs = open_below xs in omega arith
 open_below (Some p ∷ xs) = let few : how_many_open xs ≤ length xs = open_below xs in omega arith
 
--- a port is taken out
-pub taken_count : (xs : Slots) (k o : ℕ) (p : Port) → slice_get xs k ≡ Some (Some p) → o ≡ how_many_open xs → 1 ≤ o × (o - 1 ≡ how_many_open (set xs k None))
-taken_count xs k o p there count = let one : how_many_open (set xs k None) + 1 ≡ how_many_open xs = one_out xs k p there in (omega arith, omega arith)
+pub within_slots : (xs : Slots) (k : ℕ) (x : Option Port) → slice_get xs k ≡ Some x → k < length xs
+within_slots [] k x e = absurd cc
+within_slots (y ∷ ys) zero x e = omega arith
+within_slots (y ∷ ys) (suc k) x e = let less : k < length ys = within_slots ys k x e in omega arith
 
 -- ---- ports that aren't queued
-
-idle_flag : (flag : Bool) (n m : ℕ) → n ≤ m → cond flag n (n + 1) ≤ cond flag m (m + 1)
-idle_flag true n m e = e
-idle_flag false n m e = omega arith
 
 pub idle_open : (xs : Slots) (qs : List Bool) → how_many_idle xs qs ≤ how_many_open xs
 idle_open [] qs = omega arith
@@ -34,39 +29,47 @@ idle_open (Some p ∷ xs) [] = let few : how_many_idle xs [] ≤ how_many_open x
 idle_open (Some p ∷ xs) (true ∷ qs) = let few : how_many_idle xs qs ≤ how_many_open xs = idle_open xs qs in omega arith
 idle_open (Some p ∷ xs) (false ∷ qs) = let few : how_many_idle xs qs ≤ how_many_open xs = idle_open xs qs in omega arith
 
--- a port that wasn't queued is taken out
-pub idle_out : (xs : Slots) (qs : List Bool) (k : ℕ) (p : Port) → slice_get xs k ≡ Some (Some p) → is_set qs k ≡ false → how_many_idle (set xs k None) qs + 1 ≡ how_many_idle xs qs
-idle_out [] qs k p e off = absurd cc
-idle_out (x ∷ xs) [] zero p e off = let is : x ≡ Some p = cc in rw is refl
-idle_out (x ∷ xs) (q ∷ qs) zero p e off = let is : x ≡ Some p = cc in rw is (rw off refl)
-idle_out (None ∷ xs) [] (suc k) p e off = idle_out xs [] k p e refl
-idle_out (None ∷ xs) (q ∷ qs) (suc k) p e off = idle_out xs qs k p e off
-idle_out (Some o ∷ xs) [] (suc k) p e off = ap (λ (n : ℕ). n + 1) (idle_out xs [] k p e refl)
-idle_out (Some o ∷ xs) (true ∷ qs) (suc k) p e off = idle_out xs qs k p e off
-idle_out (Some o ∷ xs) (false ∷ qs) (suc k) p e off = ap (λ (n : ℕ). n + 1) (idle_out xs qs k p e off)
+-- one that isn't queued is one of them
+pub idle_one : (xs : Slots) (qs : List Bool) (k : ℕ) (p : Port) → slice_get xs k ≡ Some (Some p) → is_set qs k ≡ false → 1 ≤ how_many_idle xs qs
+idle_one [] qs k p e off = absurd cc
+idle_one (x ∷ xs) [] zero p e off = let is : x ≡ Some p = cc in rw is (omega arith)
+idle_one (x ∷ xs) (q ∷ qs) zero p e off = let is : x ≡ Some p = cc in rw is (rw off (omega arith))
+idle_one (None ∷ xs) [] (suc k) p e off = idle_one xs [] k p e refl
+idle_one (None ∷ xs) (q ∷ qs) (suc k) p e off = idle_one xs qs k p e off
+idle_one (Some o ∷ xs) [] (suc k) p e off = omega arith
+idle_one (Some o ∷ xs) (true ∷ qs) (suc k) p e off = idle_one xs qs k p e off
+idle_one (Some o ∷ xs) (false ∷ qs) (suc k) p e off = omega arith
 
--- a port is put back
-idle_in : (xs : Slots) (qs : List Bool) (k : ℕ) (p : Port) → slice_get xs k ≡ Some None → how_many_idle (set xs k (Some p)) qs ≡ cond (is_set qs k) (how_many_idle xs qs) (how_many_idle xs qs + 1)
-idle_in [] qs k p e = absurd cc
-idle_in (x ∷ xs) [] zero p e = let is : x ≡ None = cc in rw is refl
-idle_in (x ∷ xs) (q ∷ qs) zero p e = let is : x ≡ None = cc in rw is refl
-idle_in (None ∷ xs) [] (suc k) p e = idle_in xs [] k p e
-idle_in (None ∷ xs) (q ∷ qs) (suc k) p e = idle_in xs qs k p e
-idle_in (Some o ∷ xs) [] (suc k) p e = ap (λ (n : ℕ). n + 1) (idle_in xs [] k p e)
-idle_in (Some o ∷ xs) (true ∷ qs) (suc k) p e = idle_in xs qs k p e
-idle_in (Some o ∷ xs) (false ∷ qs) (suc k) p e = ap (λ (n : ℕ). n + 1) (idle_in xs qs k p e) ∙ either (is_set qs k) (how_many_idle xs qs) where
-  either : (b : Bool) (n : ℕ) → cond b n (n + 1) + 1 ≡ cond b (n + 1) (n + 1 + 1)
-  either true n = refl
-  either false n = refl
+-- its port is another
+idle_acted : (xs : Slots) (qs : List Bool) (k : ℕ) (p p' : Port) → slice_get xs k ≡ Some (Some p) → how_many_idle (set xs k (Some p')) qs ≡ how_many_idle xs qs
+idle_acted [] qs k p p' e = refl
+idle_acted (x ∷ xs) [] zero p p' e = let is : x ≡ Some p = cc in rw is refl
+idle_acted (x ∷ xs) (q ∷ qs) zero p p' e = let is : x ≡ Some p = cc in rw is refl
+idle_acted (None ∷ xs) [] (suc k) p p' e = idle_acted xs [] k p p' e
+idle_acted (None ∷ xs) (q ∷ qs) (suc k) p p' e = idle_acted xs qs k p p' e
+idle_acted (Some o ∷ xs) [] (suc k) p p' e = ap (λ (n : ℕ). n + 1) (idle_acted xs [] k p p' e)
+idle_acted (Some o ∷ xs) (q ∷ qs) (suc k) p p' e = ap (λ (n : ℕ). cond q n (n + 1)) (idle_acted xs qs k p p' e)
 
--- the flag of a port that is taken out is set
-idle_queued : (xs : Slots) (qs : List Bool) (k : ℕ) → slice_get xs k ≡ Some None → how_many_idle xs (set qs k true) ≡ how_many_idle xs qs
-idle_queued [] qs k e = absurd cc
-idle_queued (x ∷ xs) [] k e = refl
-idle_queued (x ∷ xs) (q ∷ qs) zero e = let is : x ≡ None = cc in rw is refl
-idle_queued (None ∷ xs) (q ∷ qs) (suc k) e = idle_queued xs qs k e
-idle_queued (Some o ∷ xs) (true ∷ qs) (suc k) e = idle_queued xs qs k e
-idle_queued (Some o ∷ xs) (false ∷ qs) (suc k) e = ap (λ (n : ℕ). n + 1) (idle_queued xs qs k e)
+-- its flag is set
+idle_queued : (xs : Slots) (qs : List Bool) (k : ℕ) (p : Port) → slice_get xs k ≡ Some (Some p) → length qs ≡ length xs → is_set qs k ≡ false → how_many_idle xs (set qs k true) + 1 ≡ how_many_idle xs qs
+idle_queued [] qs k p e long off = absurd cc
+idle_queued (x ∷ xs) [] k p e long off = absurd (omega arith)
+idle_queued (x ∷ xs) (q ∷ qs) zero p e long off = let is : x ≡ Some p = cc in rw is (rw off refl)
+idle_queued (None ∷ xs) (q ∷ qs) (suc k) p e long off = idle_queued xs qs k p e (omega arith) off
+idle_queued (Some o ∷ xs) (true ∷ qs) (suc k) p e long off = idle_queued xs qs k p e (omega arith) off
+idle_queued (Some o ∷ xs) (false ∷ qs) (suc k) p e long off = ap (λ (n : ℕ). n + 1) (idle_queued xs qs k p e (omega arith) off)
+
+-- its flag is cleared
+idle_cleared : (xs : Slots) (qs : List Bool) (k : ℕ) → how_many_idle xs (set qs k false) ≤ how_many_idle xs qs + 1
+idle_cleared [] qs k = omega arith
+idle_cleared (None ∷ xs) [] k = omega arith
+idle_cleared (Some o ∷ xs) [] k = omega arith
+idle_cleared (None ∷ xs) (q ∷ qs) zero = omega arith
+idle_cleared (Some o ∷ xs) (true ∷ qs) zero = omega arith
+idle_cleared (Some o ∷ xs) (false ∷ qs) zero = omega arith
+idle_cleared (None ∷ xs) (q ∷ qs) (suc k) = idle_cleared xs qs k
+idle_cleared (Some o ∷ xs) (true ∷ qs) (suc k) = idle_cleared xs qs k
+idle_cleared (Some o ∷ xs) (false ∷ qs) (suc k) = let less : how_many_idle xs (set qs k false) ≤ how_many_idle xs qs + 1 = idle_cleared xs qs k in omega arith
 
 -- a new port
 idle_pushed : (xs : Slots) (qs : List Bool) (p : Port) → length qs ≡ length xs → how_many_idle (xs ++ Some p ∷ []) (qs ++ false ∷ []) ≡ how_many_idle xs qs + 1
@@ -107,55 +110,20 @@ idle_fewer (x ∷ xs) (q ∷ qs) (Some p ∷ ys) (false ∷ rs) a b c f =
     let off : q ≡ false = first.1.1 in
     rw is (rw off (let one : how_many_idle ys rs + 1 ≤ how_many_idle xs qs + 1 = omega arith in one))
 
--- a port is out, and nothing else changed
-out_idle : (xs ys : Slots) (qs rs : List Bool) (k : ℕ) → IsOut xs k ys → ((i : ℕ) → eqb k i ≡ false → is_set rs i ≡ is_set qs i) → FewerIdle xs qs ys rs
-out_idle xs ys qs rs k out same i p e off = at (eqb k i) refl where
-  at : (here : Bool) → eqb k i ≡ here → (o : Port) × ((slice_get xs i ≡ Some (Some o)) × (is_set qs i ≡ false))
-  at true is = absurd (out.here p (ap (λ (j : ℕ). slice_get ys j) (eqb-true k i is) ∙ e))
-  at false is = (p, (sym (out.others i is) ∙ e, sym (same i is) ∙ off))
+-- number k's port goes, and its flag
+gone_idle : (xs : Slots) (qs rs : List Bool) (k : ℕ) (p : Port) → slice_get xs k ≡ Some (Some p) → IsUnset qs k rs → FewerIdle xs qs (set xs k None) rs
+gone_idle xs qs rs k p there unset i o e off = at (eqb k i) refl where
+  at : (here : Bool) → eqb k i ≡ here → (r : Port) × ((slice_get xs i ≡ Some (Some r)) × (is_set qs i ≡ false))
+  at true is = let wrong : Some None ≡ Some (Some o) = sym (slot_now xs k (Some p) None there) ∙ ap (λ (j : ℕ). slice_get (set xs k None) j) (eqb-true k i is) ∙ e in absurd cc
+  at false is = (o, (sym (slot_other xs k (Some p) None i there is) ∙ e, sym (unset.others i is) ∙ off))
 
 -- ---- what holds of them
 
 pub kept_none : (tm nm : ℕ) → AreKept [] [] [] [] 0 tm nm
 kept_none tm nm = record { flags = refl; each = queued_none; count = refl; room_of_turns = omega arith; room_of_next = omega arith }
 
-pub kept_take : (xs ys : Slots) (qs : List Bool) (t n : List ℕ) (k o o' tm nm : ℕ) → AreKept xs qs t n o tm nm → IsOut xs k ys → length ys ≡ length xs → o' ≡ how_many_open ys → AreKept ys qs t n o' tm nm
-kept_take xs ys qs t n k o o' tm nm a out long count =
-    let few = idle_fewer xs qs ys qs a.flags (a.flags ∙ sym long) long (out_idle xs ys qs qs k out (λ i is. refl)) in
-    record {
-      flags = a.flags ∙ sym long;
-      each = queued_take xs ys qs t n k a.each out;
-      count = count;
-      room_of_turns = omega (arith, a.room_of_turns, few);
-      room_of_next = omega (arith, a.room_of_next, few);
-    }
-
-pub kept_turn : (xs ys : Slots) (qs rs : List Bool) (t n : List ℕ) (k o o' tm nm : ℕ) → AreKept xs qs (t ++ k ∷ []) n o tm nm → IsOut xs k ys → IsUnset qs k rs → length ys ≡ length xs → length rs ≡ length qs → o' ≡ how_many_open ys → AreKept ys rs t n o' tm nm
-kept_turn xs ys qs rs t n k o o' tm nm a out unset long longs count =
-    let few = idle_fewer xs qs ys rs a.flags (longs ∙ a.flags ∙ sym long) long (out_idle xs ys qs rs k out unset.others) in
-    let one : length (t ++ k ∷ []) ≡ length t + 1 = length_push t k in
-    record {
-      flags = longs ∙ a.flags ∙ sym long;
-      each = queued_turn xs ys qs rs t n k a.each out unset;
-      count = count;
-      room_of_turns = omega (arith, a.room_of_turns, few);
-      room_of_next = omega (arith, a.room_of_next, few);
-    }
-
 pub kept_round : (xs : Slots) (qs : List Bool) (n : List ℕ) (o tm nm : ℕ) → AreKept xs qs [] n o tm nm → AreKept xs qs n [] o nm tm
 kept_round xs qs n o tm nm a = record { flags = a.flags; each = queued_round xs qs n a.each; count = a.count; room_of_turns = omega (arith, a.room_of_next); room_of_next = omega (arith, a.room_of_turns) }
-
-pub kept_more : (xs : Slots) (qs : List Bool) (t n n' : List ℕ) (k o tm nm : ℕ) → n' ≡ n ++ k ∷ [] → slice_get xs k ≡ Some None → may_be_listed xs qs t n < tm → may_be_listed xs qs t n < nm → AreKept xs qs t n o tm nm → AreKept xs (set qs k true) t n' o tm nm
-kept_more xs qs t n n' k o tm nm more empty fits fits' a =
-    let one : length n' ≡ length n + 1 = ap (λ (m : List ℕ). length m) more ∙ length_push n k in
-    let same = idle_queued xs qs k empty in
-    record {
-      flags = length-set qs k true ∙ a.flags;
-      each = queued_more xs qs t n n' k more a.each;
-      count = a.count;
-      room_of_turns = omega (arith, same, fits);
-      room_of_next = omega (arith, same, fits');
-    }
 
 -- a new port comes, for which there is room in the lists
 pub kept_push : (xs ys : Slots) (qs rs : List Bool) (t t' n n' : List ℕ) (o tm nm tm' nm' : ℕ) → AreKept xs qs t n o tm nm → ys ≡ xs ++ Some new_port ∷ [] → rs ≡ qs ++ false ∷ [] → t' ≡ t → n' ≡ n → length t + (o + 1 + length n) ≤ tm' → length t + (o + 1 + length n) ≤ nm' → AreKept ys rs t' n' (o + 1) tm' nm'
@@ -197,61 +165,98 @@ kept_undo xs p qs q t n o tm nm a =
       },
     )
 
--- the place of a port that is taken out goes, and its flag
-pub kept_close : (xs : Slots) (qs rs : List Bool) (t n : List ℕ) (k o tm nm : ℕ) → AreKept xs qs t n o tm nm → slice_get xs k ≡ Some None → IsUnset qs k rs → length rs ≡ length qs → AreKept xs rs t n o tm nm
-kept_close xs qs rs t n k o tm nm a none unset longs =
-    let out = out_same xs xs k refl (λ port e. let wrong : Some None ≡ Some (Some port) = sym none ∙ e in absurd cc) in
-    let few = idle_fewer xs qs xs rs a.flags (longs ∙ a.flags) refl (out_idle xs xs qs rs k out unset.others) in
+-- ---- something is done for a port
+
+open_acted : (xs : Slots) (k : ℕ) (p p' : Port) → slice_get xs k ≡ Some (Some p) → how_many_open (set xs k (Some p')) ≡ how_many_open xs
+open_acted [] k p p' e = refl
+open_acted (x ∷ xs) zero p p' e = let is : x ≡ Some p = cc in rw is refl
+open_acted (None ∷ xs) (suc k) p p' e = open_acted xs k p p' e
+open_acted (Some o ∷ xs) (suc k) p p' e = ap (λ (n : ℕ). n + 1) (open_acted xs k p p' e)
+
+pub but_acted : (xs : Slots) (qs : List Bool) (t n : List ℕ) (k : ℕ) (p p' : Port) (o tm nm : ℕ) → slice_get xs k ≡ Some (Some p) → AreKept xs qs t n o tm nm → AreKeptBut k (set xs k (Some p')) qs t n o tm nm
+but_acted xs qs t n k p p' o tm nm there a =
+    let same = idle_acted xs qs k p p' there in
     record {
-      flags = longs ∙ a.flags;
-      each = queued_close xs qs rs t n k a.each out unset;
-      count = a.count;
-      room_of_turns = omega (arith, a.room_of_turns, few);
-      room_of_next = omega (arith, a.room_of_next, few);
+      flags = a.flags ∙ sym (length-set xs k (Some p'));
+      working = others_acted xs qs qs k p p' there (λ i other. refl) (λ i port other e w. a.each.working i port e w);
+      listed = a.each.listed;
+      count = a.count ∙ sym (open_acted xs k p p' there);
+      room_of_turns = omega (arith, a.room_of_turns, same);
+      room_of_next = omega (arith, a.room_of_next, same);
     }
 
-pub kept_put : (xs : Slots) (qs : List Bool) (t n : List ℕ) (k : ℕ) (p : Port) (o tm nm : ℕ) → slice_get xs k ≡ Some None → (has_work p ≡ true → is_set qs k ≡ true) → (is_set qs k ≡ false → may_be_listed xs qs t n < tm) → (is_set qs k ≡ false → may_be_listed xs qs t n < nm) → AreKept xs qs t n o tm nm → AreKept (set xs k (Some p)) qs t n (o + 1) tm nm
-kept_put xs qs t n k p o tm nm empty queued fits fits' a = record {
-  flags = a.flags ∙ sym (length-set xs k (Some p));
-  each = queued_put xs qs t n k None p empty queued a.each;
-  count = ap (λ (m : ℕ). m + 1) a.count ∙ sym (one_in xs k p empty);
-  room_of_turns = at (is_set qs k) refl (idle_in xs qs k p empty) tm a.room_of_turns fits;
-  room_of_next = at (is_set qs k) refl (idle_in xs qs k p empty) nm a.room_of_next fits';
-} where
-  at : (b : Bool) → is_set qs k ≡ b → how_many_idle (set xs k (Some p)) qs ≡ cond b (how_many_idle xs qs) (how_many_idle xs qs + 1) → (most : ℕ) → may_be_listed xs qs t n ≤ most → (is_set qs k ≡ false → may_be_listed xs qs t n < most) → may_be_listed (set xs k (Some p)) qs t n ≤ most
-  at true is idle most le lt = omega arith
-  at false is idle most le lt = let more = lt is in omega arith
-
--- ---- room for a port that is put back
-
-pub back_taken : (xs ys : Slots) (qs : List Bool) (t n : List ℕ) (k most : ℕ) (p : Port) → slice_get xs k ≡ Some (Some p) → ys ≡ set xs k None → may_be_listed xs qs t n ≤ most → is_set qs k ≡ false → may_be_listed ys qs t n < most
-back_taken xs ys qs t n k most p there rest le off =
-    let one : how_many_idle (set xs k None) qs + 1 ≡ how_many_idle xs qs = idle_out xs qs k p there off in
-    let same : how_many_idle ys qs ≡ how_many_idle (set xs k None) qs = ap (λ (zs : Slots). how_many_idle zs qs) rest in
-    omega arith
-
-pub back_turn : (xs ys : Slots) (qs rs : List Bool) (t n : List ℕ) (k most : ℕ) → length qs ≡ length xs → IsOut xs k ys → IsUnset qs k rs → length ys ≡ length xs → length rs ≡ length qs → may_be_listed xs qs (t ++ k ∷ []) n ≤ most → may_be_listed ys rs t n < most
-back_turn xs ys qs rs t n k most flags out unset long longs le =
-    let few : how_many_idle ys rs ≤ how_many_idle xs qs = idle_fewer xs qs ys rs flags (longs ∙ flags ∙ sym long) long (out_idle xs ys qs rs k out unset.others) in
+-- the same, where number k has its turn
+pub but_turned : (xs : Slots) (qs : List Bool) (t n : List ℕ) (k : ℕ) (p p' : Port) (o tm nm : ℕ) → slice_get xs k ≡ Some (Some p) → IsUnset qs k (set qs k false) → AreKept xs qs (t ++ k ∷ []) n o tm nm → AreKeptBut k (set xs k (Some p')) (set qs k false) t n o tm nm
+but_turned xs qs t n k p p' o tm nm there unset a =
+    let same = idle_acted xs (set qs k false) k p p' there in
+    let more = idle_cleared xs qs k in
     let one : length (t ++ k ∷ []) ≡ length t + 1 = length_push t k in
-    omega arith
+    record {
+      flags = length-set qs k false ∙ a.flags ∙ sym (length-set xs k (Some p'));
+      working = others_acted xs qs (set qs k false) k p p' there unset.others (λ i port other e w. a.each.working i port e w);
+      listed = listed_turn qs (set qs k false) t n k unset a.each.listed;
+      count = a.count ∙ sym (open_acted xs k p p' there);
+      room_of_turns = omega (arith, a.room_of_turns, same, more, one);
+      room_of_next = omega (arith, a.room_of_next, same, more, one);
+    }
 
-pub if_both : (r : Option (Box Port)) (P : Box Port → Type 0) (Q X : Type 0) → IfSome r P → OnSome r Q → ((b : Box Port) → P b → Q → X) → OnSome r X
-if_both None P Q X holds too f = tt
-if_both (Some b) P Q X holds too f = f b holds too
+-- number k had its turn, and has no place
+pub kept_turn : (xs : Slots) (qs : List Bool) (t n : List ℕ) (k o tm nm : ℕ) → is_set qs k ≡ false → AreKept xs qs (t ++ k ∷ []) n o tm nm → AreKept xs qs t n o tm nm
+kept_turn xs qs t n k o tm nm off a =
+    let one : length (t ++ k ∷ []) ≡ length t + 1 = length_push t k in
+    record {
+      flags = a.flags;
+      each = record { working = a.each.working; listed = listed_turn qs qs t n k (record { here = off; others = λ i other. refl }) a.each.listed };
+      count = a.count;
+      room_of_turns = omega (arith, a.room_of_turns, one);
+      room_of_next = omega (arith, a.room_of_next, one);
+    }
 
--- where a slot is empty, fewer are open than there are
-pub open_missing : (xs : Slots) (k : ℕ) → slice_get xs k ≡ Some None → how_many_open xs + 1 ≤ length xs
-open_missing [] k e = absurd cc
-open_missing (x ∷ xs) zero e = let is : x ≡ None = cc in rw is (let few : how_many_open xs ≤ length xs = open_below xs in omega arith)
-open_missing (None ∷ xs) (suc k) e = let few : how_many_open xs + 1 ≤ length xs = open_missing xs k e in omega arith
-open_missing (Some p ∷ xs) (suc k) e = let few : how_many_open xs + 1 ≤ length xs = open_missing xs k e in omega arith
+-- there is room for number k, which isn't queued
+pub but_room : (xs : Slots) (qs : List Bool) (t n : List ℕ) (k : ℕ) (p : Port) (o tm nm : ℕ) → slice_get xs k ≡ Some (Some p) → AreKeptBut k xs qs t n o tm nm → is_set qs k ≡ false → length n < nm
+but_room xs qs t n k p o tm nm there a off = omega (arith, a.room_of_next, idle_one xs qs k p there off)
 
-pub within_slots : (xs : Slots) (k : ℕ) (x : Option Port) → slice_get xs k ≡ Some x → k < length xs
-within_slots [] k x e = absurd cc
-within_slots (y ∷ ys) zero x e = omega arith
-within_slots (y ∷ ys) (suc k) x e = let less : k < length ys = within_slots ys k x e in omega arith
+-- it is queued, or has no work
+pub kept_as : (xs : Slots) (qs : List Bool) (t n : List ℕ) (k o tm nm : ℕ) → ((port : Port) → slice_get xs k ≡ Some (Some port) → has_work port ≡ true → is_set qs k ≡ true) → AreKeptBut k xs qs t n o tm nm → AreKept xs qs t n o tm nm
+kept_as xs qs t n k o tm nm here a = record { flags = a.flags; each = all_queued xs qs t n k a.working a.listed here; count = a.count; room_of_turns = a.room_of_turns; room_of_next = a.room_of_next }
 
--- who is queued may be put back
-pub queued_back : (flags : List Bool) (k : ℕ) (X : Type 0) → is_set flags k ≡ true → is_set flags k ≡ false → X
-queued_back flags k X on off = let wrong : true ≡ false = sym on ∙ off in absurd cc
+kept_next : (xs : Slots) (qs : List Bool) (t n : List ℕ) (k : ℕ) (p : Port) (o tm nm : ℕ) → slice_get xs k ≡ Some (Some p) → is_set qs k ≡ false → AreKeptBut k xs qs t n o tm nm → AreKept xs (set qs k true) t (n ++ k ∷ []) o tm nm
+kept_next xs qs t n k p o tm nm there off a =
+    let one : length (n ++ k ∷ []) ≡ length n + 1 = length_push n k in
+    let less = idle_queued xs qs k p there a.flags off in
+    let within : k < length xs = within_slots xs k (Some p) there in
+    record {
+      flags = length-set qs k true ∙ a.flags;
+      each = all_queued xs (set qs k true) t (n ++ k ∷ []) k (λ i port other e w. set_flag qs k i (a.working i port other e w)) (listed_next qs t n k a.listed) (λ port e w. set_here qs k (omega (arith, a.flags, within)));
+      count = a.count;
+      room_of_turns = omega (arith, a.room_of_turns, one, less);
+      room_of_next = omega (arith, a.room_of_next, one, less);
+    }
+
+-- its place is told to be queued, or stays as it was
+pub kept_queued : (xs : Slots) (qs : List Bool) (t n n' : List ℕ) (k : ℕ) (p : Port) (was is : Bool) (o tm nm : ℕ) → slice_get xs k ≡ Some (Some p) → is_set qs k ≡ was → set qs k was ≡ qs → (has_work p ≡ true → is ≡ true) → IsListedSo k was n is n' → AreKeptBut k xs qs t n o tm nm → AreKept xs (set qs k is) t n' o tm nm
+kept_queued xs qs t n n' k p was is o tm nm there flag back works (inl same) a =
+    let stays : set qs k is ≡ qs = ap (set qs k) same.0 ∙ back in
+    rw (stays, same.1) (kept_as xs qs t n k o tm nm (λ port e w. flag ∙ sym same.0 ∙ works (let is : Some (Some p) ≡ Some (Some port) = sym there ∙ e in let q : p ≡ port = cc in ap has_work q ∙ w)) a)
+kept_queued xs qs t n n' k p was is o tm nm there flag back works (inr more) a =
+    rw (more.1, more.2) (kept_next xs qs t n k p o tm nm there (flag ∙ more.0) a)
+
+-- its place goes
+pub kept_closed : (xs : Slots) (qs rs : List Bool) (t n : List ℕ) (k : ℕ) (p : Port) (o tm nm : ℕ) → slice_get xs k ≡ Some (Some p) → IsUnset qs k rs → length rs ≡ length qs → AreKeptBut k xs qs t n o tm nm → 1 ≤ o × AreKept (set xs k None) rs t n (o - 1) tm nm
+kept_closed xs qs rs t n k p o tm nm there unset long a =
+    let one : how_many_open (set xs k None) + 1 ≡ how_many_open xs = one_out xs k p there in
+    let count = a.count in
+    let longs = length-set xs k None in
+    let few = idle_fewer xs qs (set xs k None) rs a.flags (long ∙ a.flags ∙ sym longs) longs (gone_idle xs qs rs k p there unset) in (
+      omega arith,
+      record {
+        flags = long ∙ a.flags ∙ sym longs;
+        each = all_queued (set xs k None) rs t n k
+            (λ i port other e w. unset.others i other ∙ a.working i port other (sym (slot_other xs k (Some p) None i there other) ∙ e) w)
+            (listed_unset qs rs t n k unset a.listed)
+            (λ port e w. let wrong : Some None ≡ Some (Some port) = sym (slot_now xs k (Some p) None there) ∙ e in absurd cc);
+        count = omega arith;
+        room_of_turns = omega (arith, a.room_of_turns, few);
+        room_of_next = omega (arith, a.room_of_next, few);
+      },
+    )

@@ -17,6 +17,7 @@ pub mod OpeningLemmas
 pub mod KeepingLemmas
 pub mod ListeningLemmas
 pub mod HearingLemmas
+pub mod ActingLemmas
 pub mod AcceptingLemmas
 pub mod RoundLemmas
 pub mod PortionLemmas

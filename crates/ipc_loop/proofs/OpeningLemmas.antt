@@ -1,15 +1,15 @@
 -- How many links are open, and which stay closed.
 use Rattle.std.proofs.Common.{◌≡◌, inl, inr, ℕ, zero, suc, ◌+◌, ◌≤◌, Bool, true, false, eqb, cond, List, [], ◌∷◌, ◌++◌, length, set, slice_get, Option, Some, None, refl, sym, ap, subst, ◌∙◌, arith}
 use Rattle.std.specs.Prelude.{MatchOption, ⊤}
-use Rattle.std.proofs.lemmas.Bool.{leb-false}
+use Rattle.std.proofs.lemmas.Bool.{leb-false, eqb-true}
 use Rattle.std.proofs.lemmas.List.{length-set, length_push}
 use Rattle.ipc_hub.specs.Hub.{Hub}
 use Rattle.ipc_loop.specs.Moves.{Moved}
 use Rattle.ipc_loop.specs.declared.accepting.Bounds.{Bounds}
 use Rattle.ipc_loop.specs.Ports.{Port, new_port, open_at, port_at, how_many_open, Continues, OnlyCloses}
 use Rattle.ipc_loop.specs.Bounds.{are_all, IsWithin, HasRoom, AddsAtMostOne}
-use Rattle.ipc_loop.specs.Standing.{Ports, TakesOut, IsSettled, IsResting}
-use Rattle.ipc_loop.proofs.PortLemmas.{Slots, get_set, empty_slot}
+use Rattle.ipc_loop.specs.Standing.{Ports, IsSettled, IsResting}
+use Rattle.ipc_loop.proofs.PortLemmas.{Slots, get_set}
 
 -- ---- how many are open
 
@@ -18,12 +18,6 @@ one_out [] k p e = absurd cc
 one_out (x ∷ xs) zero p e = let is : x ≡ Some p = cc in rw is refl
 one_out (None ∷ xs) (suc k) p e = one_out xs k p e
 one_out (Some q ∷ xs) (suc k) p e = ap (λ (n : ℕ). n + 1) (one_out xs k p e)
-
-pub one_in : (xs : Slots) (k : ℕ) (p : Port) → slice_get xs k ≡ Some None → how_many_open (set xs k (Some p)) ≡ how_many_open xs + 1
-one_in [] k p e = absurd cc
-one_in (x ∷ xs) zero p e = let is : x ≡ None = cc in rw is refl
-one_in (None ∷ xs) (suc k) p e = one_in xs k p e
-one_in (Some q ∷ xs) (suc k) p e = ap (λ (n : ℕ). n + 1) (one_in xs k p e)
 
 pub one_more : (xs : Slots) (p : Port) → how_many_open (xs ++ Some p ∷ []) ≡ how_many_open xs + 1
 one_more [] p = refl
@@ -38,35 +32,20 @@ closes_same xs ys same = record { count = ap (λ (zs : Slots). length zs) same; 
 pub closes_both : (xs ys zs : Slots) → OnlyCloses xs ys → OnlyCloses ys zs → OnlyCloses xs zs
 closes_both xs ys zs a b = record { count = b.count ∙ a.count; closed = λ i e. b.closed i (a.closed i e) }
 
-stays_closed : (here : Bool) (p p' : Port) (s : Option (Option Port)) → cond here (Some (Some p)) s ≡ Some None → cond here (Some (Some p')) s ≡ Some None
-stays_closed true p p' s e = absurd cc
-stays_closed false p p' s e = e
+stays_closed : (here : Bool) (p : Port) (y : Option Port) (s : Option (Option Port)) → (here ≡ true → s ≡ Some (Some p)) → s ≡ Some None → cond here (Some y) s ≡ Some None
+stays_closed true p y s there e = let wrong : Some None ≡ Some (Some p) = sym e ∙ there refl in absurd cc
+stays_closed false p y s there e = e
 
-was_closed : (here : Bool) (p : Port) (s : Option (Option Port)) → cond here (Some (Some p)) s ≡ Some None → s ≡ Some None
-was_closed true p s e = absurd cc
-was_closed false p s e = e
-
--- a port that was taken out, and stood in its slot before, is settled
-pub turned_closes : (k : ℕ) (h h' : Hub) (m m' : Option (List Moved)) (p p' : Port) (xs ys : Slots) → slice_get xs k ≡ Some None → IsSettled h m xs k p' h' m' ys → OnlyCloses (set xs k (Some p)) ys
-turned_closes k h h' m m' p p' xs ys empty (inl put) = record {
-  count = ap (λ (zs : Slots). length zs) put.2 ∙ length-set xs k (Some p') ∙ sym (length-set xs k (Some p));
-  closed = λ i e. ap (λ (zs : Slots). slice_get zs i) put.2 ∙ get_set xs k None (Some p') i empty ∙ stays_closed (eqb k i) p p' (slice_get xs i) (sym (get_set xs k None (Some p) i empty) ∙ e);
-}
-turned_closes k h h' m m' p p' xs ys empty (inr gone) = record {
-  count = ap (λ (zs : Slots). length zs) gone.2 ∙ sym (length-set xs k (Some p));
-  closed = λ i e. ap (λ (zs : Slots). slice_get zs i) gone.2 ∙ was_closed (eqb k i) p (slice_get xs i) (sym (get_set xs k None (Some p) i empty) ∙ e);
+set_closes : (xs : Slots) (k : ℕ) (p : Port) (y : Option Port) → slice_get xs k ≡ Some (Some p) → OnlyCloses xs (set xs k y)
+set_closes xs k p y there = record {
+  count = length-set xs k y;
+  closed = λ i e. get_set xs k (Some p) y i there ∙ stays_closed (eqb k i) p y (slice_get xs i) (λ here. ap (λ (j : ℕ). slice_get xs j) (sym (eqb-true k i here)) ∙ there) e;
 }
 
-put_back : (xs : Slots) (k : ℕ) (p : Port) → slice_get xs k ≡ Some (Some p) → set (set xs k None) k (Some p) ≡ xs
-put_back [] k p e = absurd cc
-put_back (x ∷ xs) zero p e = let is : x ≡ Some p = cc in ap (λ (y : Option Port). y ∷ xs) (sym is)
-put_back (x ∷ xs) (suc k) p e = ap (λ (ys : Slots). x ∷ ys) (put_back xs k p e)
-
-pub taken_closes : (k : ℕ) (p : Port) (xs ys zs : Slots) → TakesOut xs k p ys → OnlyCloses (set ys k (Some p)) zs → OnlyCloses xs zs
-taken_closes k p xs ys zs out closes = subst (λ (ws : Slots). OnlyCloses ws zs) (ap (λ (vs : Slots). set vs k (Some p)) out.rest ∙ put_back xs k p out.there) closes
-
-pub settled_closes : (k : ℕ) (h h' : Hub) (m m' : Option (List Moved)) (p p' : Port) (xs ys zs : Slots) → TakesOut xs k p ys → IsSettled h m ys k p' h' m' zs → OnlyCloses xs zs
-settled_closes k h h' m m' p p' xs ys zs out settled = taken_closes k p xs ys zs out (turned_closes k h h' m m' p p' ys zs (empty_slot xs ys k p out) settled)
+-- a port that stood in its place before is settled
+pub settled_closes : (k : ℕ) (h h' : Hub) (m m' : Option (List Moved)) (p p' : Port) (xs ys : Slots) → slice_get xs k ≡ Some (Some p) → IsSettled h m xs k p' h' m' ys → OnlyCloses xs ys
+settled_closes k h h' m m' p p' xs ys there (inl put) = subst (λ (zs : Slots). OnlyCloses xs zs) (sym put.2) (set_closes xs k p (Some p') there)
+settled_closes k h h' m m' p p' xs ys there (inr gone) = subst (λ (zs : Slots). OnlyCloses xs zs) (sym gone.2) (set_closes xs k p None there)
 
 rest_closes : (x y : Option Port) (xs ys : Slots) → OnlyCloses (x ∷ xs) (y ∷ ys) → OnlyCloses xs ys
 rest_closes x y xs ys a = record { count = omega (arith, a.count); closed = λ i e. a.closed (suc i) e }

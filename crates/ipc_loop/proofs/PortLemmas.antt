@@ -1,10 +1,9 @@
 -- Ports by their numbers.
-use Rattle.std.proofs.Common.{◌≡◌, ℕ, zero, suc, Bool, true, false, ◌||◌, eqb, cond, List, [], ◌∷◌, ◌++◌, set, slice_get, Option, Some, None, refl, sym, ap, subst, ◌∙◌, arith}
+use Rattle.std.proofs.Common.{◌≡◌, ℕ, zero, suc, Bool, true, false, ◌||◌, eqb, cond, List, [], ◌∷◌, ◌++◌, set, slice_get, Option, Some, refl, sym, ap, ◌∙◌, arith}
 use Rattle.std.specs.Prelude.{unwrap_or}
 use Rattle.std.proofs.lemmas.Bool.{eqb-true, eq-eqb, ne_eqb}
 use Rattle.ipc_terms.proofs.Lists.{eqb_suc}
 use Rattle.ipc_loop.specs.Ports.{Port, new_port, port_at, with_port, stands_in}
-use Rattle.ipc_loop.specs.Standing.{TakesOut}
 
 abbrev pub Slots : Type 0
 Slots = List (Option Port)
@@ -23,30 +22,24 @@ slot_set d xs k x y i e = ap (λ (s : Option (Option Port)). unwrap_or s d) (get
   either true = refl
   either false = refl
 
-slot_here : (d : Option Port) (xs : Slots) (k : ℕ) (x : Option Port) (i : ℕ) → slice_get xs k ≡ Some x → unwrap_or (slice_get xs i) d ≡ with_port (λ (j : ℕ). unwrap_or (slice_get xs j) d) k x i
+-- it is seen among the ports
+pub slot_here : (d : Option Port) (xs : Slots) (k : ℕ) (x : Option Port) (i : ℕ) → slice_get xs k ≡ Some x → unwrap_or (slice_get xs i) d ≡ with_port (λ (j : ℕ). unwrap_or (slice_get xs j) d) k x i
 slot_here d xs k x i e = at (eqb k i) refl where
   at : (here : Bool) → eqb k i ≡ here → unwrap_or (slice_get xs i) d ≡ cond here x (unwrap_or (slice_get xs i) d)
   at true h = ap (λ (j : ℕ). unwrap_or (slice_get xs j) d) (sym (eqb-true k i h)) ∙ ap (λ (s : Option (Option Port)). unwrap_or s d) e
   at false h = refl
 
-with_twice : (o : ℕ → Option Port) (q : ℕ → Option Port) (k : ℕ) (x y : Option Port) (i : ℕ) → q i ≡ with_port o k x i → with_port q k y i ≡ with_port o k y i
-with_twice o q k x y i e = at (eqb k i) (q i) (o i) e where
-  at : (here : Bool) (a b : Option Port) → a ≡ cond here x b → cond here y a ≡ cond here y b
-  at true a b f = refl
-  at false a b f = f
+-- what is given last stays
+pub set_twice : (xs : Slots) (k : ℕ) (x y : Option Port) → set (set xs k x) k y ≡ set xs k y
+set_twice [] k x y = refl
+set_twice (z ∷ zs) zero x y = refl
+set_twice (z ∷ zs) (suc k) x y = ap (λ (ws : Slots). z ∷ ws) (set_twice zs k x y)
 
--- where the port of link k is taken out, the ports with it are those that were
-pub taken_out : (d : Option Port) (xs ys : Slots) (k : ℕ) (p : Port) → TakesOut xs k p ys → (i : ℕ) → with_port (λ (j : ℕ). unwrap_or (slice_get ys j) d) k (Some p) i ≡ unwrap_or (slice_get xs i) d
-taken_out d xs ys k p t i =
-    subst (λ (zs : Slots). with_port (λ (j : ℕ). unwrap_or (slice_get zs j) d) k (Some p) i ≡ unwrap_or (slice_get xs i) d) (sym t.rest)
-    (with_twice (λ (j : ℕ). unwrap_or (slice_get xs j) d) (λ (j : ℕ). unwrap_or (slice_get (set xs k None) j) d) k None (Some p) i (slot_set d xs k (Some p) None i t.there) ∙ sym (slot_here d xs k (Some p) i t.there))
+pub slot_now : (xs : Slots) (k : ℕ) (x y : Option Port) → slice_get xs k ≡ Some x → slice_get (set xs k y) k ≡ Some y
+slot_now xs k x y e = get_set xs k x y k e ∙ ap (λ (b : Bool). cond b (Some y) (slice_get xs k)) (eq-eqb k k refl)
 
-pub empty_slot : (xs ys : Slots) (k : ℕ) (p : Port) → TakesOut xs k p ys → slice_get ys k ≡ Some None
-empty_slot xs ys k p t = ap (λ (zs : Slots). slice_get zs k) t.rest ∙ get_set xs k (Some p) None k t.there ∙ ap (λ (b : Bool). cond b (Some None) (slice_get xs k)) (eq-eqb k k refl)
-
--- where the slot of link k is empty, it has no port
-pub slot_none : (d : Option Port) (xs : Slots) (k : ℕ) (i : ℕ) → slice_get xs k ≡ Some None → unwrap_or (slice_get xs i) d ≡ with_port (λ (j : ℕ). unwrap_or (slice_get xs j) d) k None i
-slot_none d xs k i e = slot_here d xs k None i e
+pub slot_other : (xs : Slots) (k : ℕ) (x y : Option Port) (i : ℕ) → slice_get xs k ≡ Some x → eqb k i ≡ false → slice_get (set xs k y) i ≡ slice_get xs i
+slot_other xs k x y i e other = get_set xs k x y i e ∙ ap (λ (b : Bool). cond b (Some y) (slice_get xs i)) other
 
 -- one more, new port
 pub pushed_port : (xs : Slots) (i : ℕ) → port_at (xs ++ Some new_port ∷ []) i ≡ port_at xs i

@@ -1,12 +1,12 @@
 -- Who has work is queued.
 use Rattle.std.proofs.Common.{◌≡◌, ◌⊎◌, inl, inr, ℕ, zero, suc, ◌<◌, Bool, true, false, ◌||◌, eqb, cond, List, [], ◌∷◌, ◌++◌, length, set, slice_get, Option, Some, None, refl, sym, ap, ◌∙◌, arith}
 use Rattle.std.specs.Option.{option_or}
-use Rattle.std.proofs.lemmas.Bool.{eq-eqb, eqb-true}
+use Rattle.std.proofs.lemmas.Bool.{eqb-true}
 use Rattle.ipc_terms.proofs.Lists.{eqb_suc, slice_get_push}
 use Rattle.ipc_hub.specs.Marking.{is_set}
 use Rattle.ipc_loop.specs.Ports.{Port, new_port, has_work, stands_in}
-use Rattle.ipc_loop.specs.Standing.{EachIsQueued, IsOut, IsUnset}
-use Rattle.ipc_loop.proofs.PortLemmas.{Slots, get_set, stands_both}
+use Rattle.ipc_loop.specs.Standing.{EachIsQueued, IsUnset}
+use Rattle.ipc_loop.proofs.PortLemmas.{Slots, slot_other, stands_both}
 
 pub queued_none : EachIsQueued [] [] [] []
 queued_none = record { working = λ i port e. absurd cc; listed = λ i e. absurd cc }
@@ -27,21 +27,25 @@ queued_push xs qs t n q = record {
   at i port w true s f e = let same : new_port ≡ port = cc in let wrong : false ≡ true = ap has_work same ∙ w in absurd cc
   at i port w false s f e = q.working i port (f ∙ e) w
 
--- the port of number k is taken out
-pub queued_take : (xs ys : Slots) (qs : List Bool) (t n : List ℕ) (k : ℕ) → EachIsQueued xs qs t n → IsOut xs k ys → EachIsQueued ys qs t n
-queued_take xs ys qs t n k q out = record { working = λ i port e w. at i port w e (eqb k i) refl; listed = q.listed } where
-  at : (i : ℕ) (port : Port) → has_work port ≡ true → slice_get ys i ≡ Some (Some port) → (here : Bool) → eqb k i ≡ here → is_set qs i ≡ true
-  at i port w e true is = absurd (out.here port (ap (λ (j : ℕ). slice_get ys j) (eqb-true k i is) ∙ e))
-  at i port w e false is = q.working i port (sym (out.others i is) ∙ e) w
+-- each but number k that has work is queued
+abbrev pub OthersAreQueued : ℕ → Slots → List Bool → Type 0
+OthersAreQueued k xs qs = (i : ℕ) (port : Port) → eqb k i ≡ false → slice_get xs i ≡ Some (Some port) → has_work port ≡ true → is_set qs i ≡ true
 
--- a port is put there that has no work, or is queued
-pub queued_put : (xs : Slots) (qs : List Bool) (t n : List ℕ) (k : ℕ) (x : Option Port) (p : Port) → slice_get xs k ≡ Some x → (has_work p ≡ true → is_set qs k ≡ true) → EachIsQueued xs qs t n → EachIsQueued (set xs k (Some p)) qs t n
-queued_put xs qs t n k x p there queued q = record { working = λ i port e w. at i port w (eqb k i) refl (sym (get_set xs k x (Some p) i there) ∙ e); listed = q.listed } where
-  at : (i : ℕ) (port : Port) → has_work port ≡ true → (here : Bool) → eqb k i ≡ here → cond here (Some (Some p)) (slice_get xs i) ≡ Some (Some port) → is_set qs i ≡ true
-  at i port w true is e = let same : p ≡ port = cc in ap (is_set qs) (sym (eqb-true k i is)) ∙ queued (ap has_work same ∙ w)
-  at i port w false is e = q.working i port e w
+abbrev pub AreListed : List Bool → List ℕ → List ℕ → Type 0
+AreListed qs t n = (i : ℕ) → is_set qs i ≡ true → (stands_in i t || stands_in i n) ≡ true
 
-set_flag : (qs : List Bool) (k i : ℕ) → is_set qs i ≡ true → is_set (set qs k true) i ≡ true
+-- number k's port is another
+pub others_acted : (xs : Slots) (qs rs : List Bool) (k : ℕ) (p p' : Port) → slice_get xs k ≡ Some (Some p) → ((i : ℕ) → eqb k i ≡ false → is_set rs i ≡ is_set qs i) → OthersAreQueued k xs qs → OthersAreQueued k (set xs k (Some p')) rs
+others_acted xs qs rs k p p' there same q i port other e w = same i other ∙ q i port other (sym (slot_other xs k (Some p) (Some p') i there other) ∙ e) w
+
+-- number k too
+pub all_queued : (xs : Slots) (qs : List Bool) (t n : List ℕ) (k : ℕ) → OthersAreQueued k xs qs → AreListed qs t n → ((port : Port) → slice_get xs k ≡ Some (Some port) → has_work port ≡ true → is_set qs k ≡ true) → EachIsQueued xs qs t n
+all_queued xs qs t n k q listed here = record { working = λ i port e w. at i port e w (eqb k i) refl; listed = listed } where
+  at : (i : ℕ) (port : Port) → slice_get xs i ≡ Some (Some port) → has_work port ≡ true → (same : Bool) → eqb k i ≡ same → is_set qs i ≡ true
+  at i port e w true is = ap (is_set qs) (sym (eqb-true k i is)) ∙ here port (ap (λ (j : ℕ). slice_get xs j) (eqb-true k i is) ∙ e) w
+  at i port e w false is = q i port is e w
+
+pub set_flag : (qs : List Bool) (k i : ℕ) → is_set qs i ≡ true → is_set (set qs k true) i ≡ true
 set_flag [] k i on = absurd cc
 set_flag (q ∷ qs) zero zero on = refl
 set_flag (q ∷ qs) zero (suc i) on = on
@@ -73,14 +77,11 @@ or_more false true c e = refl
 or_more false false c e = absurd cc
 
 -- number k is queued for the next round
-pub queued_more : (xs : Slots) (qs : List Bool) (t n n' : List ℕ) (k : ℕ) → n' ≡ n ++ k ∷ [] → EachIsQueued xs qs t n → EachIsQueued xs (set qs k true) t n'
-queued_more xs qs t n n' k more q = record {
-  working = λ i port e w. set_flag qs k i (q.working i port e w);
-  listed = λ i e. ap (λ (m : List ℕ). stands_in i t || stands_in i m) more ∙ ap (λ (x : Bool). stands_in i t || x) (stands_both i n (k ∷ [])) ∙ at i (set_or qs k i e);
-} where
-  at : (i : ℕ) → (eqb k i ≡ true) ⊎ (is_set qs i ≡ true) → (stands_in i t || (stands_in i n || stands_in i (k ∷ []))) ≡ true
-  at i (inl is) = or_true (stands_in i t) (stands_in i n || stands_in i (k ∷ [])) (or_true (stands_in i n) (stands_in i (k ∷ [])) (ap (λ (x : Bool). cond x true false) is))
-  at i (inr e) = or_more (stands_in i t) (stands_in i n) (stands_in i (k ∷ [])) (q.listed i e)
+pub listed_next : (qs : List Bool) (t n : List ℕ) (k : ℕ) → AreListed qs t n → AreListed (set qs k true) t (n ++ k ∷ [])
+listed_next qs t n k listed i e = ap (λ (x : Bool). stands_in i t || x) (stands_both i n (k ∷ [])) ∙ at (set_or qs k i e) where
+  at : (eqb k i ≡ true) ⊎ (is_set qs i ≡ true) → (stands_in i t || (stands_in i n || stands_in i (k ∷ []))) ≡ true
+  at (inl is) = or_true (stands_in i t) (stands_in i n || stands_in i (k ∷ [])) (or_true (stands_in i n) (stands_in i (k ∷ [])) (ap (λ (x : Bool). cond x true false) is))
+  at (inr f) = or_more (stands_in i t) (stands_in i n) (stands_in i (k ∷ [])) (listed i f)
 
 or_but : (a b c : Bool) → c ≡ false → ((a || c) || b) ≡ true → (a || b) ≡ true
 or_but true b c off e = refl
@@ -88,26 +89,18 @@ or_but false b true off e = absurd cc
 or_but false b false off e = e
 
 -- number k gets its turn
-pub queued_turn : (xs ys : Slots) (qs rs : List Bool) (t n : List ℕ) (k : ℕ) → EachIsQueued xs qs (t ++ k ∷ []) n → IsOut xs k ys → IsUnset qs k rs → EachIsQueued ys rs t n
-queued_turn xs ys qs rs t n k q out unset = record { working = λ i port e w. working i port w e (eqb k i) refl; listed = λ i e. listed i e (eqb k i) refl } where
-  working : (i : ℕ) (port : Port) → has_work port ≡ true → slice_get ys i ≡ Some (Some port) → (here : Bool) → eqb k i ≡ here → is_set rs i ≡ true
-  working i port w e true is = absurd (out.here port (ap (λ (j : ℕ). slice_get ys j) (eqb-true k i is) ∙ e))
-  working i port w e false is = unset.others i is ∙ q.working i port (sym (out.others i is) ∙ e) w
+pub listed_turn : (qs rs : List Bool) (t n : List ℕ) (k : ℕ) → IsUnset qs k rs → AreListed qs (t ++ k ∷ []) n → AreListed rs t n
+listed_turn qs rs t n k unset listed i e = at (eqb k i) refl where
+  at : (here : Bool) → eqb k i ≡ here → (stands_in i t || stands_in i n) ≡ true
+  at true is = let wrong : false ≡ true = sym unset.here ∙ ap (is_set rs) (eqb-true k i is) ∙ e in absurd cc
+  at false is = or_but (stands_in i t) (stands_in i n) (stands_in i (k ∷ [])) (ap (λ (x : Bool). cond x true false) is) (ap (λ (x : Bool). x || stands_in i n) (sym (stands_both i t (k ∷ []))) ∙ listed i (sym (unset.others i is) ∙ e))
 
-  listed : (i : ℕ) → is_set rs i ≡ true → (here : Bool) → eqb k i ≡ here → (stands_in i t || stands_in i n) ≡ true
-  listed i e true is = let wrong : false ≡ true = sym unset.here ∙ ap (is_set rs) (eqb-true k i is) ∙ e in absurd cc
-  listed i e false is = or_but (stands_in i t) (stands_in i n) (stands_in i (k ∷ [])) (ap (λ (x : Bool). cond x true false) is) (ap (λ (x : Bool). x || stands_in i n) (sym (stands_both i t (k ∷ []))) ∙ q.listed i (sym (unset.others i is) ∙ e))
-
--- number k's port is out, and its flag goes
-pub queued_close : (xs : Slots) (qs rs : List Bool) (t n : List ℕ) (k : ℕ) → EachIsQueued xs qs t n → IsOut xs k xs → IsUnset qs k rs → EachIsQueued xs rs t n
-queued_close xs qs rs t n k q out unset = record { working = λ i port e w. working i port w e (eqb k i) refl; listed = λ i e. listed i e (eqb k i) refl } where
-  working : (i : ℕ) (port : Port) → has_work port ≡ true → slice_get xs i ≡ Some (Some port) → (here : Bool) → eqb k i ≡ here → is_set rs i ≡ true
-  working i port w e true is = absurd (out.here port (ap (λ (j : ℕ). slice_get xs j) (eqb-true k i is) ∙ e))
-  working i port w e false is = unset.others i is ∙ q.working i port e w
-
-  listed : (i : ℕ) → is_set rs i ≡ true → (here : Bool) → eqb k i ≡ here → (stands_in i t || stands_in i n) ≡ true
-  listed i e true is = let wrong : false ≡ true = sym unset.here ∙ ap (is_set rs) (eqb-true k i is) ∙ e in absurd cc
-  listed i e false is = q.listed i (sym (unset.others i is) ∙ e)
+-- number k's flag goes
+pub listed_unset : (qs rs : List Bool) (t n : List ℕ) (k : ℕ) → IsUnset qs k rs → AreListed qs t n → AreListed rs t n
+listed_unset qs rs t n k unset listed i e = at (eqb k i) refl where
+  at : (here : Bool) → eqb k i ≡ here → (stands_in i t || stands_in i n) ≡ true
+  at true is = let wrong : false ≡ true = sym unset.here ∙ ap (is_set rs) (eqb-true k i is) ∙ e in absurd cc
+  at false is = listed i (sym (unset.others i is) ∙ e)
 
 or_swapped : (b : Bool) → b ≡ true → (b || false) ≡ true
 or_swapped true e = refl
@@ -116,17 +109,6 @@ or_swapped false e = absurd cc
 -- the next round starts
 pub queued_round : (xs : Slots) (qs : List Bool) (n : List ℕ) → EachIsQueued xs qs [] n → EachIsQueued xs qs n []
 queued_round xs qs n q = record { working = q.working; listed = λ i e. or_swapped (stands_in i n) (q.listed i e) }
-
--- the same slots
-pub out_same : (xs ys : Slots) (k : ℕ) → ys ≡ xs → ((port : Port) → slice_get xs k ≡ Some (Some port) → ⊥) → IsOut xs k ys
-out_same xs ys k same none = record { here = λ port e. none port (ap (λ (zs : Slots). slice_get zs k) (sym same) ∙ e); others = λ i is. ap (λ (zs : Slots). slice_get zs i) same }
-
--- an emptied slot
-pub out_set : (xs : Slots) (k : ℕ) (x : Option Port) → slice_get xs k ≡ Some x → IsOut xs k (set xs k None)
-out_set xs k x there = record {
-  here = λ port e. let wrong : Some None ≡ Some (Some port) = sym (get_set xs k x None k there ∙ ap (λ (b : Bool). cond b (Some None) (slice_get xs k)) (eq-eqb k k refl)) ∙ e in absurd cc;
-  others = λ i is. get_set xs k x None i there ∙ ap (λ (b : Bool). cond b (Some None) (slice_get xs i)) is;
-}
 
 -- the last port goes, and its flag
 pub queued_undo : (xs : Slots) (x : Option Port) (qs : List Bool) (q : Bool) (t n : List ℕ) → length qs ≡ length xs → EachIsQueued (xs ++ x ∷ []) (qs ++ q ∷ []) t n → EachIsQueued xs qs t n

@@ -1,46 +1,46 @@
--- Ports that are taken out and put back.
+-- Ports for which something is done.
 use Rattle.std.proofs.Common.{◌≡◌, ◌≢◌, ◌⊎◌, inl, inr, ℕ, zero, suc, ◌+◌, ◌<◌, Bool, true, false, ◌&&◌, eqb, cond, List, [], ◌∷◌, set, slice_get, Option, Some, None, refl, sym, ap, subst, ◌∙◌, arith}
 use Rattle.std.specs.Prelude.{unwrap_or}
-use Rattle.std.proofs.lemmas.Bool.{eq-eqb}
 use Rattle.ipc_hub.specs.Marking.{is_set}
 use Rattle.std.specs.Option.{option_map}
 use Rattle.ipc_hub.specs.Hub.{Connection, Hub, Names, untaken_at, fault_of_take}
 use Rattle.ipc_hub.specs.declared.fed.HubFault.{HubFault}
 use Rattle.ipc_loop.specs.Moves.{Moved}
 use Rattle.ipc_loop.specs.Ports.{Port, new_port, port_at, open_at, with_port}
-use Rattle.ipc_loop.specs.Standing.{TakesOut, IsOut, IsSettled}
+use Rattle.ipc_loop.specs.Standing.{IsSettled}
 use Rattle.ipc_loop.specs.Serving.{Serves, ServesPort, KeepsMarks, KeepsPortMarks, Answers, IsAnswered, has_no_more, is_done}
 use Rattle.ipc_loop.proofs.ServingLemmas.{serves_both, serves_so, closed_serves}
 use Rattle.ipc_loop.proofs.OwingLemmas.{keeps_so, both_keep, closed_keeps}
-use Rattle.ipc_loop.proofs.PortLemmas.{Slots, get_set, slot_set, slot_none, taken_out}
+use Rattle.ipc_loop.proofs.PortLemmas.{Slots, get_set, slot_set, slot_here, slot_now, set_twice}
 
 abbrev pub Moves : Type 0
 Moves = Option (List Moved)
 
--- a turn of a port that was taken out, up to its settling
-pub settled_serves : (k : ℕ) (h h' h'' : Hub) (m m' m'' : Moves) (p p' : Port) (xs ys : Slots) → slice_get xs k ≡ Some None → ServesPort k h m p h' m' p' → IsSettled h' m' xs k p' h'' m'' ys
-    → Serves h m (with_port (port_at xs) k (Some p)) h'' m'' (port_at ys)
-settled_serves k h h' h'' m m' m'' p p' xs ys empty serves (inl put) =
-    subst (λ (x : Hub). Serves h m (with_port (port_at xs) k (Some p)) x m'' (port_at ys)) (sym put.0)
-    (subst (λ (w : Moves). Serves h m (with_port (port_at xs) k (Some p)) h' w (port_at ys)) (sym put.1)
-    (serves_so h h' m m' (with_port (port_at xs) k (Some p)) (with_port (port_at xs) k (Some p)) (with_port (port_at xs) k (Some p')) (port_at ys) (λ i. refl) (λ i. ap (λ (zs : Slots). port_at zs i) put.2 ∙ slot_set (Some new_port) xs k None (Some p') i empty) (serves (port_at xs))))
-settled_serves k h h' h'' m m' m'' p p' xs ys empty serves (inr gone) =
-    serves_both h h' h'' m m' m'' (with_port (port_at xs) k (Some p)) (with_port (port_at xs) k (Some p')) (port_at ys) (serves (port_at xs))
-    (serves_so h' h'' m' m'' (with_port (port_at xs) k (Some p')) (with_port (port_at xs) k (Some p')) (with_port (port_at xs) k None) (port_at ys) (λ i. refl) (λ i. ap (λ (zs : Slots). port_at zs i) gone.2 ∙ slot_none (Some new_port) xs k i empty) (closed_serves k h' h'' m' m'' (port_at xs) p' gone.0 gone.1))
+-- the port, which is another since, is settled: as it was before
+pub settled_since : (k : ℕ) (h h' : Hub) (m m' : Moves) (p' : Port) (xs ys zs : Slots) → ys ≡ set xs k (Some p') → IsSettled h m ys k p' h' m' zs → IsSettled h m xs k p' h' m' zs
+settled_since k h h' m m' p' xs ys zs acted (inl put) = inl (put.0, put.1, put.2 ∙ ap (λ (ws : Slots). set ws k (Some p')) acted ∙ set_twice xs k (Some p') (Some p'), put.3)
+settled_since k h h' m m' p' xs ys zs acted (inr gone) = inr (gone.0, gone.1, gone.2 ∙ ap (λ (ws : Slots). set ws k None) acted ∙ set_twice xs k (Some p') None)
 
-pub settled_keeps : (k : ℕ) (h h' h'' : Hub) (m' m'' : Moves) (p p' : Port) (xs ys : Slots) → slice_get xs k ≡ Some None → KeepsPortMarks k h p h' p' → IsSettled h' m' xs k p' h'' m'' ys
-    → KeepsMarks h (with_port (open_at xs) k (Some p)) h'' (open_at ys)
-settled_keeps k h h' h'' m' m'' p p' xs ys empty keeps (inl put) =
-    subst (λ (x : Hub). KeepsMarks h (with_port (open_at xs) k (Some p)) x (open_at ys)) (sym put.0)
-    (keeps_so h h' (with_port (open_at xs) k (Some p)) (with_port (open_at xs) k (Some p)) (with_port (open_at xs) k (Some p')) (open_at ys) (λ i. refl) (λ i. ap (λ (zs : Slots). open_at zs i) put.2 ∙ slot_set None xs k None (Some p') i empty) (keeps (open_at xs)))
-settled_keeps k h h' h'' m' m'' p p' xs ys empty keeps (inr gone) =
-    both_keep h h' h'' (with_port (open_at xs) k (Some p)) (with_port (open_at xs) k (Some p')) (open_at ys) (keeps (open_at xs))
-    (keeps_so h' h'' (with_port (open_at xs) k (Some p')) (with_port (open_at xs) k (Some p')) (with_port (open_at xs) k None) (open_at ys) (λ i. refl) (λ i. ap (λ (zs : Slots). open_at zs i) gone.2 ∙ slot_none None xs k i empty) (closed_keeps k h' h'' (open_at xs) p' gone.0))
+-- what is done for a port, up to its settling
+pub settled_serves : (k : ℕ) (h h' h'' : Hub) (m m' m'' : Moves) (p p' : Port) (xs ys : Slots) → slice_get xs k ≡ Some (Some p) → ServesPort k h m p h' m' p' → IsSettled h' m' xs k p' h'' m'' ys
+    → Serves h m (port_at xs) h'' m'' (port_at ys)
+settled_serves k h h' h'' m m' m'' p p' xs ys there serves (inl put) =
+    subst (λ (x : Hub). Serves h m (port_at xs) x m'' (port_at ys)) (sym put.0)
+    (subst (λ (w : Moves). Serves h m (port_at xs) h' w (port_at ys)) (sym put.1)
+    (serves_so h h' m m' (with_port (port_at xs) k (Some p)) (port_at xs) (with_port (port_at xs) k (Some p')) (port_at ys) (λ i. slot_here (Some new_port) xs k (Some p) i there) (λ i. ap (λ (zs : Slots). port_at zs i) put.2 ∙ slot_set (Some new_port) xs k (Some p) (Some p') i there) (serves (port_at xs))))
+settled_serves k h h' h'' m m' m'' p p' xs ys there serves (inr gone) =
+    serves_both h h' h'' m m' m'' (port_at xs) (with_port (port_at xs) k (Some p')) (port_at ys)
+    (serves_so h h' m m' (with_port (port_at xs) k (Some p)) (port_at xs) (with_port (port_at xs) k (Some p')) (with_port (port_at xs) k (Some p')) (λ i. slot_here (Some new_port) xs k (Some p) i there) (λ i. refl) (serves (port_at xs)))
+    (serves_so h' h'' m' m'' (with_port (port_at xs) k (Some p')) (with_port (port_at xs) k (Some p')) (with_port (port_at xs) k None) (port_at ys) (λ i. refl) (λ i. ap (λ (zs : Slots). port_at zs i) gone.2 ∙ slot_set (Some new_port) xs k (Some p) None i there) (closed_serves k h' h'' m' m'' (port_at xs) p' gone.0 gone.1))
 
--- the port is told in another way
-pub turned_serves : (k : ℕ) (h h' h'' : Hub) (m m' m'' : Moves) (p q p' : Port) (xs ys : Slots) → q ≡ p → slice_get xs k ≡ Some None → ServesPort k h m q h' m' p' → IsSettled h' m' xs k p' h'' m'' ys
-    → Serves h m (with_port (port_at xs) k (Some p)) h'' m'' (port_at ys)
-turned_serves k h h' h'' m m' m'' p q p' xs ys is empty serves settled = settled_serves k h h' h'' m m' m'' p p' xs ys empty (subst (λ (x : Port). ServesPort k h m x h' m' p') is serves) settled
+pub settled_keeps : (k : ℕ) (h h' h'' : Hub) (m' m'' : Moves) (p p' : Port) (xs ys : Slots) → slice_get xs k ≡ Some (Some p) → KeepsPortMarks k h p h' p' → IsSettled h' m' xs k p' h'' m'' ys → KeepsMarks h (open_at xs) h'' (open_at ys)
+settled_keeps k h h' h'' m' m'' p p' xs ys there keeps (inl put) =
+    subst (λ (x : Hub). KeepsMarks h (open_at xs) x (open_at ys)) (sym put.0)
+    (keeps_so h h' (with_port (open_at xs) k (Some p)) (open_at xs) (with_port (open_at xs) k (Some p')) (open_at ys) (λ i. slot_here None xs k (Some p) i there) (λ i. ap (λ (zs : Slots). open_at zs i) put.2 ∙ slot_set None xs k (Some p) (Some p') i there) (keeps (open_at xs)))
+settled_keeps k h h' h'' m' m'' p p' xs ys there keeps (inr gone) =
+    both_keep h h' h'' (open_at xs) (with_port (open_at xs) k (Some p')) (open_at ys)
+    (keeps_so h h' (with_port (open_at xs) k (Some p)) (open_at xs) (with_port (open_at xs) k (Some p')) (with_port (open_at xs) k (Some p')) (λ i. slot_here None xs k (Some p) i there) (λ i. refl) (keeps (open_at xs)))
+    (keeps_so h' h'' (with_port (open_at xs) k (Some p')) (with_port (open_at xs) k (Some p')) (with_port (open_at xs) k None) (open_at ys) (λ i. refl) (λ i. ap (λ (zs : Slots). open_at zs i) gone.2 ∙ slot_set None xs k (Some p) None i there) (closed_keeps k h' h'' (open_at xs) p' gone.0))
 
 -- what is known of the hub's connection once its port is settled
 pub settled_there : (h : Hub) (k : ℕ) (fault : HubFault) (p : Port) → is_done h k p ≡ true → fault_of_take (slice_get h.connections k) ≡ Some fault → ⊥
@@ -49,20 +49,22 @@ settled_there h k fault p done none = at (slice_get h.connections k) done none w
   at None d n = absurd cc
   at (Some x) d n = absurd cc
 
--- the same, of a port that stood among the others
-pub taken_serves : (k : ℕ) (h h' : Hub) (m m' : Moves) (p : Port) (xs ys zs : Slots) → TakesOut xs k p ys → Serves h m (with_port (port_at ys) k (Some p)) h' m' (port_at zs) → Serves h m (port_at xs) h' m' (port_at zs)
-taken_serves k h h' m m' p xs ys zs out serves = serves_so h h' m m' (with_port (port_at ys) k (Some p)) (port_at xs) (port_at zs) (port_at zs) (λ i. sym (taken_out (Some new_port) xs ys k p out i)) (λ i. refl) serves
+pub open_there : (xs : Slots) (k : ℕ) (port : Port) → open_at xs k ≡ Some port → slice_get xs k ≡ Some (Some port)
+open_there xs k port e = at (slice_get xs k) e where
+  at : (s : Option (Option Port)) → unwrap_or s None ≡ Some port → s ≡ Some (Some port)
+  at None f = absurd cc
+  at (Some x) f = ap (λ (y : Option Port). Some y) f
 
 -- ---- connections that were answered
 
 -- port k, which was sent what it was answered, is settled
-pub sent_answered : (k : ℕ) (h h' h'' : Hub) (m' m'' : Moves) (p' : Port) (xs ys : Slots) → slice_get xs k ≡ Some None → Answers k h h' p' → IsSettled h' m' xs k p' h'' m'' ys → IsAnswered h'' (open_at ys) k
-sent_answered k h h' h'' m' m'' p' xs ys empty a (inl put) port e =
-    let now : Some p' ≡ Some port = sym (ap (λ (zs : Slots). open_at zs k) put.2 ∙ slot_set None xs k None (Some p') k empty ∙ ap (λ (b : Bool). cond b (Some p') (open_at xs k)) (eq-eqb k k refl)) ∙ e in
+pub sent_answered : (k : ℕ) (h h' h'' : Hub) (m' m'' : Moves) (p p' : Port) (xs ys : Slots) → slice_get xs k ≡ Some (Some p) → Answers k h h' p' → IsSettled h' m' xs k p' h'' m'' ys → IsAnswered h'' (open_at ys) k
+sent_answered k h h' h'' m' m'' p p' xs ys there a (inl put) port e =
+    let now : Some p' ≡ Some port = sym (ap (λ (zs : Slots). open_at zs k) put.2 ∙ ap (λ (s : Option (Option Port)). unwrap_or s None) (slot_now xs k (Some p) (Some p') there)) ∙ e in
     let same : p' ≡ port = cc in
     subst (λ (x : Hub). (untaken_at x k ≡ []) ⊎ (port.left ≢ Some [])) (sym put.0) (subst (λ (q : Port). (untaken_at h' k ≡ []) ⊎ (q.left ≢ Some [])) same a.answered)
-sent_answered k h h' h'' m' m'' p' xs ys empty a (inr gone) port e =
-    let now : None ≡ Some port = sym (ap (λ (zs : Slots). open_at zs k) gone.2 ∙ slot_none None xs k k empty ∙ ap (λ (b : Bool). cond b None (open_at xs k)) (eq-eqb k k refl)) ∙ e in
+sent_answered k h h' h'' m' m'' p p' xs ys there a (inr gone) port e =
+    let now : None ≡ Some port = sym (ap (λ (zs : Slots). open_at zs k) gone.2 ∙ ap (λ (s : Option (Option Port)). unwrap_or s None) (slot_now xs k (Some p) None there)) ∙ e in
     absurd cc
 
 flag_there : (flags : List Bool) (k : ℕ) → is_set flags k ≡ true → slice_get flags k ≡ Some true
@@ -93,8 +95,5 @@ named_fewer k h n names =
     omega arith
 
 -- a link that has no port is owed nothing
-pub out_answered : (k : ℕ) (h : Hub) (xs ys : Slots) → IsOut xs k ys → IsAnswered h (open_at ys) k
-out_answered k h xs ys out port e = absurd (out.here port (at (slice_get ys k) e)) where
-  at : (s : Option (Option Port)) → unwrap_or s None ≡ Some port → s ≡ Some (Some port)
-  at None f = absurd cc
-  at (Some x) f = ap (λ (y : Option Port). Some y) f
+pub none_answered : (k : ℕ) (h : Hub) (xs : Slots) → ((port : Port) → slice_get xs k ≡ Some (Some port) → ⊥) → IsAnswered h (open_at xs) k
+none_answered k h xs none port e = absurd (none port (open_there xs k port e))

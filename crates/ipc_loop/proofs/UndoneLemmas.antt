@@ -2,7 +2,7 @@
 use Rattle.std.proofs.Common.{◌≡◌, inl, inr, ℕ, Bool, true, false, ◌&&◌, eqb, cond, List, [], ◌∷◌, ◌++◌, length, slice_get, Option, Some, None, refl, sym, ap, subst, ◌∙◌, arith}
 use Rattle.std.specs.Prelude.{unwrap_or, Result, Ok, Err, IfOk, OnOk, OnErr}
 use Rattle.std.specs.Option.{option_map, option_or}
-use Rattle.std.proofs.lemmas.Bool.{eqb-true, eq-eqb}
+use Rattle.std.proofs.lemmas.Bool.{eqb-true}
 use Rattle.ipc_terms.specs.declared.call.Answer.{Answer}
 use Rattle.ipc_terms.proofs.Lists.{slice_get_push, slice_past}
 use Rattle.ipc_hub.specs.Marking.{is_set}
@@ -11,13 +11,13 @@ use Rattle.ipc_hub.specs.declared.fed.Fed.{Fed}
 use Rattle.ipc_hub.specs.declared.fed.HubFault.{HubFault}
 use Rattle.ipc_hub.specs.Sessions.{EachHasItsOwn}
 use Rattle.ipc_loop.specs.Moves.{Moved}
-use Rattle.ipc_loop.specs.Ports.{Port, new_port, open_at, with_port}
-use Rattle.ipc_loop.specs.Standing.{TakesOut, IsOut, IsSettled}
+use Rattle.ipc_loop.specs.Ports.{Port, new_port, open_at}
+use Rattle.ipc_loop.specs.Standing.{IsSettled}
 use Rattle.ipc_loop.specs.Serving.{KeepsPortMarks, LetsGo, Answers, IsUndone, IsUpToDate, IsUpToDateByMark, KeepsUpToDate, OthersStayUndone, has_no_more, is_done}
-use Rattle.ipc_loop.proofs.PortLemmas.{Slots, get_set, slot_set, slot_none, taken_out}
+use Rattle.ipc_loop.proofs.PortLemmas.{Slots, get_set, slot_now, slot_other}
 use Rattle.ipc_loop.proofs.OwingLemmas.{unmarked_before, hub_keeps, pushed_keeps, opened_untaken, opened_marked}
 use Rattle.ipc_loop.proofs.TakingLemmas.{takes_collects}
-use Rattle.ipc_loop.proofs.TurnLemmas.{settled_keeps, sent_answered, out_answered, marked_elsewhere}
+use Rattle.ipc_loop.proofs.TurnLemmas.{settled_keeps, open_there, sent_answered, none_answered, marked_elsewhere}
 
 abbrev pub Ports : Type 0
 Ports = ℕ → Option Port
@@ -66,61 +66,41 @@ lets_go_undone k h h' p lets i port other before now =
 
 -- ---- ports that are settled
 
--- link k's port is put back, if it isn't done
-pub settled_here : (k : ℕ) (h' h'' : Hub) (m' m'' : Moves) (p' : Port) (xs ys : Slots) → slice_get xs k ≡ Some None → IsSettled h' m' xs k p' h'' m'' ys → IsUndone h'' (open_at ys) k
-settled_here k h' h'' m' m'' p' xs ys empty (inl put) port e =
-    let now : Some p' ≡ Some port = sym (ap (λ (zs : Slots). open_at zs k) put.2 ∙ slot_set None xs k None (Some p') k empty ∙ ap (λ (b : Bool). cond b (Some p') (open_at xs k)) (eq-eqb k k refl)) ∙ e in
+-- link k's port stays, if it isn't done
+settled_here : (k : ℕ) (h' h'' : Hub) (m' m'' : Moves) (p p' : Port) (xs ys : Slots) → slice_get xs k ≡ Some (Some p) → IsSettled h' m' xs k p' h'' m'' ys → IsUndone h'' (open_at ys) k
+settled_here k h' h'' m' m'' p p' xs ys there (inl put) port e =
+    let now : Some p' ≡ Some port = sym (ap (λ (zs : Slots). open_at zs k) put.2 ∙ ap (λ (s : Option (Option Port)). unwrap_or s None) (slot_now xs k (Some p) (Some p') there)) ∙ e in
     let same : p' ≡ port = cc in
     subst (λ (x : Hub). is_done x k port ≡ false) (sym put.0) (subst (λ (q : Port). is_done h' k q ≡ false) same put.3)
-settled_here k h' h'' m' m'' p' xs ys empty (inr gone) port e =
-    let now : None ≡ Some port = sym (ap (λ (zs : Slots). open_at zs k) gone.2 ∙ slot_none None xs k k empty ∙ ap (λ (b : Bool). cond b None (open_at xs k)) (eq-eqb k k refl)) ∙ e in
+settled_here k h' h'' m' m'' p p' xs ys there (inr gone) port e =
+    let now : None ≡ Some port = sym (ap (λ (zs : Slots). open_at zs k) gone.2 ∙ ap (λ (s : Option (Option Port)). unwrap_or s None) (slot_now xs k (Some p) None there)) ∙ e in
     absurd cc
 
 -- and another's stays as it was
-settled_elsewhere : (k : ℕ) (h h' h'' : Hub) (m' m'' : Moves) (p p' : Port) (xs ys : Slots) → slice_get xs k ≡ Some None → OthersStayUndone k h h' → IsSettled h' m' xs k p' h'' m'' ys
-    → (i : ℕ) → eqb k i ≡ false → (is_marked h i ≡ false → IsUndone h (with_port (open_at xs) k (Some p)) i) → is_marked h'' i ≡ false → IsUndone h'' (open_at ys) i
-settled_elsewhere k h h' h'' m' m'' p p' xs ys empty others (inl put) i other before now port e =
-    let there : open_at xs i ≡ Some port = sym (ap (λ (zs : Slots). open_at zs i) put.2 ∙ slot_set None xs k None (Some p') i empty ∙ ap (λ (b : Bool). cond b (Some p') (open_at xs i)) other) ∙ e in
+settled_elsewhere : (k : ℕ) (h h' h'' : Hub) (m' m'' : Moves) (p p' : Port) (xs ys : Slots) → slice_get xs k ≡ Some (Some p) → OthersStayUndone k h h' → IsSettled h' m' xs k p' h'' m'' ys
+    → (i : ℕ) → eqb k i ≡ false → (is_marked h i ≡ false → IsUndone h (open_at xs) i) → is_marked h'' i ≡ false → IsUndone h'' (open_at ys) i
+settled_elsewhere k h h' h'' m' m'' p p' xs ys there others (inl put) i other before now port e =
+    let still : open_at xs i ≡ Some port = sym (ap (λ (zs : Slots). open_at zs i) put.2 ∙ ap (λ (s : Option (Option Port)). unwrap_or s None) (slot_other xs k (Some p) (Some p') i there other)) ∙ e in
     subst (λ (x : Hub). is_done x i port ≡ false) (sym put.0)
-    (others i port other (λ u. before u port (ap (λ (b : Bool). cond b (Some p) (open_at xs i)) other ∙ there)) (ap (λ (x : Hub). is_marked x i) (sym put.0) ∙ now))
-settled_elsewhere k h h' h'' m' m'' p p' xs ys empty others (inr gone) i other before now port e =
-    let there : open_at xs i ≡ Some port = ap (λ (zs : Slots). open_at zs i) (sym gone.2) ∙ e in
-    lets_go_undone k h' h'' p' gone.0 i port other (others i port other (λ u. before u port (ap (λ (b : Bool). cond b (Some p) (open_at xs i)) other ∙ there))) now
+    (others i port other (λ u. before u port still) (ap (λ (x : Hub). is_marked x i) (sym put.0) ∙ now))
+settled_elsewhere k h h' h'' m' m'' p p' xs ys there others (inr gone) i other before now port e =
+    let still : open_at xs i ≡ Some port = sym (ap (λ (zs : Slots). open_at zs i) gone.2 ∙ ap (λ (s : Option (Option Port)). unwrap_or s None) (slot_other xs k (Some p) None i there other)) ∙ e in
+    lets_go_undone k h' h'' p' gone.0 i port other (others i port other (λ u. before u port still)) now
 
-settled_up : (k : ℕ) (h h' h'' : Hub) (m' m'' : Moves) (p p' : Port) (xs ys : Slots) → slice_get xs k ≡ Some None → KeepsPortMarks k h p h' p' → OthersStayUndone k h h' → IsSettled h' m' xs k p' h'' m'' ys
-    → KeepsUpToDate h (with_port (open_at xs) k (Some p)) h'' (open_at ys)
-settled_up k h h' h'' m' m'' p p' xs ys empty keeps others settled i before now = (settled_keeps k h h' h'' m' m'' p p' xs ys empty keeps settled i (λ u. (before u).0) now, at (eqb k i) refl) where
+pub settled_up : (k : ℕ) (h h' h'' : Hub) (m' m'' : Moves) (p p' : Port) (xs ys : Slots) → slice_get xs k ≡ Some (Some p) → KeepsPortMarks k h p h' p' → OthersStayUndone k h h' → IsSettled h' m' xs k p' h'' m'' ys
+    → KeepsUpToDate h (open_at xs) h'' (open_at ys)
+settled_up k h h' h'' m' m'' p p' xs ys there keeps others settled i before now = (settled_keeps k h h' h'' m' m'' p p' xs ys there keeps settled i (λ u. (before u).0) now, at (eqb k i) refl) where
   at : (here : Bool) → eqb k i ≡ here → IsUndone h'' (open_at ys) i
-  at true is = subst (λ (j : ℕ). IsUndone h'' (open_at ys) j) (eqb-true k i is) (settled_here k h' h'' m' m'' p' xs ys empty settled)
-  at false is = settled_elsewhere k h h' h'' m' m'' p p' xs ys empty others settled i is (λ u. (before u).1) now
-
--- the port is told in another way
-pub turned_up : (k : ℕ) (h h' h'' : Hub) (m' m'' : Moves) (p q p' : Port) (xs ys : Slots) → q ≡ p → slice_get xs k ≡ Some None → KeepsPortMarks k h q h' p' → OthersStayUndone k h h' → IsSettled h' m' xs k p' h'' m'' ys
-    → KeepsUpToDate h (with_port (open_at xs) k (Some p)) h'' (open_at ys)
-turned_up k h h' h'' m' m'' p q p' xs ys is empty keeps others settled = settled_up k h h' h'' m' m'' p p' xs ys empty (subst (λ (x : Port). KeepsPortMarks k h x h' p') is keeps) others settled
-
--- the same ports, told in another way
-up_so : (h h' : Hub) (p q p' q' : Ports) → ((i : ℕ) → q i ≡ p i) → ((i : ℕ) → q' i ≡ p' i) → KeepsUpToDate h p h' p' → KeepsUpToDate h q h' q'
-up_so h h' p q p' q' before later a i owed now =
-    let up = a i (λ u. ((λ r f. (owed u).0 r (before i ∙ f)), (λ r f. (owed u).1 r (before i ∙ f)))) now in
-    ((λ port e. up.0 port (sym (later i) ∙ e)), (λ port e. up.1 port (sym (later i) ∙ e)))
-
--- the same, of a port that stood among the others
-pub taken_up : (k : ℕ) (h h' : Hub) (p : Port) (xs ys zs : Slots) → TakesOut xs k p ys → KeepsUpToDate h (with_port (open_at ys) k (Some p)) h' (open_at zs) → KeepsUpToDate h (open_at xs) h' (open_at zs)
-taken_up k h h' p xs ys zs out keeps = up_so h h' (with_port (open_at ys) k (Some p)) (open_at xs) (open_at zs) (open_at zs) (λ i. sym (taken_out None xs ys k p out i)) (λ i. refl) keeps
+  at true is = subst (λ (j : ℕ). IsUndone h'' (open_at ys) j) (eqb-true k i is) (settled_here k h' h'' m' m'' p p' xs ys there settled)
+  at false is = settled_elsewhere k h h' h'' m' m'' p p' xs ys there others settled i is (λ u. (before u).1) now
 
 -- port k, which was sent what it was answered, is settled
-pub sent_up : (k : ℕ) (h h' h'' : Hub) (m' m'' : Moves) (p' : Port) (xs ys : Slots) → slice_get xs k ≡ Some None → Answers k h h' p' → IsSettled h' m' xs k p' h'' m'' ys → IsUpToDate h'' (open_at ys) k
-sent_up k h h' h'' m' m'' p' xs ys empty a settled = (sent_answered k h h' h'' m' m'' p' xs ys empty a settled, settled_here k h' h'' m' m'' p' xs ys empty settled)
+pub sent_up : (k : ℕ) (h h' h'' : Hub) (m' m'' : Moves) (p p' : Port) (xs ys : Slots) → slice_get xs k ≡ Some (Some p) → Answers k h h' p' → IsSettled h' m' xs k p' h'' m'' ys → IsUpToDate h'' (open_at ys) k
+sent_up k h h' h'' m' m'' p p' xs ys there a settled = (sent_answered k h h' h'' m' m'' p p' xs ys there a settled, settled_here k h' h'' m' m'' p p' xs ys there settled)
 
 -- a link that has no port has nothing to do
-pub out_up : (k : ℕ) (h : Hub) (xs ys : Slots) → IsOut xs k ys → IsUpToDate h (open_at ys) k
-out_up k h xs ys out = (out_answered k h xs ys out, undone) where
-  undone : IsUndone h (open_at ys) k
-  undone port e = absurd (out.here port (at (slice_get ys k) e)) where
-    at : (s : Option (Option Port)) → unwrap_or s None ≡ Some port → s ≡ Some (Some port)
-    at None f = absurd cc
-    at (Some x) f = ap (λ (y : Option Port). Some y) f
+pub none_up : (k : ℕ) (h : Hub) (xs : Slots) → ((port : Port) → slice_get xs k ≡ Some (Some port) → ⊥) → IsUpToDate h (open_at xs) k
+none_up k h xs none = (none_answered k h xs none, λ port e. absurd (none port (open_there xs k port e)))
 
 -- who else isn't up to date is marked, once connection k was named and answered
 pub named_up : (k : ℕ) (h n h' : Hub) (p p' : Slots) → Names h k n → ((i : ℕ) → eqb k i ≡ false → IsUpToDateByMark n (open_at p) i → IsUpToDateByMark h' (open_at p') i) → IsUpToDate h' (open_at p') k

@@ -14,7 +14,7 @@ loop-conn-init g c = record { serves = served_nothing _ _ _; marks = c.requires;
 pub loop-conn-preserved : goal.loop-conn-preserved
 loop-conn-preserved g c = record {
   serves = serves_both _ _ _ _ _ _ _ _ _ c.loop-conn.invariant.serves (serves_both _ _ _ _ _ _ _ _ _ (named_serves c.in-Some.conn.0 _ _ _ _ c.in-Some.ensures.some) c.answer.ensures.serves);
-  marks = named_up c.in-Some.conn.0 c.loop-conn.hub c.next_answered.new.self c.answer.new.hub c.loop-conn.ports.all c.answer.new.ports.all c.in-Some.ensures.some (λ i is owed. c.answer.ensures.marks i owed) c.answer.ensures.answered c.loop-conn.invariant.marks;
+  marks = named_up c.in-Some.conn.0 c.loop-conn.hub c.next_answered.new.self c.answer.new.hub c.loop-conn.ports.all c.answer.new.self.all c.in-Some.ensures.some (λ i is owed. c.answer.ensures.marks i owed) c.answer.ensures.answered c.loop-conn.invariant.marks;
   silent = c.answer.ensures.silent ∙ c.loop-conn.invariant.silent;
   closes = closes_both _ _ _ c.loop-conn.invariant.closes c.answer.ensures.closes;
   turns = c.answer.ensures.turns ∙ c.loop-conn.invariant.turns;

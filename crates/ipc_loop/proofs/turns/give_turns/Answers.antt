@@ -1,46 +1,36 @@
-use Rattle.std.proofs.Common.{ℕ, List, [], ◌∷◌, ◌++◌, Option, refl, sym, subst, ◌∙◌}
-use Rattle.ipc_loop.specs.Ports.{Port, open_at, port_at}
-use Rattle.ipc_loop.specs.Asking.{Asks}
-use Rattle.ipc_loop.proofs.AskingLemmas.{Covers, asked_nothing, asks_both, asks_fewer, asks_gone, out_unread, out_unwritten, taken_asks, covers_all, covers_next, covers_over}
-use Rattle.ipc_loop.specs.Serving.{KeepsUpToDate}
-use Rattle.ipc_loop.proofs.ServingLemmas.{served_nothing, serves_both, same_serves}
-use Rattle.ipc_loop.proofs.TurnLemmas.{taken_serves}
-use Rattle.ipc_loop.proofs.UndoneLemmas.{taken_up}
-use Rattle.ipc_loop.proofs.OpeningLemmas.{closes_same, closes_both, taken_closes}
+use Rattle.std.proofs.Common.{◌≡◌, ℕ, Bool, false, ◌||◌, List, [], ◌∷◌, ◌++◌, refl, sym, ap, subst, ◌∙◌}
+use Rattle.ipc_loop.proofs.PortLemmas.{stands_both}
+use Rattle.ipc_loop.proofs.AskingLemmas.{Covers, asked_nothing, asks_both, asks_fewer, covers_all, covers_next, covers_over}
+use Rattle.ipc_loop.proofs.ServingLemmas.{served_nothing, serves_both}
+use Rattle.ipc_loop.proofs.OpeningLemmas.{closes_same, closes_both}
 use Rattle.ipc_loop.proofs.turns.give_turns.Goals as goal
 
-pub loop-number-init : goal.loop-number-init
-loop-number-init g c = record { serves = served_nothing _ _ _; marks = λ i owed. owed; silent = refl; closes = closes_same _ _ refl; asks = ([], (covers_all c.args.ports.now.turns, asked_nothing _ _)) }
+pub loop-hub-init : goal.loop-hub-init
+loop-hub-init g c = record { serves = served_nothing _ _ _; marks = λ i owed. owed; silent = refl; closes = closes_same _ _ refl; asks = ([], (covers_all c.args.ports.now.turns, asked_nothing _ _)) }
 
-pub loop-number-preserved-in-Some-port : goal.loop-number-preserved-in-Some-port
-loop-number-preserved-in-Some-port g c =
-    let out = rw c.in-Some-port.is at c.in-Some.ensures.port in
+pub loop-hub-preserved : goal.loop-hub-preserved
+loop-hub-preserved g c =
+    let start = c.args.ports.now.turns in
+    let had = c.loop-hub.invariant.asks.0 in
+    let k = c.in-Some.field-0 in
     record {
-      serves = serves_both _ _ _ _ _ _ _ _ _ c.loop-number.invariant.serves (taken_serves c.in-Some.number _ _ _ _ _ _ _ _ out c.turn.ensures.serves);
-      marks = λ i owed. taken_up c.in-Some.number c.loop-number.hub c.turn.new.hub c.in-Some-port.port.value c.loop-number.ports.all c.next_turn.new.self.all c.turn.new.ports.all out c.turn.ensures.marks i (c.loop-number.invariant.marks i owed);
-      silent = c.turn.ensures.silent ∙ c.loop-number.invariant.silent;
-      closes = closes_both _ _ _ c.loop-number.invariant.closes (taken_closes c.in-Some.number c.in-Some-port.port.value _ _ _ out c.turn.ensures.closes);
-      asks = (c.loop-number.invariant.asks.0 ++ c.in-Some.number ∷ [], (subst (λ (rest : List ℕ). Covers c.args.ports.now.turns (c.loop-number.invariant.asks.0 ++ c.in-Some.number ∷ []) rest) (sym c.turn.ensures.turns) (covers_next c.args.ports.now.turns c.loop-number.invariant.asks.0 c.loop-number.ports.turns c.next_turn.new.self.turns c.in-Some.number c.in-Some.ensures.first c.loop-number.invariant.asks.1.0), asks_both c.loop-number.invariant.asks.0 (c.in-Some.number ∷ []) _ _ _ _ _ _ c.loop-number.invariant.asks.1.1 (taken_asks c.in-Some.number (c.in-Some.number ∷ []) _ _ c.in-Some-port.port.value c.loop-number.ports.all c.next_turn.new.self.all c.turn.new.ports.all out c.turn.ensures.asks)));
+      serves = serves_both _ _ _ _ _ _ _ _ _ (serves_both _ _ _ _ _ _ _ _ _ c.loop-hub.invariant.serves c.turn.ensures.serves) c.keep_bound.ensures.serves;
+      marks = λ i owed. c.keep_bound.ensures.marks i (c.turn.ensures.marks i (c.loop-hub.invariant.marks i owed));
+      silent = c.keep_bound.ensures.silent ∙ c.turn.ensures.silent ∙ c.loop-hub.invariant.silent;
+      closes = closes_both _ _ _ (closes_both _ _ _ c.loop-hub.invariant.closes c.turn.ensures.closes) c.keep_bound.ensures.closes;
+      asks = (had ++ k ∷ [], (subst (λ (rest : List ℕ). Covers start (had ++ k ∷ []) rest) (sym c.keep_bound.ensures.turns) (covers_next start had c.loop-hub.ports.turns c.turn.new.self.turns k c.in-Some.ensures.first c.loop-hub.invariant.asks.1.0), asks_both had (k ∷ []) _ _ _ _ _ _ c.loop-hub.invariant.asks.1.1 (asks_both (k ∷ []) [] _ _ _ _ _ _ c.in-Some.ensures.asks c.keep_bound.ensures.asks)));
     }
 
-pub loop-number-preserved : goal.loop-number-preserved
-loop-number-preserved g c =
-    let same = rw c.in_default-port.is at c.in-Some.ensures.closed in
-    record {
-      serves = serves_both _ _ _ _ _ _ _ _ _ c.loop-number.invariant.serves (same_serves c.loop-number.hub (g.H.Host.moves c.loop-number.host) c.loop-number.ports.all c.next_turn.new.self.all same);
-      marks = subst (λ (zs : List (Option Port)). KeepsUpToDate c.args.hub.now (open_at c.args.ports.now.all) c.loop-number.hub (open_at zs)) (sym same) c.loop-number.invariant.marks;
-      silent = c.loop-number.invariant.silent;
-      closes = closes_both _ _ _ c.loop-number.invariant.closes (closes_same _ _ same);
-      asks = (c.loop-number.invariant.asks.0 ++ c.in-Some.number ∷ [], (covers_next c.args.ports.now.turns c.loop-number.invariant.asks.0 c.loop-number.ports.turns c.next_turn.new.self.turns c.in-Some.number c.in-Some.ensures.first c.loop-number.invariant.asks.1.0, asks_gone c.in-Some.number c.loop-number.invariant.asks.0 _ _ (port_at c.args.ports.now.all) (port_at c.next_turn.new.self.all) (out_unread c.in-Some.number _ _ c.in-Some.ensures.out) (out_unwritten c.in-Some.number _ _ c.in-Some.ensures.out) (subst (λ (zs : List (Option Port)). Asks c.loop-number.invariant.asks.0 (g.H.Host.moves c.args.host.now) (g.H.Host.moves c.loop-number.host) (port_at c.args.ports.now.all) (port_at zs)) (sym same) c.loop-number.invariant.asks.1.1)));
-    }
+pub returns-clause-serves : goal.returns-clause-serves
+returns-clause-serves g c = serves_both _ _ _ _ _ _ _ _ _ c.loop-hub.invariant.serves c.turn.ensures.serves
 
 pub returns-clause-marks : goal.returns-clause-marks
-returns-clause-marks g c = subst (λ (zs : List (Option Port)). KeepsUpToDate c.args.hub.now (open_at c.args.ports.now.all) c.loop-number.hub (open_at zs)) (sym c.in_default.ensures.none) c.loop-number.invariant.marks
-
-pub returns-clause-closes : goal.returns-clause-closes
-returns-clause-closes g c = closes_both _ _ _ c.loop-number.invariant.closes (closes_same _ _ c.in_default.ensures.none)
+returns-clause-marks g c = λ i owed. c.turn.ensures.marks i (c.loop-hub.invariant.marks i owed)
 
 pub returns-clause-asks : goal.returns-clause-asks
 returns-clause-asks g c =
-    subst (λ (zs : List (Option Port)). Asks c.args.ports.now.turns (g.H.Host.moves c.args.host.now) (g.H.Host.moves c.loop-number.host) (port_at c.args.ports.now.all) (port_at zs)) (sym c.in_default.ensures.none)
-    (asks_fewer c.loop-number.invariant.asks.0 c.args.ports.now.turns _ _ _ _ (covers_over c.args.ports.now.turns c.loop-number.invariant.asks.0 c.loop-number.ports.turns c.in_default.ensures.last c.loop-number.invariant.asks.1.0) c.loop-number.invariant.asks.1.1)
+    let start = c.args.ports.now.turns in
+    let had = c.loop-hub.invariant.asks.0 in
+    let none : c.loop-hub.ports.turns ≡ [] = c.in_default.ensures.first ∙ ap (λ (ts : List ℕ). ts ++ []) c.in_default.ensures.over in
+    asks_fewer (had ++ []) start _ _ _ _ (λ i on. stands_both i had [] ∙ ap (λ (b : Bool). b || false) (covers_over start had c.loop-hub.ports.turns none c.loop-hub.invariant.asks.1.0 i on))
+    (asks_both had [] _ _ _ _ _ _ c.loop-hub.invariant.asks.1.1 c.in_default.ensures.asks)

@@ -28,5 +28,5 @@ loop-preserved g c = record {
       ]);
   turns = c.note.ensures.turns ∙ c.loop.invariant.turns;
   next = listed_both _ _ _ c.loop.invariant.next c.note.ensures.next;
-  asks = asks_both [] [] _ _ _ _ _ _ c.loop.invariant.asks (subst (λ (w : Option (List Moved)). Asks [] w (g.H.Host.moves c.note.new.host) (port_at c.loop.ports.all) (port_at c.note.new.ports.all)) c.next_ready.ensures.moved c.note.ensures.asks);
+  asks = asks_both [] [] _ _ _ _ _ _ c.loop.invariant.asks (subst (λ (w : Option (List Moved)). Asks [] w (g.H.Host.moves c.note.new.host) (port_at c.loop.ports.all) (port_at c.note.new.self.all)) c.next_ready.ensures.moved c.note.ensures.asks);
 }

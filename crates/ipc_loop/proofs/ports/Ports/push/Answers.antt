@@ -16,8 +16,8 @@ overflow_add-open c =
 pub invariant_of-self-2 : goal.invariant_of-self-2
 invariant_of-self-2 c =
     let all = c.self.inside.all in
-    let place : Place = record { port = Some c.in_ok-port.port; is_queued = false } in
-    let put = ap seen c.in_ok-push.ensures.ok ∙ map_push port_in all (Some place) ∙ ap (λ (p : Port). seen all ++ Some p ∷ []) (c.in_ok-port.ensures.ok ∙ c.new.ensures) in
+    let place : Place = record { port = c.new.result; is_queued = false } in
+    let put = ap seen c.in_ok-push.ensures.ok ∙ map_push port_in all (Some place) ∙ ap (λ (p : Port). seen all ++ Some p ∷ []) c.new.ensures in
     let more = ap flags c.in_ok-push.ensures.ok ∙ map_push is_queued_in all (Some place) in
     let t = c.self.inside.turns.items in
     let n = c.self.inside.next.items in
