@@ -45,6 +45,7 @@ PEERS = {
     "one-thread": "mqserve --one-thread",
     "one-thread-unix": "mqserve --one-thread, at a Unix socket",
     "redis": "Redis",
+    "redis-unix": "Redis, at a Unix socket",
     "beanstalkd": "beanstalkd",
 }
 
@@ -61,20 +62,26 @@ SHOWN = {**PEERS, **SAVING}
 # Those that save nothing, to compare with.
 BESIDE = ["one-thread", "redis", "beanstalkd"]
 
-# mqserve's words, and whether it listens at a file; None stands for as many workers as are wanted.
+# mqserve's words; None stands for as many workers as are wanted.
 OURS = {
-    "mqserve": (None, False),
-    "unix": (None, True),
-    "one-thread": (["--one-thread"], False),
-    "one-thread-unix": (["--one-thread"], True),
-    "trail": (["--one-thread", "--trail-file", "saved/trail"], False),
-    "trail-sync": (["--one-thread", "--trail-file", "saved/trail", "--trail-sync"], False),
+    "mqserve": None,
+    "unix": None,
+    "one-thread": ["--one-thread"],
+    "one-thread-unix": ["--one-thread"],
+    "trail": ["--one-thread", "--trail-file", "saved/trail"],
+    "trail-sync": ["--one-thread", "--trail-file", "saved/trail", "--trail-sync"],
 }
+
+# Those that listen at a file, in place of a port.
+AT_FILE = {"unix", "one-thread-unix", "redis-unix"}
 
 # Those that come from elsewhere: Debian's packages have the same names.
 SERVERS = {"redis": "redis-server", "beanstalkd": "beanstalkd"}
-# What their saving kinds are told besides.
+# What they are told besides, by kind.
+NOTHING_SAVED = ["--save", "", "--appendonly", "no"]
 KINDS = {
+    "redis": ("redis", NOTHING_SAVED),
+    "redis-unix": ("redis", NOTHING_SAVED),
     "redis-everysec": ("redis", ["--dir", "saved", "--save", "", "--appendonly", "yes", "--appendfsync", "everysec"]),
     "redis-always": ("redis", ["--dir", "saved", "--save", "", "--appendonly", "yes", "--appendfsync", "always"]),
     "beanstalkd-file": ("beanstalkd", ["-b", "saved"]),
@@ -115,23 +122,21 @@ class Figure(NamedTuple):
     cost: float  # the server's processor time a message, in microseconds; NaN without a server
 
 
-def is_at_file(peer):
-    return OURS.get(peer, (None, False))[1]
-
-
 def command_of(peer, room, program, port, connections):
     """How its server is started, None for the kernel."""
+    file = room / "socket"
     if peer in OURS:
-        address = f"unix:{room / 'socket'}" if is_at_file(peer) else f"127.0.0.1:{port}"
-        words = OURS[peer][0] or ["--workers", max(4, connections)]
+        address = f"unix:{file}" if peer in AT_FILE else f"127.0.0.1:{port}"
+        words = OURS[peer] or ["--workers", max(4, connections)]
         return [program, "serve", room / "users", address, *words]
-    kind, saving = KINDS.get(peer, (peer, ["--save", "", "--appendonly", "no"] if peer == "redis" else []))
+    kind, told = KINDS.get(peer, (peer, []))
+    place = ["--port", "0", "--unixsocket", file] if peer in AT_FILE else ["--bind", "127.0.0.1", "--port", port]
     return {
         "kernel": None,
         "echo": [room / "echo_server", port],
         "least": [room / "least_server", port],
-        "redis": [SERVERS["redis"], "--bind", "127.0.0.1", "--port", port, *saving],
-        "beanstalkd": [SERVERS["beanstalkd"], "-l", "127.0.0.1", "-p", port, *saving],
+        "redis": [SERVERS["redis"], *place, *told],
+        "beanstalkd": [SERVERS["beanstalkd"], "-l", "127.0.0.1", "-p", port, *told],
     }[kind]
 
 
@@ -190,7 +195,7 @@ def processor_seconds(server):
 def measured(peer, work, room, program, seconds):
     """One figure, of a server that is started for it."""
     port = free_port()
-    place = room / "socket" if is_at_file(peer) else port
+    place = room / "socket" if peer in AT_FILE else port
     protocol = "mqserve" if peer == "least" or peer in OURS else KINDS.get(peer, (peer,))[0]
     shutil.rmtree(room / "saved", ignore_errors=True)
     (room / "saved").mkdir()
@@ -276,9 +281,9 @@ def processor():
 
 def versions(peers):
     """Of the servers that aren't ours, as they say it."""
-    for peer in peers:
-        if peer in SERVERS:
-            output = subprocess.run([SERVERS[peer], "-v"], capture_output=True, text=True, check=True).stdout
+    for kind in dict.fromkeys(KINDS.get(peer, (peer,))[0] for peer in peers):
+        if kind in SERVERS:
+            output = subprocess.run([SERVERS[kind], "-v"], capture_output=True, text=True, check=True).stdout
             yield output.partition(" sha")[0].strip()
 
 
