@@ -1,7 +1,7 @@
 //! Values at numbers: many come, all go, and then as many come and go.
 
 use anyhow::Result;
-use ipc_numbered::Numbered;
+use ipc_containers::Numbered;
 use ipc_terms::NoMemory;
 
 /// Pushes the value. Nobody comes to the last number.

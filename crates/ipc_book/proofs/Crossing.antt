@@ -12,7 +12,7 @@ use denote.Struct.Tuple.{TupleAt, type_at}
 use Rattle.std.specs.contracts.alloc.Global as heap
 use Rattle.std.specs.contracts.snapshot.Snapshot as snapshot
 use Rattle.std.proofs.option.Option.TheSendSync as option
-use Rattle.ipc_numbered.proofs.boxes.NumberedBoxes.TheSendSync as numbered
+use Rattle.ipc_containers.proofs.boxes.NumberedBoxes.TheSendSync as numbered
 use Rattle.std.proofs.vec.Vec.TheSendSync as vec
 use Rattle.std.proofs.alloc.Global.TheSendSync as global
 use Rattle.std.below.std_heap.proofs.GlobalAllocator.TheSendSync as globals
@@ -25,8 +25,8 @@ use Rattle.ipc_terms.proofs.ids.Sid.TheSendSync as sid
 use Rattle.ipc_terms.proofs.ids.Desc.TheSendSync as desc
 use Rattle.ipc_terms.proofs.object.Object.TheSendSync as object
 use Rattle.ipc_terms.proofs.facts.Facts.TheSendSync as facts
-use Rattle.ipc_waiters.proofs.buckets.Buckets.TheSendSync as buckets
-use Rattle.ipc_waiters.proofs.waiters.Waiters.TheSendSync as waiters
+use Rattle.ipc_containers.proofs.buckets.Buckets.TheSendSync as buckets
+use Rattle.ipc_containers.proofs.waiters.Waiters.TheSendSync as waiters
 use Rattle.ipc_queue.specs.contracts.contents.Contents as contents
 use Rattle.ipc_queue.specs.contracts.queue.Queue as queue
 use Rattle.ipc_queue.specs.contracts.queue.Queue.TheInside as queue_inside
@@ -44,7 +44,7 @@ use Rattle.ipc_tables.specs.contracts.tables.Tables.TheInside as tables_inside
 use Rattle.ipc_tables.specs.contracts.sessions.Sessions as sessions
 use Rattle.ipc_tables.specs.contracts.sessions.Sessions.TheInside as sessions_inside
 use Rattle.ipc_tables.proofs.rows.Session.TheSendSync as session_row
-use Rattle.ipc_numbered.proofs.numbered.Numbered.TheSendSync as numbered_values
+use Rattle.ipc_containers.proofs.numbered.Numbered.TheSendSync as numbered_values
 use Rattle.ipc_trail.specs.contracts.trail.Trail as trail
 use Rattle.ipc_trail.specs.contracts.trail.Trail.TheInside as trail_inside
 use Rattle.ipc_terms.proofs.record.Record.TheSendSync as record'

@@ -22,22 +22,22 @@ use Rattle.std.specs.contracts.boxed.Box as boxed
 use Rattle.std.proofs.boxed.Box.TheSendSync as boxes
 use Rattle.std.proofs.option.Option.TheSendSync as option
 use Rattle.std.proofs.collections.BTreeMap.TheSendSync as map
-use Rattle.ipc_deadlines.specs.declared.tree.Tree.{Tree}
-use Rattle.ipc_deadlines.specs.declared.tree.Tree.TheDeep.{deep-Node}
-use Rattle.ipc_deadlines.specs.declared.tree.Tree.TheInside.{Inside}
-use Rattle.ipc_deadlines.specs.declared.tree.Node.{Node}
-use Rattle.ipc_deadlines.specs.declared.tree.Node.TheVariants.{Leaf, Fork}
-use Rattle.ipc_deadlines.specs.contracts.tree.Tree as tree
-use Rattle.ipc_deadlines.specs.contracts.tree.Tree.TheInside as tree_inside
-use Rattle.ipc_deadlines.specs.contracts.tree.Node as node
-use Rattle.ipc_deadlines.specs.contracts.timed.Timed as timed
-use Rattle.ipc_deadlines.proofs.timed.Timed.TheSendSync as timed_sent
-use Rattle.ipc_deadlines.proofs.tree.Tree.TheLaws.TheTie.{own_is-Tree}
-use Rattle.ipc_deadlines.proofs.tree.Tree.TheLaws.TheFalls.{size_decreases}
-use Rattle.ipc_deadlines.specs.contracts.deadlines.Deadlines as deadlines
-use Rattle.ipc_deadlines.specs.contracts.deadlines.Deadlines.TheInside as deadlines_inside
-use Rattle.ipc_deadlines.specs.contracts.timed_calls.TimedCalls as timed_calls
-use Rattle.ipc_deadlines.specs.contracts.timed_calls.TimedCalls.TheInside as timed_calls_inside
+use Rattle.ipc_containers.specs.declared.tree.Tree.{Tree}
+use Rattle.ipc_containers.specs.declared.tree.Tree.TheDeep.{deep-Node}
+use Rattle.ipc_containers.specs.declared.tree.Tree.TheInside.{Inside}
+use Rattle.ipc_containers.specs.declared.tree.Node.{Node}
+use Rattle.ipc_containers.specs.declared.tree.Node.TheVariants.{Leaf, Fork}
+use Rattle.ipc_containers.specs.contracts.tree.Tree as tree
+use Rattle.ipc_containers.specs.contracts.tree.Tree.TheInside as tree_inside
+use Rattle.ipc_containers.specs.contracts.tree.Node as node
+use Rattle.ipc_containers.specs.contracts.timed.Timed as timed
+use Rattle.ipc_containers.proofs.timed.Timed.TheSendSync as timed_sent
+use Rattle.ipc_containers.proofs.tree.Tree.TheLaws.TheTie.{own_is-Tree}
+use Rattle.ipc_containers.proofs.tree.Tree.TheLaws.TheFalls.{size_decreases}
+use Rattle.ipc_containers.specs.contracts.deadlines.Deadlines as deadlines
+use Rattle.ipc_containers.specs.contracts.deadlines.Deadlines.TheInside as deadlines_inside
+use Rattle.ipc_containers.specs.contracts.timed_calls.TimedCalls as timed_calls
+use Rattle.ipc_containers.specs.contracts.timed_calls.TimedCalls.TheInside as timed_calls_inside
 
 -- ---- one value
 

@@ -4,7 +4,7 @@ use Rattle.std.proofs.lemmas.Bool.{eq-eqb, ne_eqb}
 use Rattle.std.proofs.lemmas.Bool.Decides.{nat_tests}
 use Rattle.ipc_terms.proofs.Lists.{eqb_suc}
 use Rattle.ipc_terms.specs.Lists.{changed}
-use Rattle.ipc_numbered.specs.Slots.{at, emptied}
+use Rattle.ipc_containers.specs.Slots.{at, emptied}
 
 -- a slot that changes becomes this, and each other stays
 pub slot_is : {V X : Type 0} (g : Option V → X) (f : Option V → Option V) (xs : List (Option V)) (n : ℕ) (y : Option V) → slice_get xs n ≡ Some y → (s : ℕ) → g (at (changed f xs n) s) ≡ cond (eqb n s) (g (f y)) (g (at xs s))

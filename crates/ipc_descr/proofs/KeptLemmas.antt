@@ -4,8 +4,8 @@ use Rattle.std.proofs.lemmas.Bool.Decides.{nat_tests}
 use Rattle.std.specs.Option.{option_map}
 use Rattle.slab.specs.Slab.{Slab, get, slab_len, Updates}
 use Rattle.ipc_terms.specs.Lists.{changed}
-use Rattle.ipc_numbered.specs.Slots.{at, emptied}
-use Rattle.ipc_numbered.proofs.SlotsLemmas.{slot_at, filled_push, filled_emptied}
+use Rattle.ipc_containers.specs.Slots.{at, emptied}
+use Rattle.ipc_containers.proofs.SlotsLemmas.{slot_at, filled_push, filled_emptied}
 use Rattle.ipc_descr.specs.declared.row.Row.{Row}
 use Rattle.ipc_descr.specs.Places.{IsRow, Kept}
 

@@ -6,7 +6,7 @@ use Rattle.std.specs.BTreeMap.{is_at}
 use Rattle.std.specs.Ordering.{nat_cmp}
 use Rattle.std.proofs.lemmas.Bool.Decides.{nat_tests}
 use Rattle.ipc_terms.specs.Lists.{changed}
-use Rattle.ipc_numbered.specs.Slots.{at, emptied}
+use Rattle.ipc_containers.specs.Slots.{at, emptied}
 use Rattle.ipc_descr.specs.declared.row.Row.{Row}
 use Rattle.ipc_descr.specs.Descriptions.{is_desc, is_of, if_of, row_of, without_desc, Rise}
 use Rattle.ipc_descr.specs.Places.{if_desc, row_at, row_numbered, with_row, rows_of}

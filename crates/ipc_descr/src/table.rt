@@ -4,13 +4,13 @@ ghost use Rattle.std.specs.Prelude.{◌≡◌, ◌+◌, ◌^◌, ◌<◌, [], �
 ghost use Rattle.std.specs.Option.{OnSome, option_map, option_copied, option_and_then};
 ghost use Rattle.slab.specs.Slab.{get, slab_len, Updates};
 ghost use Rattle.ipc_terms.specs.Lists.{changed, changed_first};
-ghost use Rattle.ipc_numbered.specs.Slots.{at, emptied};
+ghost use Rattle.ipc_containers.specs.Slots.{at, emptied};
 ghost use Rattle.ipc_descr.specs.Descriptions.{is_desc, if_of, row_of, without_desc, with_nonblock, with_session, Rise};
 ghost use Rattle.ipc_descr.specs.Counting.{Gone};
 ghost use Rattle.ipc_descr.specs.Places.{row_numbered};
 
 use crate::row::Row;
-use ipc_numbered::Numbered;
+use ipc_containers::Numbered;
 use ipc_terms::{Desc, NoMemory, Sid};
 use slab::Slab;
 use std::alloc::Global;

@@ -2,8 +2,8 @@
 use Rattle.std.proofs.Common.{◌≡◌, ℕ, zero, suc, ◌+◌, ◌<◌, ◌≤◌, Bool, true, false, eqb, List, [], ◌∷◌, ◌++◌, length, map, set, Option, Some, None, is_some, refl, sym, ap, subst, ◌∙◌, arith}
 use Rattle.std.proofs.lemmas.Bool.{eqb-false}
 use Rattle.ipc_terms.specs.Lists.{changed}
-use Rattle.ipc_numbered.specs.Slots.{at, emptied, how_many_filled}
-use Rattle.ipc_numbered.proofs.SlotsLemmas.{slot_at, filled_push, filled_emptied, filled_changed}
+use Rattle.ipc_containers.specs.Slots.{at, emptied, how_many_filled}
+use Rattle.ipc_containers.proofs.SlotsLemmas.{slot_at, filled_push, filled_emptied, filled_changed}
 use Rattle.ipc_hub.specs.Marking.{is_set, how_many_set, flag_in, Owners, AreListed, AreMarks, MarksView}
 use Rattle.ipc_hub.proofs.MarkLemmas.{listed_more, listed_marked, listed_named}
 

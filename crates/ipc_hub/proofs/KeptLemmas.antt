@@ -6,7 +6,7 @@ use Rattle.std.proofs.lemmas.Bool.{eqb-false, eq-eqb, ne_eqb}
 use Rattle.ipc_terms.specs.Lists.{changed}
 use Rattle.ipc_terms.specs.declared.ids.Sid.{Sid}
 use Rattle.ipc_terms.specs.declared.record.Event.{Event}
-use Rattle.ipc_numbered.specs.Slots.{at, emptied}
+use Rattle.ipc_containers.specs.Slots.{at, emptied}
 use Rattle.ipc_core.specs.Outboxes.{after_steps}
 use Rattle.ipc_core.specs.CoreView.{CoreView}
 use Rattle.ipc_hub.specs.declared.hub.Gone.{Gone}

@@ -2,7 +2,7 @@
 use Rattle.std.specs.Prelude.{◌≡◌, ◌==◌, ◌≤◌, Bool, true, false, ℕ, ◌+◌, ◌-◌, List, [], ◌∷◌, ◌++◌, length, map, take, nat_lt, slice_get, Option, Some, None, unwrap_or, if◌then◌else◌}
 use Rattle.ipc_terms.specs.Lists.{changed, Each}
 use Rattle.ipc_terms.specs.declared.ids.Sid.{Sid}
-use Rattle.ipc_numbered.specs.Slots.{at, emptied, how_many_filled}
+use Rattle.ipc_containers.specs.Slots.{at, emptied, how_many_filled}
 
 -- whether the flag of this number is set; no, where there is none
 abbrev pub is_set : List Bool → ℕ → Bool

@@ -17,7 +17,7 @@ use crate::connection::Connection;
 use crate::fed::{Fed, HubFault};
 use crate::marked_core::MarkedCore;
 use ipc_core::{Config, Core, CoreFault};
-use ipc_numbered::Numbered;
+use ipc_containers::Numbered;
 use ipc_terms::{Event, Record, Uid};
 use ipc_trail::Trail;
 use std::alloc::Global;

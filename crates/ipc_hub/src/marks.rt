@@ -4,7 +4,7 @@ ghost use Rattle.std.specs.Prelude.{◌≡◌, ◌==◌, ◌<◌, ◌++◌, ◌�
 ghost use Rattle.std.specs.Option.{option_to_list};
 ghost use Rattle.ipc_hub.specs.Marking.{is_set, owner_of, with_owner, without_newest, without_owner, MarksOwners};
 
-use ipc_numbered::Numbered;
+use ipc_containers::Numbered;
 use ipc_terms::{NoMemory, Sid};
 use std::alloc::Global;
 use std::marker::Model;

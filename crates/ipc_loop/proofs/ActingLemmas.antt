@@ -1,6 +1,6 @@
 -- A place in which something was done for the port.
 use Rattle.std.proofs.Common.{◌≡◌, ℕ, Bool, false, List, ◌∷◌, [], ◌++◌, set, slice_get, Option, Some, None, sym, ap, subst, ◌∙◌}
-use Rattle.ipc_numbered.specs.Slots.{at}
+use Rattle.ipc_containers.specs.Slots.{at}
 use Rattle.ipc_hub.specs.Hub.{Hub}
 use Rattle.ipc_loop.specs.Moves.{Moved}
 use Rattle.ipc_loop.specs.Ports.{Port}

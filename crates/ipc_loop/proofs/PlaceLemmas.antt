@@ -5,8 +5,8 @@ use Rattle.std.specs.Option.{option_map}
 use Rattle.std.proofs.lemmas.Bool.{eq-eqb}
 use Rattle.std.proofs.lemmas.Option.{slice_get-map}
 use Rattle.ipc_terms.specs.Lists.{changed}
-use Rattle.ipc_numbered.specs.Slots.{at, emptied}
-use Rattle.ipc_numbered.proofs.SlotsLemmas.{unwritten, slot_at}
+use Rattle.ipc_containers.specs.Slots.{at, emptied}
+use Rattle.ipc_containers.proofs.SlotsLemmas.{unwritten, slot_at}
 use Rattle.ipc_hub.specs.Marking.{is_set}
 use Rattle.ipc_loop.specs.Ports.{Port}
 use Rattle.ipc_loop.specs.Standing.{IsUnset, port_in, is_queued_in, seen, flags}

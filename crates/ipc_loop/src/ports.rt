@@ -5,7 +5,7 @@ ghost use Rattle.ipc_loop.specs.Ports.{new_port, has_work, how_many_open};
 ghost use Rattle.ipc_loop.specs.Standing.{EachIsQueued, IsListedSo};
 
 use crate::port::Port;
-use ipc_numbered::Numbered;
+use ipc_containers::Numbered;
 use ipc_terms::NoMemory;
 use std::alloc::Global;
 use std::marker::Model;

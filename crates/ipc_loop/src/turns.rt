@@ -12,8 +12,8 @@ use crate::ending::Ending;
 use crate::links::{Host, Ready};
 use crate::ports::{Place, Ports};
 use crate::serving::{Desk, kept};
+use ipc_containers::Numbered;
 use ipc_hub::{Conn, Hub};
-use ipc_numbered::Numbered;
 
 /// How many bytes of unfinished frames the hub keeps at most.
 const MOST_UNFINISHED: usize = 67_108_864;

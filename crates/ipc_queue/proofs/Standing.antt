@@ -3,7 +3,7 @@ use Rattle.std.proofs.Common.{◌≡◌, ⊎_elim, ℕ, ◌==◌, ◌<◌, Bool,
 use Rattle.std.proofs.lemmas.Bool.{eqb-true, eqb-false, eq-eqb, ne_eqb, ltb-true, ltb-false, cases_lt}
 use Rattle.std.specs.Prelude.{filter}
 use Rattle.ipc_terms.specs.Lists.{without_first}
-use Rattle.ipc_waiters.specs.Buckets.{IsFirstOfGreatest}
+use Rattle.ipc_containers.specs.Buckets.{IsFirstOfGreatest}
 use Rattle.ipc_queue.specs.declared.queue.Ticket.{Ticket}
 use Rattle.ipc_queue.specs.Tickets.{is_ticket, without_next, next_ticket}
 use Rattle.ipc_queue.specs.Contents.{of_priority}

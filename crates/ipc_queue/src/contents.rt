@@ -5,8 +5,8 @@ ghost use Rattle.std.specs.Option.{option_copied};
 ghost use Rattle.ipc_queue.specs.Tickets.{bytes_in, next_ticket, next_place, without_next};
 
 use crate::queue::Ticket;
+use ipc_containers::Buckets;
 use ipc_terms::NoMemory;
-use ipc_waiters::Buckets;
 use std::alloc::Global;
 use std::marker::Model;
 use std::snapshot::Snapshot;
@@ -34,7 +34,7 @@ pub struct Contents {
 
 impl Model for Contents {
     ghost use Rattle.std.specs.Prelude.{◌≡◌, List, length};
-    ghost use Rattle.ipc_waiters.specs.Buckets.{Holds};
+    ghost use Rattle.ipc_containers.specs.Buckets.{Holds};
     ghost use Rattle.ipc_queue.specs.declared.queue.Ticket.{Ticket};
 
     ghost Value = { List Ticket };

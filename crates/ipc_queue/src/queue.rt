@@ -6,8 +6,8 @@ ghost use Rattle.ipc_terms.specs.Lists.{first};
 ghost use Rattle.ipc_queue.specs.Tickets.{IsQueue, bytes_in, next_ticket, next_place, is_full_of, fired, outcome_by_receiver, send_outcome, sent_to, sent, receive_outcome, received, is_parked, withdrawn, with_registration, without_registration};
 
 use crate::contents::Contents;
+use ipc_containers::{Measured, Waiters, Waiting};
 use ipc_terms::{Bytes, Desc, NoMemory, Sid};
-use ipc_waiters::{Measured, Waiters, Waiting};
 use std::alloc::{AllocError, Global};
 use std::marker::Model;
 

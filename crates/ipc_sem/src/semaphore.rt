@@ -7,8 +7,8 @@ ghost use Rattle.ipc_terms.specs.Lists.{first};
 ghost use Rattle.ipc_terms.specs.declared.object.TheConstants.{SEM_VALUE_MAX};
 ghost use Rattle.ipc_sem.specs.Counters.{IsCounter, overflows, posted, wait_outcome, waited, tried, withdrawn};
 
+use ipc_containers::Waiters;
 use ipc_terms::{NoMemory, SEM_VALUE_MAX, Sid};
-use ipc_waiters::Waiters;
 use std::alloc::Global;
 use std::marker::Model;
 

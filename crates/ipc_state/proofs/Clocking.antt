@@ -9,9 +9,9 @@ use Rattle.ipc_terms.specs.Events.{caller}
 use Rattle.ipc_terms.specs.declared.ids.Sid.{Sid}
 use Rattle.ipc_terms.specs.declared.rule.Rule.{Rule}
 use Rattle.ipc_terms.specs.declared.record.Event.{Event}
-use Rattle.ipc_deadlines.specs.declared.timed.Timed.{Timed}
-use Rattle.ipc_deadlines.specs.Calls.{AllBelow}
-use Rattle.ipc_deadlines.specs.Sessions.{NoneOf}
+use Rattle.ipc_containers.specs.declared.timed.Timed.{Timed}
+use Rattle.ipc_containers.specs.Calls.{AllBelow}
+use Rattle.ipc_containers.specs.Sessions.{NoneOf}
 use Rattle.ipc_policy.specs.declared.config.Config.{Config}
 use Rattle.ipc_policy.specs.History.{History, after_accepted}
 use Rattle.ipc_policy.specs.Timed.{now, told}

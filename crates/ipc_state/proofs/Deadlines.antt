@@ -4,8 +4,8 @@ use Rattle.std.specs.Prelude.{find, max, nat_le}
 use Rattle.std.specs.List.{list_any}
 use Rattle.std.specs.Option.{option_map, IfSome, IfNone}
 use Rattle.std.proofs.lemmas.Bool.{leb-true}
-use Rattle.ipc_deadlines.specs.declared.timed.Timed.{Timed}
-use Rattle.ipc_deadlines.specs.Calls.{is_over, IsLeast}
+use Rattle.ipc_containers.specs.declared.timed.Timed.{Timed}
+use Rattle.ipc_containers.specs.Calls.{is_over, IsLeast}
 use Rattle.ipc_policy.specs.declared.config.Config.{Config}
 use Rattle.ipc_policy.specs.History.{History}
 use Rattle.ipc_policy.specs.Timed.{now, deadline_at, is_past}

@@ -11,8 +11,8 @@ use Rattle.ipc_terms.specs.declared.call.Call.TheVariants.{MqSend, MqReceive, Se
 use Rattle.ipc_terms.specs.declared.call.Attributes.{Attributes}
 use Rattle.ipc_terms.specs.declared.record.Event.{Event}
 use Rattle.ipc_terms.specs.declared.record.Event.TheVariants.{Do, Tick}
-use Rattle.ipc_deadlines.specs.declared.timed.Timed.{Timed}
-use Rattle.ipc_deadlines.specs.Calls.{is_over}
+use Rattle.ipc_containers.specs.declared.timed.Timed.{Timed}
+use Rattle.ipc_containers.specs.Calls.{is_over}
 use Rattle.ipc_queue.specs.declared.queue.ParkedSend.{ParkedSend}
 use Rattle.ipc_queue.specs.Tickets.{Tickets}
 use Rattle.ipc_sem.specs.Counters.{Counter}

@@ -12,7 +12,7 @@ use Rattle.ipc_terms.specs.declared.call.Call.TheVariants.{MqSend, MqReceive, Se
 use Rattle.ipc_terms.specs.declared.record.Event.{Event}
 use Rattle.ipc_terms.specs.declared.record.Event.TheVariants.{Hello, Do, Hangup, Tick}
 use Rattle.ipc_terms.proofs.Lists.{eqb_swapped}
-use Rattle.ipc_deadlines.specs.declared.timed.Timed.{Timed}
+use Rattle.ipc_containers.specs.declared.timed.Timed.{Timed}
 use Rattle.ipc_policy.specs.declared.config.Config.{Config}
 use Rattle.ipc_policy.specs.declared.config.Held.{Held}
 use Rattle.ipc_policy.specs.History.{History, after_accepted, is_some_and}

@@ -6,9 +6,9 @@ use Rattle.ipc_terms.specs.declared.ids.Sid.{Sid}
 use Rattle.ipc_terms.specs.declared.call.Call.TheVariants.{MqSend, MqReceive, SemPost, Interrupt}
 use Rattle.ipc_terms.specs.declared.record.Event.{Event}
 use Rattle.ipc_terms.specs.declared.record.Event.TheVariants.{Do, Hangup, Tick}
-use Rattle.ipc_deadlines.specs.declared.timed.Timed.{Timed}
-use Rattle.ipc_deadlines.specs.Calls.{AllBelow}
-use Rattle.ipc_deadlines.specs.Sessions.{NoneOf}
+use Rattle.ipc_containers.specs.declared.timed.Timed.{Timed}
+use Rattle.ipc_containers.specs.Calls.{AllBelow}
+use Rattle.ipc_containers.specs.Sessions.{NoneOf}
 use Rattle.ipc_tables.specs.TablesView.{TablesView}
 use Rattle.ipc_state.specs.declared.clock.Clock.{Clock}
 use Rattle.ipc_state.specs.Agrees.{IsCore}

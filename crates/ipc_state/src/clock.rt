@@ -4,12 +4,12 @@ ghost use Rattle.std.specs.Prelude.{◌≡◌, ◌&&◌, find, length, max, is_n
 ghost use Rattle.std.specs.Option.{option_map, IfSome};
 ghost use Rattle.ipc_terms.specs.Events.{caller};
 ghost use Rattle.ipc_terms.specs.Timed.{deadline};
-ghost use Rattle.ipc_deadlines.specs.Calls.{is_over};
+ghost use Rattle.ipc_containers.specs.Calls.{is_over};
 ghost use Rattle.ipc_policy.specs.Timed.{told};
 ghost use Rattle.ipc_policy.specs.CallLists.{dropped, joined};
 ghost use Rattle.ipc_state.specs.OnTime.{MayCome, new_call, session_of, with_calls};
 
-use ipc_deadlines::{Timed, TimedCalls};
+use ipc_containers::{Timed, TimedCalls};
 use ipc_terms::{Call, Event, NoMemory, Rule, Sid};
 use ipc_trail::Trail;
 use std::alloc::Global;

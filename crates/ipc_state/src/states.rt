@@ -18,7 +18,7 @@ use crate::accept::change;
 use crate::clock::{Clock, due_at, leave, push, session_in, tell, timed_call};
 use crate::looking::is_live_in;
 use crate::lookup::Meant;
-use ipc_deadlines::TimedCalls;
+use ipc_containers::TimedCalls;
 use ipc_policy::Config;
 use ipc_tables::Tables;
 use ipc_terms::{Event, NoMemory, Record, Rule, Sid};

@@ -5,7 +5,7 @@ use Rattle.std.proofs.lemmas.Bool.Decides.{nat_tests}
 use Rattle.std.proofs.lemmas.List.Elements.{filter_map-append}
 use Rattle.std.proofs.lemmas.List.Sums.{sum_by-cons}
 use Rattle.ipc_terms.specs.Lists.{changed, changed_first}
-use Rattle.ipc_numbered.specs.Slots.{at as slot_at, emptied, NoneBetween, IsNextFrom}
+use Rattle.ipc_containers.specs.Slots.{at as slot_at, emptied, NoneBetween, IsNextFrom}
 use Rattle.ipc_tables.specs.declared.rows.ObjectRow.{ObjectRow}
 use Rattle.ipc_tables.specs.Objects.{is_number}
 use Rattle.ipc_tables.specs.Standing.{rows_of, InPlace}

@@ -5,7 +5,7 @@ use Rattle.std.specs.Prelude.{option_and_then}
 use Rattle.std.specs.Borrow.{MutBor}
 use Rattle.std.specs.Option.{OnSome, option_copied_mut}
 use Rattle.ipc_terms.specs.Lists.{changed_first}
-use Rattle.ipc_numbered.specs.Slots.{at as slot_at}
+use Rattle.ipc_containers.specs.Slots.{at as slot_at}
 use Rattle.ipc_queue.specs.Tickets.{Tickets}
 use Rattle.ipc_sem.specs.Counters.{Counter}
 use Rattle.ipc_tables.specs.declared.objects.Objects.{Objects}

@@ -5,7 +5,7 @@ use Rattle.std.specs.Option.{option_copied_mut}
 use Rattle.std.specs.Prelude.{OnSome}
 use Rattle.ipc_terms.specs.Lists.{changed, changed_first}
 use Rattle.ipc_terms.proofs.Lists.{count_changed}
-use Rattle.ipc_numbered.specs.Slots.{at as slot_at}
+use Rattle.ipc_containers.specs.Slots.{at as slot_at}
 use Rattle.ipc_tables.specs.declared.objects.Objects.{Objects}
 use Rattle.ipc_tables.specs.declared.rows.Body.{Body}
 use Rattle.ipc_tables.specs.declared.rows.ObjectRow.{ObjectRow}

@@ -4,7 +4,7 @@ use Rattle.std.specs.Prelude.{option_and_then}
 use Rattle.ipc_terms.specs.Lists.{changed}
 use Rattle.ipc_terms.specs.declared.ids.Uid.{Uid}
 use Rattle.ipc_terms.specs.declared.ids.Mode.{Mode}
-use Rattle.ipc_numbered.specs.Slots.{at, emptied}
+use Rattle.ipc_containers.specs.Slots.{at, emptied}
 use Rattle.ipc_tables.specs.declared.rows.Session.{Session}
 use Rattle.ipc_tables.specs.TablesView.{is_live_row, live_row, live_session, live_at, parked_on_at}
 use Rattle.ipc_tables.specs.Steps.{first_row, with_mask, with_parked, hung_up}

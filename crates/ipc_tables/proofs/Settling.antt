@@ -6,7 +6,7 @@ use Rattle.std.proofs.lemmas.Bool.Decides.{nat_tests}
 use Rattle.ipc_descr.specs.declared.charges.Charge.{Charge}
 use Rattle.ipc_descr.specs.Charges.{used_of, with_less}
 use Rattle.ipc_terms.specs.Lists.{changed}
-use Rattle.ipc_numbered.specs.Slots.{at as slot_at, emptied}
+use Rattle.ipc_containers.specs.Slots.{at as slot_at, emptied}
 use Rattle.ipc_tables.specs.declared.rows.ObjectRow.{ObjectRow}
 use Rattle.ipc_tables.specs.Objects.{is_number}
 use Rattle.ipc_tables.specs.Charging.{taken_by, taken, Covered, settled}

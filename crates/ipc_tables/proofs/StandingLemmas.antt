@@ -18,7 +18,7 @@ use Rattle.ipc_queue.specs.Tickets.{Tickets, is_full_of, with_sender, with_ticke
 use Rattle.ipc_sem.specs.Counters.{Counter}
 use Rattle.ipc_descr.specs.declared.row.Row.{Row}
 use Rattle.ipc_descr.specs.Descriptions.{is_desc, is_to, is_open, with_nonblock, with_session}
-use Rattle.ipc_numbered.specs.Slots.{at as slot_at}
+use Rattle.ipc_containers.specs.Slots.{at as slot_at}
 use Rattle.ipc_tables.specs.declared.objects.Objects.{Objects}
 use Rattle.ipc_tables.specs.declared.rows.Body.{Body}
 use Rattle.ipc_tables.specs.declared.rows.Body.TheVariants.{Queue as QueueBody, Semaphore as SemaphoreBody}

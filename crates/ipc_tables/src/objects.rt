@@ -9,9 +9,9 @@ ghost use Rattle.ipc_tables.specs.Standing.{rows_in, IsCounted, OthersKept, Othe
 
 use crate::counts::Counts;
 use crate::rows::ObjectRow;
+use ipc_containers::NumberedBoxes;
 use ipc_descr::{Charges, Descrs, bytes_of};
 use ipc_names::NameDir;
-use ipc_numbered::NumberedBoxes;
 use ipc_queue::Queue;
 use ipc_sem::Sem;
 use ipc_terms::Kind;

@@ -6,7 +6,7 @@ ghost use Rattle.ipc_tables.specs.Steps.{first_row, with_mask, with_parked, hung
 ghost use Rattle.ipc_tables.specs.TablesView.{live_at, live_session, parked_on_at};
 
 use crate::rows::Session;
-use ipc_numbered::Numbered;
+use ipc_containers::Numbered;
 use ipc_terms::{Mode, NoMemory, Sid, Uid};
 use std::alloc::Global;
 use std::marker::Model;

@@ -1,6 +1,6 @@
 //! Parked calls with deadlines: whose is due, which deadline is the least, and what is left when one ends.
 
-use ipc_deadlines::{Deadlines, Timed, TimedCalls};
+use ipc_containers::{Deadlines, Timed, TimedCalls};
 use ipc_terms::Sid;
 use std::test::Fail;
 

@@ -1,6 +1,6 @@
 //! Values at numbers, as a table of steps.
 
-use ipc_numbered::{Numbered, NumberedBoxes};
+use ipc_containers::{Numbered, NumberedBoxes};
 use ipc_terms::NoMemory;
 use std::alloc::Global;
 use std::test::Fail;

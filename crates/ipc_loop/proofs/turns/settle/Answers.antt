@@ -3,7 +3,7 @@ use Rattle.std.specs.Prelude.{unwrap_or}
 use Rattle.std.specs.Option.{option_copied_mut}
 use Rattle.ipc_terms.specs.Lists.{changed}
 use Rattle.ipc_terms.proofs.Lists.{count_changed}
-use Rattle.ipc_numbered.specs.Slots.{at, emptied}
+use Rattle.ipc_containers.specs.Slots.{at, emptied}
 use Rattle.ipc_loop.specs.declared.ending.Ending.{Ending}
 use Rattle.ipc_loop.specs.declared.ending.Ending.TheVariants.{NoMemory}
 use Rattle.ipc_loop.specs.Moves.{GoOn, LinkClosed}

@@ -1,8 +1,8 @@
 use Rattle.std.proofs.Common.{◌≡◌, ◌∙◌, eqb, cond, Some, slice_get, sym, ap}
 use Rattle.std.specs.Option.{option_copied_mut}
 use Rattle.ipc_terms.specs.Lists.{changed}
-use Rattle.ipc_numbered.specs.Slots.{at, emptied}
-use Rattle.ipc_numbered.proofs.SlotsLemmas.{slot_at}
+use Rattle.ipc_containers.specs.Slots.{at, emptied}
+use Rattle.ipc_containers.proofs.SlotsLemmas.{slot_at}
 use Rattle.ipc_core.specs.Boxes.{untaken_in}
 use Rattle.ipc_core.specs.declared.outboxes.Outbox.{Outbox}
 use Rattle.ipc_core.proofs.BoxSlots.{slot_is, emptied_after}

@@ -3,8 +3,8 @@ use Rattle.std.proofs.lemmas.Bool.Decides.{nat_tests}
 use Rattle.ipc_terms.specs.declared.call.Answer.{Answer}
 use Rattle.std.specs.Option.{option_copied_mut}
 use Rattle.ipc_terms.specs.Lists.{changed}
-use Rattle.ipc_numbered.specs.Slots.{at, emptied}
-use Rattle.ipc_numbered.proofs.SlotsLemmas.{slot_at}
+use Rattle.ipc_containers.specs.Slots.{at, emptied}
+use Rattle.ipc_containers.proofs.SlotsLemmas.{slot_at}
 use Rattle.ipc_core.specs.Boxes.{untaken_in}
 use Rattle.ipc_core.specs.declared.outboxes.Outbox.{Outbox}
 use Rattle.ipc_core.proofs.BoxSlots.{slot_each, emptied_after}

@@ -1,6 +1,6 @@
 use Rattle.std.proofs.Common.{◌≡◌, ◌≤◌, ◌∙◌, false, cond, [], Option, Some, None, slice_get, refl, sym, ap, subst, arith}
 use Rattle.std.proofs.lemmas.Bool.{eq-eqb}
-use Rattle.ipc_numbered.specs.Slots.{at}
+use Rattle.ipc_containers.specs.Slots.{at}
 use Rattle.ipc_core.specs.Boxes.{untaken_in, room_in}
 use Rattle.ipc_core.specs.declared.outboxes.Outbox.{Outbox}
 use Rattle.ipc_core.proofs.BoxSlots.{slot_is, slot_each}

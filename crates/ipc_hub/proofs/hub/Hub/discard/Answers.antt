@@ -1,7 +1,7 @@
 use Rattle.std.proofs.Common.{◌≡◌, [], ℕ, ◌<◌, Bool, true, false, cond, List, length, set, slice_get, Option, Some, None, refl, sym, ap, subst, ◌∙◌, arith}
 use Rattle.std.specs.Prelude.{unwrap_or}
 use Rattle.std.specs.Option.{option_copied_mut, option_map}
-use Rattle.ipc_numbered.specs.Slots.{at}
+use Rattle.ipc_containers.specs.Slots.{at}
 use Rattle.ipc_hub.specs.Hub.{Hub, Connection}
 use Rattle.ipc_hub.specs.Gone.{all_of, gone_at}
 use Rattle.ipc_hub.specs.Sessions.{Stands}

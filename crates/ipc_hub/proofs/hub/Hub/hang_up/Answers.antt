@@ -1,6 +1,6 @@
 use Rattle.std.proofs.Common.{◌≡◌, false, List, length, set, slice_get, Some, sym, ap, subst, ◌∙◌, arith}
 use Rattle.std.specs.Option.{option_copied_mut}
-use Rattle.ipc_numbered.specs.Slots.{at}
+use Rattle.ipc_containers.specs.Slots.{at}
 use Rattle.ipc_hub.specs.Hub.{Hub, Connection, fault_of_change, hang_up_of}
 use Rattle.ipc_hub.specs.Gone.{all_of}
 use Rattle.ipc_hub.specs.Sessions.{Stands}

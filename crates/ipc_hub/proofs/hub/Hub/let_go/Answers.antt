@@ -1,7 +1,7 @@
 use Rattle.std.proofs.Common.{◌≡◌, ℕ, true, false, eqb, cond, List, Some, Option, refl, sym, ap, subst, ◌∙◌, arith}
 use Rattle.std.specs.Prelude.{unwrap_or}
 use Rattle.std.specs.Option.{option_copied, option_map}
-use Rattle.ipc_numbered.specs.Slots.{at}
+use Rattle.ipc_containers.specs.Slots.{at}
 use Rattle.ipc_hub.specs.Hub.{Hub, Connection, IsGone, is_over_at}
 use Rattle.ipc_hub.specs.Gone.{all_of, gone_at, AreAway}
 use Rattle.ipc_hub.specs.MarkedCore.{MarkedView}

@@ -1,6 +1,6 @@
 use Rattle.std.proofs.Common.{◌≡◌, ◌<◌, ◌∙◌, false, not, length, Option, Some, None, is_some, Bor, refl, sym, ap, subst, arith}
 use Rattle.std.specs.Option.{option_copied}
-use Rattle.ipc_numbered.specs.Slots.{at}
+use Rattle.ipc_containers.specs.Slots.{at}
 use Rattle.ipc_hub.specs.Gone.{all_of, gone_at, AreAway}
 use Rattle.ipc_hub.specs.MarkedCore.{MarkedView}
 use Rattle.ipc_hub.proofs.MarkLemmas.{set_within}

@@ -1,6 +1,6 @@
 use Rattle.std.proofs.Common.{◌≡◌, [], ◌<◌, List, length, set, slice_get, Some, None, sym, ap, subst, ◌∙◌, arith}
 use Rattle.std.specs.Option.{option_copied_mut}
-use Rattle.ipc_numbered.specs.Slots.{at}
+use Rattle.ipc_containers.specs.Slots.{at}
 use Rattle.ipc_hub.specs.Hub.{Hub, Connection}
 use Rattle.ipc_hub.specs.Gone.{all_of, gone_at}
 use Rattle.ipc_hub.specs.Sessions.{Stands}

@@ -1,6 +1,6 @@
 use Rattle.std.proofs.Common.{◌≡◌, ◌≤◌, ◌∙◌, true, false, Some, vec_capacity, sym, ap, arith}
 use Rattle.std.specs.Option.{option_copied}
-use Rattle.ipc_numbered.specs.Slots.{at}
+use Rattle.ipc_containers.specs.Slots.{at}
 use Rattle.ipc_hub.specs.Marking.{is_set, MarksView}
 use Rattle.ipc_hub.proofs.FlagLemmas.{kept_flag, no_flag, fewer_set, emptied_marks, LetsGo, lets_go}
 use Rattle.ipc_hub.proofs.marks.Marks.let_go.Goals as goal

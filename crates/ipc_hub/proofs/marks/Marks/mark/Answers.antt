@@ -2,7 +2,7 @@ use Rattle.std.proofs.Common.{◌≡◌, ◌<◌, ◌∙◌, Bool, true, false, 
 use Rattle.std.proofs.lemmas.Grind.{common_steps}
 use Rattle.std.specs.Option.{option_copied_mut}
 use Rattle.ipc_terms.specs.Lists.{changed}
-use Rattle.ipc_numbered.specs.Slots.{at}
+use Rattle.ipc_containers.specs.Slots.{at}
 use Rattle.ipc_hub.specs.Marking.{is_set, MarksView}
 use Rattle.ipc_hub.proofs.FlagLemmas.{kept_flag, kept_within, fewer_set, marked_marks, written_view}
 use Rattle.ipc_hub.proofs.KeptLemmas.{same_written}

@@ -1,6 +1,6 @@
 use Rattle.std.proofs.Common.{◌≡◌, ◌∙◌, ℕ, Bool, true, false, List, map, Option, Some, None, vec_capacity, sym, ap, subst}
 use Rattle.std.specs.Option.{option_copied_mut}
-use Rattle.ipc_numbered.specs.Slots.{at}
+use Rattle.ipc_containers.specs.Slots.{at}
 use Rattle.ipc_hub.specs.Marking.{is_set, flag_in, AreListed, MarksView}
 use Rattle.ipc_hub.proofs.MarkLemmas.{was_listed}
 use Rattle.ipc_hub.proofs.FlagLemmas.{kept_flag, set_is_kept, named_marks, written_view}

@@ -1,6 +1,6 @@
 use Rattle.std.proofs.Common.{ap, ◌∙◌}
 use Rattle.std.specs.Prelude.{min}
-use Rattle.ipc_waiters.proofs.Holding.{held_alike}
+use Rattle.ipc_containers.proofs.Holding.{held_alike}
 use Rattle.ipc_queue.specs.Tickets.{bytes_in}
 use Rattle.ipc_queue.specs.Contents.{present}
 use Rattle.ipc_queue.proofs.Standing.{priority_filtered}

@@ -1,5 +1,5 @@
 use Rattle.std.proofs.Common.{[], refl}
-use Rattle.ipc_waiters.proofs.Holding.{none_held}
+use Rattle.ipc_containers.proofs.Holding.{none_held}
 use Rattle.ipc_queue.specs.Contents.{of_priority}
 use Rattle.ipc_queue.proofs.contents.Contents.new.Goals as goal
 

@@ -1,6 +1,6 @@
 use Rattle.std.proofs.Common.{sym, ap, ◌∙◌, arith}
 use Rattle.std.specs.Option.{option_map}
-use Rattle.ipc_waiters.proofs.Holding.{held_alike}
+use Rattle.ipc_containers.proofs.Holding.{held_alike}
 use Rattle.ipc_queue.specs.Tickets.{next_place, without_next}
 use Rattle.ipc_queue.specs.Contents.{present, of_priority}
 use Rattle.ipc_queue.proofs.Leaving.{without_none, one_left}

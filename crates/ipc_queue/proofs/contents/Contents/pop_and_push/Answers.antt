@@ -1,6 +1,6 @@
 use Rattle.std.proofs.Common.{[], ◌∷◌, length, length-append, sym, ap, ◌∙◌, arith}
 use Rattle.std.specs.Option.{option_map}
-use Rattle.ipc_waiters.proofs.Holding.{still_held, entered, left}
+use Rattle.ipc_containers.proofs.Holding.{still_held, entered, left}
 use Rattle.ipc_queue.specs.Tickets.{next_place, without_next}
 use Rattle.ipc_queue.specs.Contents.{present, of_priority}
 use Rattle.ipc_queue.proofs.Leaving.{none_there, one_left}

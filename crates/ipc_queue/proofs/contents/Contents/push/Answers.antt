@@ -1,5 +1,5 @@
 use Rattle.std.proofs.Common.{[], ◌∷◌, length-append, arith}
-use Rattle.ipc_waiters.proofs.Holding.{still_held, entered}
+use Rattle.ipc_containers.proofs.Holding.{still_held, entered}
 use Rattle.ipc_queue.specs.Contents.{present, of_priority}
 use Rattle.ipc_queue.proofs.Standing.{priority_push}
 use Rattle.ipc_queue.proofs.contents.Contents.push.Goals as goal

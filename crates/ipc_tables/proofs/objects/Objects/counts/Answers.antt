@@ -2,7 +2,7 @@ use Rattle.std.proofs.Common.{◌≡◌, ℕ, ◌+◌, ◌<◌, ◌≤◌, ◌�
 use Rattle.std.specs.Prelude.{min}
 use Rattle.std.specs.Option.{option_copied}
 use Rattle.std.proofs.lemmas.List.Sums.{count_by-le-length}
-use Rattle.ipc_numbered.proofs.NumbersLemmas.{value_within}
+use Rattle.ipc_containers.proofs.NumbersLemmas.{value_within}
 use Rattle.ipc_tables.specs.declared.counts.Counts.{Counts}
 use Rattle.ipc_tables.specs.Objects.{is_queue, is_semaphore, messages_in, bytes_of_messages}
 use Rattle.ipc_tables.specs.Standing.{rows_in}

@@ -2,7 +2,7 @@ use Rattle.std.proofs.Common.{◌≡◌, ℕ, ◌+◌, Bool, true, false, cond, 
 use Rattle.std.specs.Option.{option_map}
 use Rattle.std.specs.Int.{from_bool}
 use Rattle.ipc_terms.proofs.Lists.{count_changed}
-use Rattle.ipc_numbered.specs.Slots.{at as slot_at, emptied}
+use Rattle.ipc_containers.specs.Slots.{at as slot_at, emptied}
 use Rattle.ipc_tables.specs.Objects.{is_queue}
 use Rattle.ipc_tables.specs.TablesView.{is_alive, is_kept}
 use Rattle.ipc_tables.specs.Standing.{rows_in, rows_of}

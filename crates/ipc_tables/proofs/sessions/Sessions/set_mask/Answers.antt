@@ -1,6 +1,6 @@
 use Rattle.std.proofs.Common.{refl, sym, ap, ◌∙◌}
 use Rattle.std.specs.Option.{option_copied_mut}
-use Rattle.ipc_numbered.specs.Slots.{at}
+use Rattle.ipc_containers.specs.Slots.{at}
 use Rattle.ipc_tables.specs.Sessions.{sessions_of}
 use Rattle.ipc_tables.specs.Steps.{with_mask}
 use Rattle.ipc_tables.proofs.SessionRowsLemmas.{row_set, row_absent, masked_unparked}

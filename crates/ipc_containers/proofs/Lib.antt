@@ -1,0 +1,9 @@
+pub mod Holding
+pub mod Sizes
+pub mod Arrivals
+pub mod SlotsLemmas
+pub mod NumbersLemmas
+pub mod BoxesLemmas
+pub mod CallsLemmas
+pub mod TreeAt
+pub mod KeptPlaces

@@ -1,0 +1,9 @@
+pub mod Bucket
+pub mod Buckets
+pub mod Waiters
+pub mod Numbers
+pub mod Slots
+pub mod Calls
+pub mod Sessions
+pub mod Trees
+pub mod Falls

@@ -1,3 +1,0 @@
-pub mod CallsLemmas
-pub mod TreeAt
-pub mod KeptPlaces

@@ -1,4 +1,0 @@
-pub mod Calls
-pub mod Sessions
-pub mod Trees
-pub mod Falls

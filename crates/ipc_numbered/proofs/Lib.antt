@@ -1,3 +1,0 @@
-pub mod SlotsLemmas
-pub mod NumbersLemmas
-pub mod BoxesLemmas

@@ -1,5 +1,0 @@
-use Rattle.std.proofs.Common.{rules}
-use Rattle.ipc_waiters.proofs.buckets.Buckets.first_of.Goals as goal
-
-pub returns : goal.returns
-returns g c = search rules
