@@ -18,7 +18,7 @@ ghost use Rattle.ipc_state.specs.Ranges.{first_bad};
 use crate::answer::{Posted, Told, answers_to};
 use crate::fault::CoreFault;
 use crate::outboxes::Outboxes;
-use crate::posting::{ended, for_live, make_room, put_all, starts};
+use crate::posting::{for_live, hung_up, make_room, put_all, starts};
 use ipc_policy::Config;
 use ipc_rules::decide;
 use ipc_state::{Lookup, Meant, State, first_bad};
@@ -295,10 +295,10 @@ impl Core {
         ensures ok { OnOk result (self.new ≡ after_step event self.old) }
         ensures err { OnErr result (self.new ≡ self.old) }
     {
-        let ended = ended(rule, &event);
+        let hung_up = hung_up(rule, &event);
         make_room(&mut self.outboxes, &told)?;
         self.state.add(alloc, event, rule, meant)?;
-        put_all(&mut self.outboxes, told, ended);
+        put_all(&mut self.outboxes, told, hung_up);
         Ok(())
     }
 

@@ -25,8 +25,8 @@ pub fn starts(rule: Option<Rule>, event: &Event) -> bool
     }
 }
 
-/// The session that ends where this is the verdict on the event.
-pub fn ended(rule: Option<Rule>, event: &Event) -> Option<Sid> {
+/// The session that is hung up where this is the verdict on the event.
+pub fn hung_up(rule: Option<Rule>, event: &Event) -> Option<Sid> {
     match (rule, event) {
         (None, Event::Hangup { sid }) => Some(*sid),
         _ => None,
@@ -89,9 +89,9 @@ pub fn make_room(outboxes: &mut Outboxes, told: &Told) -> Result<(), NoMemory>
     Ok(())
 }
 
-/// Puts each answer at the end of its session's outbox, and closes that of the session that ended.
+/// Puts each answer at the end of its session's outbox, and closes that of the session that was hung up.
 /// Takes no memory.
-pub fn put_all(outboxes: &mut Outboxes, told: Told, ended: Option<Sid>)
+pub fn put_all(outboxes: &mut Outboxes, told: Told, hung_up: Option<Sid>)
     requires { HasRooms (told_list told) outboxes.old }
     ensures { (s : ℕ) → untaken_by outboxes.new s ≡ untaken_by outboxes.old s ++ for_session s (told_list told) }
 {
@@ -103,7 +103,7 @@ pub fn put_all(outboxes: &mut Outboxes, told: Told, ended: Option<Sid>)
             outboxes.put(other.0, other.1);
         }
     }
-    if let Some(sid) = ended {
+    if let Some(sid) = hung_up {
         outboxes.close(sid);
     }
 }

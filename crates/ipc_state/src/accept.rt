@@ -30,34 +30,8 @@ use ipc_terms::{
 use ipc_trail::Trail;
 use std::alloc::Global;
 
-/// Brings the tables up to date with an event after this past, on which this is the verdict. An `Err`
-/// changes nothing.
-pub fn change(
-    alloc: Global,
-    tables: &mut Tables,
-    config: &Config,
-    past: &Trail,
-    event: &Event,
-    rule: Option<Rule>,
-    meant: Meant,
-) -> Result<(), NoMemory>
-    requires core { IsCore config.now past.now.history tables.old }
-    requires verdict { rule ≡ verdict config.now past.now.history event.now }
-    requires held { meant.held ≡ by_description (object_by past.now.history) event.now }
-    requires bound { meant.bound ≡ by_name (object_bound past.now.history) event.now }
-    requires ended { verdict config.now past.now.history event.now ≡ None → option_map (λ s. s.0) meant.ended ≡ ended_call config.now past.now.history (plain event.now) }
-    requires room { length past.now.history + 1 < 2 ^ 63 }
-    ensures ok { OnOk result (IsCore config.now (record { event = event.now; rule = rule } ∷ past.now.history) tables.new) }
-    ensures err { OnErr result (tables.new ≡ tables.old) }
-{
-    if rule.is_none() {
-        accept(alloc, tables, config, past, event, meant)?;
-    }
-    Ok(())
-}
-
-/// Does the same for an event that is accepted.
-fn accept(
+/// Brings the tables up to date with an event after this past, which is accepted. An `Err` changes nothing.
+pub fn accept(
     alloc: Global,
     tables: &mut Tables,
     config: &Config,

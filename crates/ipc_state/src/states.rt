@@ -14,7 +14,7 @@ ghost use Rattle.ipc_state.specs.Meetings.{by_description, by_name, object_by, o
 ghost use Rattle.ipc_state.specs.NextDeadline.{IsNextDeadline, EndsOncePast};
 ghost use Rattle.ipc_state.specs.OnTime.{ended_call, IsOnTime, IsState};
 
-use crate::accept::change;
+use crate::accept::accept;
 use crate::clock::{Clock, due_at, leave, push, session_in, tell, timed_call};
 use crate::looking::is_live_in;
 use crate::lookup::Meant;
@@ -204,11 +204,11 @@ fn step(
 {
     let call = timed_call(past, event, rule, meant.parks);
     push(clock, alloc, call)?;
-    if let Err(full) = change(alloc, tables, config, past, event, rule, meant) {
-        leave(clock, session_in(call));
-        return Err(full);
-    }
     if rule.is_none() {
+        if let Err(full) = accept(alloc, tables, config, past, event, meant) {
+            leave(clock, session_in(call));
+            return Err(full);
+        }
         leave(clock, meant.ended);
         tell(clock, event);
     }
