@@ -5,46 +5,14 @@ ghost use Rattle.std.specs.Option.{option_map};
 ghost use Rattle.ipc_terms.specs.Lists.{first};
 ghost use Rattle.ipc_terms.specs.Pages.{page};
 ghost use Rattle.ipc_terms.specs.Lines.{lines};
-ghost use Rattle.ipc_policy.specs.Sessions.{hellos};
-ghost use Rattle.ipc_policy.specs.Descriptions.{opens};
-ghost use Rattle.ipc_policy.specs.Life.{names};
 ghost use Rattle.ipc_policy.specs.Queues.{next};
 ghost use Rattle.ipc_state.specs.StateView.{brought, queue_by, semaphore_by, value_by};
 ghost use Rattle.ipc_state.specs.Meetings.{by_description};
 
 use crate::message::Message;
 use ipc_state::Lookup;
-use ipc_terms::{Family, Lines, Names, NoMemory, Sid};
+use ipc_terms::{Lines, NoMemory, Sid};
 use std::alloc::Global;
-
-/// How many sessions were started: the number of the next one.
-pub fn session_count(lookup: &Lookup<'_>) -> u64
-    ensures { result ≡ hellos lookup.now.history }
-{
-    lookup.tables().session_count() as u64
-}
-
-/// A page of the names that are bound, in the order in which they were created: from the position
-/// `start` on, counted from 0, at most `count` and at most 1,000.
-pub fn names(
-    lookup: &Lookup<'_>,
-    alloc: Global,
-    family: Family,
-    start: u32,
-    count: u16,
-) -> Result<Names, NoMemory>
-    ensures { IfOk result (λ listed. listed ≡ page start count (names lookup.now.history family)) }
-{
-    let listed = lookup.tables().names(family).list(alloc, start, count)?;
-    Ok(listed)
-}
-
-/// How many descriptions were opened: the number of the next one.
-pub fn opened(lookup: &Lookup<'_>) -> u64
-    ensures { result ≡ opens lookup.now.history }
-{
-    lookup.tables().descriptions().opened()
-}
 
 /// How many messages the queue has that the caller has by the description of the event.
 pub fn messages_held(lookup: &Lookup<'_>) -> Option<u32>

@@ -10,7 +10,6 @@ ghost use Rattle.ipc_policy.specs.Charges.{bytes_of};
 ghost use Rattle.ipc_terms.specs.declared.object.TheConstants.{SEM_VALUE_MAX};
 ghost use Rattle.ipc_policy.specs.Rules.{is_some_and, is_not_admin, above_limit, is_of_family, denied, denied_at, removal_denied, change_denied, reads_only, writes_only, bits_wanted, out_of_range};
 
-use crate::questions::{charged, limit};
 use ipc_access::{Cred, READ, WRITE, grants, may_chmod, may_chown, may_remove};
 use ipc_descr::checked_bytes_of;
 use ipc_policy::{Config, HARD_MSG_MAX, HARD_MSGSIZE_MAX, Held, kind_of};
@@ -203,8 +202,8 @@ pub fn is_above_limit(lookup: &Lookup<'_>, who: Option<&Cred>, given: Option<Att
     let (Some(who), Some(given)) = (who, given) else {
         return false;
     };
-    match limit(lookup, who.uid) {
-        Some(most) => takes_more(most, charged(lookup, who.uid), given),
+    match lookup.limit(who.uid) {
+        Some(most) => takes_more(most, lookup.charged(who.uid), given),
         None => false,
     }
 }

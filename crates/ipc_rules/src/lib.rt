@@ -2,7 +2,6 @@
 #![tactic(auto)]
 
 mod conditions;
-mod questions;
 mod rules;
 
 pub use rules::decide;

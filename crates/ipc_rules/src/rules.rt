@@ -11,7 +11,6 @@ use crate::conditions::{
     is_denied, is_denied_at, is_known, is_not_admin, is_of_family, is_out_of_range, is_read_only,
     is_removal_denied, is_too_great, is_too_long, is_too_short, is_write_only, queue_made,
 };
-use crate::questions::{held_count, queues_alive};
 use bitflags::Flags;
 use ipc_access::{READ, SEARCH, WRITE};
 use ipc_names::{has_form, is_long};
@@ -407,7 +406,7 @@ fn queue_count(lookup: &Lookup<'_>) -> bool
     is_creating(lookup, &asked)
         && queue_made(lookup.config(), asked.kind).is_some()
         && is_not_admin(lookup.cred())
-        && lookup.config().limits.queues_max as usize <= queues_alive(lookup)
+        && lookup.config().limits.queues_max as usize <= lookup.queues_alive()
 }
 
 /// A creating open of a queue, and the caller's queues and the new one take more bytes together than
@@ -440,10 +439,10 @@ fn descr_limit(lookup: &Lookup<'_>) -> bool
         ..
     } = lookup.event()
     {
-        return held_count(lookup, *taker) >= DESCRIPTIONS_MAX;
+        return lookup.held_count(*taker) >= DESCRIPTIONS_MAX;
     }
     match opening_of(lookup.event()) {
-        Some(asked) => held_count(lookup, asked.session) >= DESCRIPTIONS_MAX,
+        Some(asked) => lookup.held_count(asked.session) >= DESCRIPTIONS_MAX,
         None => false,
     }
 }

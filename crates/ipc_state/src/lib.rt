@@ -8,6 +8,7 @@ mod clock;
 mod limits;
 mod looking;
 mod lookup;
+mod questions;
 mod states;
 
 pub use limits::{Field, first_bad};

@@ -119,7 +119,7 @@ impl<'a> Lookup<'a> {
     }
 
     /// The tables, which say the same as the history.
-    pub fn tables(&self) -> &'a Tables
+    pub(crate) fn tables(&self) -> &'a Tables
         ensures { IsCore self.now.config self.now.history result.now }
     {
         self.tables

@@ -1,7 +1,7 @@
 use Rattle.std.proofs.Common.{◌∙◌, sym, ap}
 use Rattle.std.specs.Option.{option_copied}
 use Rattle.ipc_state.proofs.ChargeTables.{limit_absent, limit_present, limit_found}
-use Rattle.ipc_rules.proofs.questions.limit.Goals as goal
+use Rattle.ipc_state.proofs.lookup.Lookup.limit.Goals as goal
 
 pub returns-in_err-cred : goal.returns-in_err-cred
 returns-in_err-cred c =

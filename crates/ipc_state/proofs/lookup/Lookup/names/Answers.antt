@@ -2,7 +2,7 @@ use Rattle.std.proofs.Common.{ap, ◌∙◌}
 use Rattle.ipc_terms.specs.Pages.{page}
 use Rattle.ipc_names.specs.Directory.{Directory, bound_names}
 use Rattle.ipc_state.proofs.Lookups.{names_are, directory_agrees}
-use Rattle.ipc_core.proofs.questions.names.Goals as goal
+use Rattle.ipc_state.proofs.lookup.Lookup.names.Goals as goal
 
 pub returns : goal.returns
 returns c =

@@ -1,7 +1,7 @@
 use Rattle.std.proofs.Common.{ap, ◌∙◌, count_by}
 use Rattle.ipc_descr.specs.Descriptions.{Descriptions, is_of}
 use Rattle.ipc_state.proofs.Lookups.{counts_is}
-use Rattle.ipc_rules.proofs.questions.held_count.Goals as goal
+use Rattle.ipc_state.proofs.lookup.Lookup.held_count.Goals as goal
 
 pub returns : goal.returns
 returns c =
