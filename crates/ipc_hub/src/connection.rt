@@ -1,6 +1,6 @@
 //! What a hub keeps of a connection.
 
-ghost use Rattle.std.specs.Prelude.{◌≡◌, ◌++◌, ◌<◌, ◌≤◌, [], false, true, drop, is_none, is_some, length, None, Some, IsSome, IfOk, OnOk, OnErr, vec_len};
+ghost use Rattle.std.specs.Prelude.{◌≡◌, ◌+◌, ◌++◌, ◌<◌, ◌≤◌, [], false, true, drop, is_none, is_some, length, None, Some, IsSome, IfOk, OnOk, OnErr, vec_len, vec_capacity};
 ghost use Rattle.ipc_core.specs.Outboxes.{after_steps};
 ghost use Rattle.ipc_fields.specs.Field.{◌⊕◌};
 ghost use Rattle.ipc_wire.specs.Streams.{cut};
@@ -59,11 +59,46 @@ impl Stream {
         ensures err { OnErr result (self.new ≡ self.old) }
         ensures core { OnErr result (core.new ≡ core.old) }
     {
+        if self.kept.is_empty() && piece.len() <= KEPT_ROOM {
+            return self.feed_first(core, alloc, own, most, piece);
+        }
         self.kept.extend_from_slice(piece)?;
         let (fed, rest) = step_frames(core, alloc, own, most, &mut self.session, &self.kept);
         let stepped = self.kept.len() - rest.len();
         drop_front(alloc, &mut self.kept, stepped);
         Ok(fed)
+    }
+
+    /// The same, where nothing is kept: the frames are read where the piece lies, and what was not stepped is copied.
+    fn feed_first(
+        &mut self,
+        core: &mut MarkedCore,
+        alloc: Global,
+        own: u64,
+        most: Option<usize>,
+        piece: &[u8],
+    ) -> Result<Fed, NoMemory>
+        requires flagged { is_set core.old.flagged own ≡ true }
+        requires first { self.old.kept ≡ [] }
+        ensures ok { IfOk result (λ fed. StepsFrames fed core.old.core self.old.session piece.now core.new.core self.new.session self.new.kept) }
+        ensures marks { IfOk result (λ fed. Ends fed own most core.old self.old.session core.new self.new.session) }
+        ensures err { OnErr result (self.new ≡ self.old) }
+        ensures core { OnErr result (core.new ≡ core.old) }
+    {
+        self.kept.reserve(piece.len())?;
+        let (fed, rest) = step_frames(core, alloc, own, most, &mut self.session, piece);
+        put_reserved(&mut self.kept, rest);
+        Ok(fed)
+    }
+}
+
+/// Puts the bytes at the end, where there is room for them.
+fn put_reserved(bytes: &mut Vec<u8>, more: &[u8])
+    requires { length bytes.old.items + length more.now ≤ vec_capacity bytes.old }
+    ensures { bytes.new.items ≡ bytes.old.items ++ more.now }
+{
+    for byte in more {
+        bytes.push_reserved(*byte);
     }
 }
 

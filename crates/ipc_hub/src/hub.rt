@@ -16,8 +16,8 @@ ghost use Rattle.ipc_hub.specs.declared.fed.HubFault.TheVariants.{NoMemory as Re
 use crate::connection::Connection;
 use crate::fed::{Fed, HubFault};
 use crate::marked_core::MarkedCore;
-use ipc_core::{Config, Core, CoreFault};
 use ipc_containers::Numbered;
+use ipc_core::{Config, Core, CoreFault};
 use ipc_terms::{Event, Record, Uid};
 use ipc_trail::Trail;
 use std::alloc::Global;
