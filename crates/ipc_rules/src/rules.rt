@@ -5,6 +5,7 @@ ghost use Rattle.ipc_terms.specs.Timed.{plain};
 ghost use Rattle.ipc_policy.specs.Names.{creating, opening};
 ghost use Rattle.ipc_policy.specs.Rules.{no_session, in_call, not_in_call, name_form, name_long, not_admin, no_user, bad_descr, not_for_write, not_for_read, dir_search, dir_read, absent, present, mode_denied, dir_write, sticky, not_owner, chown_denied, attr_range, value_range, queue_count, byte_limit, descr_limit, prio_range, message_long, buffer_short, notify_taken, would_block, overflow, bad_key, timed_out, no_taker};
 ghost use Rattle.ipc_policy.specs.Verdict.{verdict};
+ghost use Rattle.ipc_rules.specs.Spoken.{first_of, of_messages, of_values, of_descriptions};
 
 use crate::conditions::{
     as_queue, attributes_asked, bits_of, is_above_limit, is_chmod_denied, is_chown_denied,
@@ -28,10 +29,81 @@ macro_rules! first_of {
     }};
 }
 
-/// The rule of the lowest number that forbids the event, if one does. The rules are inlined, since most are of another call,
-/// and calling them costs more than to see that.
-#[tactic(auto, unfolding(ipc_policy::specs::Verdict::verdict, ipc_policy::specs::Rules::forbids))]
+/// The rule of the lowest number that forbids the event, if one does. Of most calls few rules speak, and only those are asked.
 pub fn decide(lookup: &Lookup<'_>) -> Option<Rule>
+    ensures { result ≡ verdict lookup.now.config lookup.now.history lookup.now.event }
+{
+    let Event::Do { call, .. } = lookup.event() else {
+        return of_all(lookup);
+    };
+    match call {
+        Call::MqSend { .. }
+        | Call::MqReceive { .. }
+        | Call::MqTimedSend { .. }
+        | Call::MqTimedReceive { .. } => of_messages(lookup),
+        Call::SemPost(_) | Call::SemWait(_) | Call::SemTryWait(_) | Call::SemTimedWait { .. } => {
+            of_values(lookup)
+        }
+        Call::Umask(_)
+        | Call::MqClose(_)
+        | Call::MqGetattr(_)
+        | Call::MqSetattr { .. }
+        | Call::SemClose(_)
+        | Call::SemGetvalue(_) => of_descriptions(lookup),
+        _ => of_all(lookup),
+    }
+}
+
+/// Which of the rules that speak of a send or a receive is the first that forbids it. Like all rules they are inlined: calling
+/// them costs more than to see that they forbid nothing.
+#[tactic(auto, unfolding(ipc_policy::specs::Rules::forbids))]
+fn of_messages(lookup: &Lookup<'_>) -> Option<Rule>
+    ensures { result ≡ first_of of_messages lookup.now.config lookup.now.history lookup.now.event }
+{
+    first_of!(lookup,
+        NoSession => no_session,
+        InCall => in_call,
+        BadDescr => bad_descr,
+        NotForWrite => not_for_write,
+        NotForRead => not_for_read,
+        PrioRange => prio_range,
+        MessageLong => message_long,
+        BufferShort => buffer_short,
+        WouldBlock => would_block,
+        TimedOut => timed_out,
+    )
+}
+
+/// The same of a post or a wait.
+#[tactic(auto, unfolding(ipc_policy::specs::Rules::forbids))]
+fn of_values(lookup: &Lookup<'_>) -> Option<Rule>
+    ensures { result ≡ first_of of_values lookup.now.config lookup.now.history lookup.now.event }
+{
+    first_of!(lookup,
+        NoSession => no_session,
+        InCall => in_call,
+        BadDescr => bad_descr,
+        WouldBlock => would_block,
+        Overflow => overflow,
+        TimedOut => timed_out,
+    )
+}
+
+/// The same of a call that asks or sets something of a description alone, or of its session.
+#[tactic(auto, unfolding(ipc_policy::specs::Rules::forbids))]
+fn of_descriptions(lookup: &Lookup<'_>) -> Option<Rule>
+    ensures { result ≡ first_of of_descriptions lookup.now.config lookup.now.history lookup.now.event }
+{
+    first_of!(lookup,
+        NoSession => no_session,
+        InCall => in_call,
+        BadDescr => bad_descr,
+    )
+}
+
+/// Which of all rules is the first that forbids the event.
+#[tactic(auto, unfolding(ipc_policy::specs::Verdict::verdict, ipc_policy::specs::Rules::forbids))]
+fn of_all(lookup: &Lookup<'_>) -> Option<Rule>
     ensures { result ≡ verdict lookup.now.config lookup.now.history lookup.now.event }
 {
     first_of!(lookup,
