@@ -87,7 +87,7 @@ def rules_of_map():
 
 def compare_rules(it, edits):
     rows = {path.stem for path in CRATES.glob("*/data/*/*") if path.suffix == ".in"}
-    definitions = set(re.findall(r"^(?:abbrev |unfoldable )?pub (\w+) :", text("crates/ipc_policy/specs/Rules.antt"), re.M))
+    definitions = set(re.findall(r"^(?:abbrev |unfoldable )?pub (\w+) :", text("crates/ipc_policy/specs/Decides/Rules.antt"), re.M))
     asked = dict(re.findall(r"^        (\w+) => (\w+),$", text("crates/ipc_rules/src/rules.rt"), re.M))
     number, error, name = variants("Rule", "crates/ipc_terms/src/rule.rt"), arms("errno"), arms("name")
     table = rules_of_map()

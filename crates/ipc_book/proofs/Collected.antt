@@ -6,9 +6,9 @@ use Rattle.ipc_terms.specs.declared.call.Answer.{Answer}
 use Rattle.ipc_terms.specs.declared.rule.Rule.{Rule}
 use Rattle.ipc_terms.specs.declared.record.Event.TheVariants.{Tick}
 use Rattle.ipc_trail.specs.declared.audit.Receipt.{Receipt}
-use Rattle.ipc_policy.specs.Bodies.{due}
-use Rattle.ipc_policy.specs.Sessions.{hellos}
-use Rattle.ipc_policy.specs.Verdict.{Legal, verdict, outbox}
+use Rattle.ipc_policy.specs.Decides.Bodies.{due}
+use Rattle.ipc_policy.specs.Decides.Sessions.{hellos}
+use Rattle.ipc_policy.specs.Decides.Verdict.{Legal, verdict, outbox}
 use Rattle.ipc_state.specs.Ranges.{first_bad}
 use Rattle.ipc_core.specs.CoreView.{CoreView}
 use Rattle.ipc_core.specs.Outboxes.{BoxesAgree}

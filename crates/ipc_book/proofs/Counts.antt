@@ -7,7 +7,7 @@ use Rattle.ipc_book.specs.declared.entry.Entry.{Entry}
 use Rattle.std.proofs.lemmas.Option.{get_or_from_slice_get, same_Some, none-some}
 use Rattle.std.specs.Option.{option_map}
 use Rattle.ipc_terms.specs.declared.record.Record.{Record}
-use Rattle.ipc_policy.specs.History.{History, record_at}
+use Rattle.ipc_policy.specs.Decides.History.{History, record_at}
 use Rattle.ipc_policy.proofs.Histories.Moments.{place_below}
 use Rattle.ipc_book.specs.Seats.{SeatView, IsInOrder}
 use Rattle.ipc_book.specs.Closing.{entry_of, entry_at, IsInTrail, AllInTrail, Occurs, Counted, all_kept, AreTheTrail, FirstMissing}

@@ -8,8 +8,8 @@ use Rattle.ipc_terms.specs.declared.record.Event.{Event}
 use Rattle.ipc_terms.specs.declared.record.Record.{Record}
 use Rattle.ipc_trail.specs.declared.audit.Receipt.{Receipt}
 use Rattle.ipc_trail.specs.Receipts.{receipt_of}
-use Rattle.ipc_policy.specs.History.{History, record_at}
-use Rattle.ipc_policy.specs.Verdict.{verdict}
+use Rattle.ipc_policy.specs.Decides.History.{History, record_at}
+use Rattle.ipc_policy.specs.Decides.Verdict.{verdict}
 use Rattle.ipc_policy.proofs.Histories.Moments.{place_below, record_now}
 use Rattle.ipc_core.specs.CoreView.{CoreView}
 use Rattle.ipc_core.specs.Outboxes.{after_step}

@@ -1,6 +1,6 @@
 -- What a fault of a close says of the seats alone.
 use Rattle.std.proofs.Common.{◌≡◌, ℕ, ◌<◌, ◌⊎◌, List, [], ◌∷◌, inl, inr, arith}
-use Rattle.ipc_policy.specs.History.{History}
+use Rattle.ipc_policy.specs.Decides.History.{History}
 use Rattle.ipc_book.specs.declared.entry.Entry.{Entry}
 use Rattle.ipc_book.specs.declared.entry.CloseFault.{CloseFault}
 use Rattle.ipc_book.specs.declared.entry.CloseFault.TheVariants.{SeatOut, Missing, NoMemory}

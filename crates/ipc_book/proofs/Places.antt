@@ -5,7 +5,7 @@ use Rattle.std.specs.Option.{option_map, option_or}
 use Rattle.std.proofs.lemmas.Bool.{eqb-true}
 use Rattle.std.proofs.lemmas.Option.{same_Some, slice_get_within, slice_get_cases}
 use Rattle.ipc_terms.proofs.Lists.{slice_get_push}
-use Rattle.ipc_policy.specs.History.{History}
+use Rattle.ipc_policy.specs.Decides.History.{History}
 use Rattle.ipc_book.specs.declared.entry.Entry.{Entry}
 use Rattle.ipc_book.specs.Seats.{receipt_at, IsCurrent, IsInOrder}
 use Rattle.ipc_book.proofs.LastReceipts.{receipt_below}

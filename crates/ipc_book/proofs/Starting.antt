@@ -5,9 +5,9 @@ use Rattle.ipc_terms.specs.declared.ids.Uid.{Uid}
 use Rattle.ipc_terms.specs.declared.rule.Rule.{Rule}
 use Rattle.ipc_terms.specs.declared.record.Event.TheVariants.{Hello}
 use Rattle.ipc_policy.specs.declared.config.Config.{Config}
-use Rattle.ipc_policy.specs.History.{History}
-use Rattle.ipc_policy.specs.Sessions.{hellos}
-use Rattle.ipc_policy.specs.Verdict.{verdict, answers}
+use Rattle.ipc_policy.specs.Decides.History.{History}
+use Rattle.ipc_policy.specs.Decides.Sessions.{hellos}
+use Rattle.ipc_policy.specs.Decides.Verdict.{verdict, answers}
 use Rattle.ipc_core.specs.CoreView.{CoreView}
 use Rattle.ipc_core.specs.Outboxes.{session_at}
 use Rattle.ipc_core.proofs.PostedLemmas.{hello_answered}

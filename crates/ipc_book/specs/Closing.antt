@@ -4,7 +4,7 @@ use Rattle.std.specs.Option.{option_map}
 use Rattle.ipc_terms.specs.Lines.{line_of}
 use Rattle.ipc_terms.specs.declared.record.Record.{Record}
 use Rattle.ipc_trail.specs.Receipts.{receipt_of}
-use Rattle.ipc_policy.specs.History.{History, record_at}
+use Rattle.ipc_policy.specs.Decides.History.{History, record_at}
 use Rattle.ipc_book.specs.declared.entry.Entry.{Entry}
 use Rattle.ipc_book.specs.declared.entry.CloseFault.{CloseFault}
 use Rattle.ipc_book.specs.declared.entry.CloseFault.TheVariants.{SeatOut, Missing, NoMemory}

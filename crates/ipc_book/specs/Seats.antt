@@ -11,9 +11,9 @@ use Rattle.ipc_terms.specs.declared.record.Event.TheVariants.{Hello, Do, Hangup,
 use Rattle.ipc_trail.specs.declared.audit.Receipt.{Receipt}
 use Rattle.ipc_trail.specs.Receipts.{receipt_of}
 use Rattle.ipc_policy.specs.declared.config.Config.{Config}
-use Rattle.ipc_policy.specs.History.{History, record_at}
-use Rattle.ipc_policy.specs.Sessions.{hellos}
-use Rattle.ipc_policy.specs.Verdict.{verdict, answers, Legal}
+use Rattle.ipc_policy.specs.Decides.History.{History, record_at}
+use Rattle.ipc_policy.specs.Decides.Sessions.{hellos}
+use Rattle.ipc_policy.specs.Decides.Verdict.{verdict, answers, Legal}
 use Rattle.ipc_state.specs.Ranges.{first_bad}
 use Rattle.ipc_core.specs.CoreView.{CoreView}
 use Rattle.ipc_core.specs.Boxes.{box_at}

@@ -4,8 +4,8 @@ ghost use Rattle.std.specs.Prelude.{◌≡◌, ◌<◌, ◌≤◌, ◌+◌, ◌^
 ghost use Rattle.std.specs.Option.{option_map};
 ghost use Rattle.ipc_terms.specs.declared.record.Event.TheVariants.{Hello, Do, Hangup, Tick};
 ghost use Rattle.ipc_terms.specs.Ops.{tick_number};
-ghost use Rattle.ipc_policy.specs.Bodies.{due};
-ghost use Rattle.ipc_policy.specs.Verdict.{Legal, verdict, answers};
+ghost use Rattle.ipc_policy.specs.Decides.Bodies.{due};
+ghost use Rattle.ipc_policy.specs.Decides.Verdict.{Legal, verdict, answers};
 ghost use Rattle.ipc_access.specs.Users.{user_of_key};
 ghost use Rattle.ipc_state.specs.Ranges.{first_bad};
 ghost use Rattle.ipc_core.specs.Outboxes.{BoxesAgree, session_at};

@@ -4,7 +4,7 @@ ghost use Rattle.std.specs.Prelude.{◌≡◌, ◌≤◌, None, Ok, [], length, 
 ghost use Rattle.ipc_terms.specs.declared.record.Event.TheVariants.{Hello, Do, Hangup, Tick};
 ghost use Rattle.ipc_access.specs.Users.{user_of_key};
 ghost use Rattle.ipc_policy.specs.declared.config.Config.{Config};
-ghost use Rattle.ipc_policy.specs.Verdict.{Legal};
+ghost use Rattle.ipc_policy.specs.Decides.Verdict.{Legal};
 ghost use Rattle.ipc_state.specs.Ranges.{first_bad};
 ghost use Rattle.ipc_book.specs.Seats.{BookView, session_of, without_full};
 ghost use Rattle.ipc_book.specs.Locked.{ReceiptSays, EndedCall, DueSays, AnswersSay, StaleSays};

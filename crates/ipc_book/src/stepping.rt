@@ -1,7 +1,7 @@
 //! One event of a seat, over the fields of a book and of the seat.
 
 ghost use Rattle.std.specs.Prelude.{◌≡◌, ◌+◌, ◌≢◌, None, Some, OnOk, OnErr, IfOk, IfErr, IfSome};
-ghost use Rattle.ipc_policy.specs.Verdict.{verdict, answers};
+ghost use Rattle.ipc_policy.specs.Decides.Verdict.{verdict, answers};
 ghost use Rattle.ipc_core.specs.Outboxes.{session_at};
 ghost use Rattle.ipc_book.specs.Seats.{IsCurrent, Stepped, StaleExactly, last_receipt, receipt_at, without_event};
 

@@ -9,10 +9,10 @@ use Rattle.ipc_terms.specs.declared.object.Kind.TheVariants.{Queue as QueueKind,
 use Rattle.ipc_terms.specs.declared.object.Object.{Object}
 use Rattle.ipc_policy.specs.declared.config.Config.{Config}
 use Rattle.ipc_policy.specs.declared.config.Held.{Held}
-use Rattle.ipc_policy.specs.History.{History}
-use Rattle.ipc_policy.specs.Objects.{object}
-use Rattle.ipc_policy.specs.Descriptions.{holds}
-use Rattle.ipc_policy.specs.Rules.{is_of_family, not_held, object_held, attributes_held}
+use Rattle.ipc_policy.specs.Decides.History.{History}
+use Rattle.ipc_policy.specs.Decides.Objects.{object}
+use Rattle.ipc_policy.specs.Decides.Descriptions.{holds}
+use Rattle.ipc_policy.specs.Decides.Rules.{is_of_family, not_held, object_held, attributes_held}
 use Rattle.ipc_policy.proofs.Histories.Unforbidden.{off}
 
 a_queue : (w : Option Object) → is_of_family Mq w ≡ true → IsSome (as_queue w)

@@ -13,10 +13,10 @@ use Rattle.ipc_terms.specs.declared.record.Event.{Event}
 use Rattle.ipc_terms.specs.declared.record.Event.TheVariants.{Hello, Do, Hangup, Tick}
 use Rattle.ipc_core.specs.Boxes.{box_at, of_first, taken}
 use Rattle.ipc_policy.specs.declared.config.Config.{Config}
-use Rattle.ipc_policy.specs.History.{History}
-use Rattle.ipc_policy.specs.Sessions.{hellos, live}
-use Rattle.ipc_policy.specs.Verdict.{verdict, answers, answers_at, accepted_answers, for_session, outbox, after_event, after_events}
-use Rattle.ipc_policy.specs.Grow.{live_after}
+use Rattle.ipc_policy.specs.Decides.History.{History}
+use Rattle.ipc_policy.specs.Decides.Sessions.{hellos, live}
+use Rattle.ipc_policy.specs.Decides.Verdict.{verdict, answers, answers_at, accepted_answers, for_session, outbox, after_event, after_events}
+use Rattle.ipc_policy.specs.Follows.Grow.{live_after}
 use Rattle.ipc_policy.proofs.Directories.Living.{append_none}
 use Rattle.ipc_policy.proofs.Histories.Grown.{grows}
 use Rattle.ipc_policy.proofs.Histories.Refused.{same_values}

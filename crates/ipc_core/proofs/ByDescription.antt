@@ -13,13 +13,13 @@ use Rattle.ipc_queue.specs.Tickets.{Tickets, next_ticket}
 use Rattle.ipc_sem.specs.Counters.{Counter}
 use Rattle.ipc_policy.specs.declared.asking.Described.{Described}
 use Rattle.ipc_policy.specs.declared.config.Config.{Config}
-use Rattle.ipc_policy.specs.History.{History, is_some_and}
-use Rattle.ipc_policy.specs.Descriptions.{holds}
-use Rattle.ipc_policy.specs.Queues.{Send, next}
-use Rattle.ipc_policy.specs.Bodies.{is_full, is_empty}
-use Rattle.ipc_policy.specs.Registrations.{registered}
-use Rattle.ipc_policy.specs.Rules.{attributes_held}
-use Rattle.ipc_policy.specs.Verdict.{Legal, answers_of, noticed, send_answers}
+use Rattle.ipc_policy.specs.Decides.History.{History, is_some_and}
+use Rattle.ipc_policy.specs.Decides.Descriptions.{holds}
+use Rattle.ipc_policy.specs.Decides.Queues.{Send, next}
+use Rattle.ipc_policy.specs.Decides.Bodies.{is_full, is_empty}
+use Rattle.ipc_policy.specs.Decides.Registrations.{registered}
+use Rattle.ipc_policy.specs.Decides.Rules.{attributes_held}
+use Rattle.ipc_policy.specs.Decides.Verdict.{Legal, answers_of, noticed, send_answers}
 use Rattle.ipc_state.specs.Agrees.{receiver_of}
 use Rattle.ipc_state.specs.StateView.{brought, queue_by, semaphore_by, value_by}
 use Rattle.ipc_state.specs.Meetings.{description, by_description, queue_held, semaphore_held}

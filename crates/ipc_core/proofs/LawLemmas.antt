@@ -3,7 +3,7 @@ use Rattle.std.proofs.Common.{ℕ, List, [], ◌∷◌, ◌++◌, sym, ap, ◌�
 use Rattle.std.proofs.lemmas.List.{append-nil}
 use Rattle.ipc_terms.specs.declared.call.Answer.{Answer}
 use Rattle.ipc_terms.specs.declared.record.Event.{Event}
-use Rattle.ipc_policy.specs.Verdict.{outbox}
+use Rattle.ipc_policy.specs.Decides.Verdict.{outbox}
 use Rattle.ipc_policy.proofs.Outcomes.Outboxes.{outbox_after}
 use Rattle.ipc_core.specs.Boxes.{box_at}
 use Rattle.ipc_core.specs.Laws.{EachIsAdded, Gains, AllIsKept}

@@ -11,14 +11,14 @@ use Rattle.ipc_terms.specs.declared.call.Attributes.{Attributes}
 use Rattle.ipc_policy.specs.declared.config.Config.{Config}
 use Rattle.ipc_policy.specs.declared.config.Held.{Held}
 use Rattle.ipc_policy.specs.declared.config.Registration.{Registration}
-use Rattle.ipc_policy.specs.History.{History, is_some_and}
-use Rattle.ipc_policy.specs.Objects.{object}
-use Rattle.ipc_policy.specs.Descriptions.{holds}
-use Rattle.ipc_policy.specs.Queues.{Waiter, Queue, has_none, attributes}
-use Rattle.ipc_policy.specs.Bodies.{queue, is_full, is_empty}
-use Rattle.ipc_policy.specs.Registrations.{is_idle, registered}
-use Rattle.ipc_policy.specs.Rules.{attributes_held}
-use Rattle.ipc_policy.specs.Verdict.{answers_of, receiver_answers, noticed, send_answers}
+use Rattle.ipc_policy.specs.Decides.History.{History, is_some_and}
+use Rattle.ipc_policy.specs.Decides.Objects.{object}
+use Rattle.ipc_policy.specs.Decides.Descriptions.{holds}
+use Rattle.ipc_policy.specs.Decides.Queues.{Waiter, Queue, has_none, attributes}
+use Rattle.ipc_policy.specs.Decides.Bodies.{queue, is_full, is_empty}
+use Rattle.ipc_policy.specs.Decides.Registrations.{is_idle, registered}
+use Rattle.ipc_policy.specs.Decides.Rules.{attributes_held}
+use Rattle.ipc_policy.specs.Decides.Verdict.{answers_of, receiver_answers, noticed, send_answers}
 use Rattle.ipc_state.specs.StateView.{queue_by}
 
 -- a receive that is served gets the message, and no notice is sent

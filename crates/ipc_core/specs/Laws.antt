@@ -4,8 +4,8 @@ use Rattle.ipc_terms.specs.Lists.{changed}
 use Rattle.ipc_terms.specs.declared.call.Answer.{Answer}
 use Rattle.ipc_terms.specs.declared.record.Event.{Event}
 use Rattle.ipc_policy.specs.declared.config.Config.{Config}
-use Rattle.ipc_policy.specs.History.{History}
-use Rattle.ipc_policy.specs.Verdict.{outbox}
+use Rattle.ipc_policy.specs.Decides.History.{History}
+use Rattle.ipc_policy.specs.Decides.Verdict.{outbox}
 use Rattle.ipc_core.specs.Boxes.{box_at, taken}
 use Rattle.ipc_core.specs.Outboxes.{BoxesAgree, added, untaken_after, after_steps}
 use Rattle.ipc_core.specs.CoreView.{CoreView}

@@ -3,14 +3,14 @@
 ghost use Rattle.std.specs.Prelude.{◌≡◌, ℕ, ◌≤◌, ◌+◌, min, ◌||◌, ◌++◌, [], None, IfOk, IfErr, OnOk, OnErr, filter, length, map, take, MatchOption};
 ghost use Rattle.std.specs.Option.{option_map, option_to_list};
 ghost use Rattle.ipc_terms.specs.Timed.{plain};
-ghost use Rattle.ipc_policy.specs.Bodies.{due};
-ghost use Rattle.ipc_policy.specs.Rules.{would_park};
+ghost use Rattle.ipc_policy.specs.Decides.Bodies.{due};
+ghost use Rattle.ipc_policy.specs.Decides.Rules.{would_park};
 ghost use Rattle.ipc_state.specs.OnTime.{ended_call};
 ghost use Rattle.ipc_state.specs.NextDeadline.{IsNextDeadline, EndsOncePast};
 ghost use Rattle.ipc_terms.specs.Lists.{changed};
 ghost use Rattle.ipc_core.specs.Boxes.{box_at, taken};
-ghost use Rattle.ipc_policy.specs.Sessions.{hellos, live};
-ghost use Rattle.ipc_policy.specs.Verdict.{verdict, answers, Legal, all_answers};
+ghost use Rattle.ipc_policy.specs.Decides.Sessions.{hellos, live};
+ghost use Rattle.ipc_policy.specs.Decides.Verdict.{verdict, answers, Legal, all_answers};
 ghost use Rattle.ipc_core.specs.Outboxes.{BoxesAgree, starts, told_list, session_at, after_step, after_steps};
 ghost use Rattle.ipc_state.specs.Meetings.{by_description, by_name, object_by, object_bound};
 ghost use Rattle.ipc_state.specs.Ranges.{first_bad};
@@ -49,7 +49,7 @@ impl Model for Core {
 
     ghost Value = { CoreView };
 
-    ghost use Rattle.ipc_policy.specs.Sessions.{hellos};
+    ghost use Rattle.ipc_policy.specs.Decides.Sessions.{hellos};
     ghost use Rattle.ipc_core.specs.Boxes.{of_first, untaken_by};
     ghost use Rattle.ipc_core.specs.Outboxes.{Stand};
 

@@ -2,8 +2,8 @@
 
 ghost use Rattle.std.specs.Prelude.{◌≡◌, true, ℕ, ◌||◌, [], ◌∷◌, ◌++◌, filter, OnOk};
 ghost use Rattle.std.specs.Option.{option_to_list};
-ghost use Rattle.ipc_policy.specs.Sessions.{live};
-ghost use Rattle.ipc_policy.specs.Verdict.{for_session};
+ghost use Rattle.ipc_policy.specs.Decides.Sessions.{live};
+ghost use Rattle.ipc_policy.specs.Decides.Verdict.{for_session};
 ghost use Rattle.ipc_core.specs.Boxes.{untaken_by};
 ghost use Rattle.ipc_core.specs.Outboxes.{HasRooms, told_list, starts};
 

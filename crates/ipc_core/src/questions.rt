@@ -5,7 +5,7 @@ ghost use Rattle.std.specs.Option.{option_map};
 ghost use Rattle.ipc_terms.specs.Lists.{first};
 ghost use Rattle.ipc_terms.specs.Pages.{page};
 ghost use Rattle.ipc_terms.specs.Lines.{lines};
-ghost use Rattle.ipc_policy.specs.Queues.{next};
+ghost use Rattle.ipc_policy.specs.Decides.Queues.{next};
 ghost use Rattle.ipc_state.specs.StateView.{brought, queue_by, semaphore_by, value_by};
 ghost use Rattle.ipc_state.specs.Meetings.{by_description};
 

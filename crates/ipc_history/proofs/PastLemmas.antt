@@ -3,7 +3,7 @@ use Rattle.std.proofs.Common.{◌≡◌, ℕ, ◌+◌, List, [], ◌∷◌, ◌+
 use Rattle.std.proofs.lemmas.List.{length-append}
 use Rattle.ipc_terms.specs.declared.record.Record.{Record}
 use Rattle.ipc_policy.specs.declared.config.Config.{Config}
-use Rattle.ipc_policy.specs.History.{History}
+use Rattle.ipc_policy.specs.Decides.History.{History}
 use Rattle.ipc_history.specs.declared.fault.HistoryFault.{HistoryFault}
 use Rattle.ipc_history.specs.declared.fault.HistoryFault.TheVariants as fault
 use Rattle.ipc_history.specs.Files.{IsNext, IsNextIf, IsNoHead, IsNoRecord, IsOfReader, Stand, Ends}

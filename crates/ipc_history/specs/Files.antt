@@ -2,8 +2,8 @@
 use Rattle.std.specs.Prelude.{◌≡◌, ◌≢◌, ⊤, ℕ, ◌+◌, List, [], ◌∷◌, length, drop, Option, None, Some, Result, Ok, Err}
 use Rattle.ipc_terms.specs.declared.record.Record.{Record}
 use Rattle.ipc_policy.specs.declared.config.Config.{Config}
-use Rattle.ipc_policy.specs.History.{History}
-use Rattle.ipc_policy.specs.Verdict.{verdict}
+use Rattle.ipc_policy.specs.Decides.History.{History}
+use Rattle.ipc_policy.specs.Decides.Verdict.{verdict}
 use Rattle.ipc_log.specs.declared.head.Head.{Head}
 use Rattle.ipc_log.specs.Trail.{head_front, record_front}
 use Rattle.ipc_history.specs.declared.fault.HistoryFault.{HistoryFault}

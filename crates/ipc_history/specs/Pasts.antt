@@ -4,8 +4,8 @@ use Rattle.ipc_terms.specs.declared.record.Record.{Record}
 use Rattle.ipc_access.specs.declared.users.User.{User}
 use Rattle.ipc_policy.specs.declared.config.Config.{Config}
 use Rattle.ipc_policy.specs.declared.config.Limits.{Limits}
-use Rattle.ipc_policy.specs.History.{History}
-use Rattle.ipc_policy.specs.Verdict.{verdict}
+use Rattle.ipc_policy.specs.Decides.History.{History}
+use Rattle.ipc_policy.specs.Decides.Verdict.{verdict}
 use Rattle.ipc_state.specs.Ranges.{first_bad}
 use Rattle.ipc_log.specs.declared.head.Head.{Head}
 use Rattle.ipc_history.specs.declared.fault.HistoryFault.{HistoryFault}

@@ -2,8 +2,8 @@
 
 ghost use Rattle.std.specs.Prelude.{◌≡◌, ℕ, ◌+◌, ◌∷◌, [], false, min, length, IfErr, IfOk, OnErr, OnOk};
 ghost use Rattle.std.specs.Io.KnownBytes.{IsAtEnd};
-ghost use Rattle.ipc_policy.specs.Sessions.{live};
-ghost use Rattle.ipc_policy.specs.Verdict.{verdict, Legal};
+ghost use Rattle.ipc_policy.specs.Decides.Sessions.{live};
+ghost use Rattle.ipc_policy.specs.Decides.Verdict.{verdict, Legal};
 ghost use Rattle.ipc_replay.specs.HangingUp.{all_hung_up};
 ghost use Rattle.ipc_history.specs.Counts.{AreCounts};
 ghost use Rattle.ipc_history.specs.Incoming.{IsBounded, Reads, incoming, unread, waiting};

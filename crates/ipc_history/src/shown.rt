@@ -5,8 +5,8 @@ ghost use Rattle.std.specs.String.{string_bytes};
 ghost use Rattle.ipc_terms.specs.Lines.{lines};
 ghost use Rattle.ipc_terms.specs.Pages.{page};
 ghost use Rattle.ipc_terms.specs.Timed.{deadline_of};
-ghost use Rattle.ipc_policy.specs.History.{History};
-ghost use Rattle.ipc_policy.specs.Verdict.{for_session};
+ghost use Rattle.ipc_policy.specs.Decides.History.{History};
+ghost use Rattle.ipc_policy.specs.Decides.Verdict.{for_session};
 ghost use Rattle.ipc_history.specs.Shown.{answer_text, deadline_text, page_text, record_text, rest_text};
 
 use crate::lines::line_of;

@@ -14,9 +14,9 @@ use Rattle.ipc_terms.specs.declared.call.Answer.TheVariants.{Refused}
 use Rattle.ipc_terms.specs.declared.record.Event.TheVariants.{Hello, Do}
 use Rattle.ipc_access.specs.Users.{user_of_key}
 use Rattle.ipc_policy.specs.declared.config.Limits.{Limits}
-use Rattle.ipc_policy.specs.Sessions.{hellos, live}
+use Rattle.ipc_policy.specs.Decides.Sessions.{hellos, live}
 use Rattle.ipc_terms.specs.Lists.{Each}
-use Rattle.ipc_policy.specs.Verdict.{verdict, answers, answers_at, Legal}
+use Rattle.ipc_policy.specs.Decides.Verdict.{verdict, answers, answers_at, Legal}
 use Rattle.ipc_state.specs.declared.limits.Field.{Field}
 use Rattle.ipc_state.specs.declared.limits.Field.TheVariants.{MsgMax, MsgsizeMax, QueuesMax}
 use Rattle.ipc_state.specs.Ranges.{first_bad}

@@ -9,9 +9,9 @@ use Rattle.ipc_terms.specs.declared.call.Answer.{Answer}
 use Rattle.ipc_terms.specs.declared.record.Event.{Event}
 use Rattle.ipc_terms.specs.declared.record.Event.TheVariants.{Hangup}
 use Rattle.ipc_policy.specs.declared.config.Config.{Config}
-use Rattle.ipc_policy.specs.History.{History}
-use Rattle.ipc_policy.specs.Sessions.{hellos, live}
-use Rattle.ipc_policy.specs.Verdict.{answers, for_session, after_event}
+use Rattle.ipc_policy.specs.Decides.History.{History}
+use Rattle.ipc_policy.specs.Decides.Sessions.{hellos, live}
+use Rattle.ipc_policy.specs.Decides.Verdict.{answers, for_session, after_event}
 use Rattle.ipc_core.specs.Boxes.{box_at}
 use Rattle.ipc_core.specs.Outboxes.{added, after_step, BoxesAgree}
 use Rattle.ipc_core.specs.CoreView.{CoreView}

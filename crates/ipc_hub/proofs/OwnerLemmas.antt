@@ -11,10 +11,10 @@ use Rattle.ipc_terms.specs.declared.record.Event.{Event}
 use Rattle.ipc_terms.specs.declared.record.Event.TheVariants.{Hello, Do, Hangup, Tick}
 use Rattle.ipc_containers.specs.Slots.{at as value_at, emptied}
 use Rattle.ipc_policy.specs.declared.config.Config.{Config}
-use Rattle.ipc_policy.specs.History.{History}
-use Rattle.ipc_policy.specs.Sessions.{hellos, live, hangs_up}
-use Rattle.ipc_policy.specs.Grow.{hellos_after}
-use Rattle.ipc_policy.specs.Verdict.{verdict}
+use Rattle.ipc_policy.specs.Decides.History.{History}
+use Rattle.ipc_policy.specs.Decides.Sessions.{hellos, live, hangs_up}
+use Rattle.ipc_policy.specs.Follows.Grow.{hellos_after}
+use Rattle.ipc_policy.specs.Decides.Verdict.{verdict}
 use Rattle.ipc_policy.proofs.Histories.Grown.{grows}
 use Rattle.ipc_policy.proofs.Histories.Refused.{same_values}
 use Rattle.ipc_core.specs.Outboxes.{starts, after_step}

@@ -8,8 +8,8 @@ use Rattle.ipc_terms.specs.declared.call.Answer.{Answer}
 use Rattle.ipc_terms.specs.declared.record.Event.{Event}
 use Rattle.ipc_terms.specs.declared.record.Event.TheVariants.{Tick}
 use Rattle.ipc_policy.specs.declared.config.Config.{Config}
-use Rattle.ipc_policy.specs.Sessions.{hellos}
-use Rattle.ipc_policy.specs.Verdict.{Legal, outbox}
+use Rattle.ipc_policy.specs.Decides.Sessions.{hellos}
+use Rattle.ipc_policy.specs.Decides.Verdict.{Legal, outbox}
 use Rattle.ipc_policy.proofs.Outcomes.Outboxes.{outbox_unbegun}
 use Rattle.ipc_state.specs.Ranges.{first_bad}
 use Rattle.ipc_core.specs.Boxes.{box_at}

@@ -10,8 +10,8 @@ use Rattle.ipc_terms.specs.declared.call.Call.TheVariants as call
 use Rattle.ipc_terms.specs.declared.record.Event.{Event}
 use Rattle.ipc_terms.specs.declared.record.Event.TheVariants as event
 use Rattle.ipc_terms.proofs.Lists.{slice_get_push, slice_past, eqb_suc}
-use Rattle.ipc_policy.specs.Sessions.{hellos, live}
-use Rattle.ipc_policy.specs.Verdict.{verdict}
+use Rattle.ipc_policy.specs.Decides.Sessions.{hellos, live}
+use Rattle.ipc_policy.specs.Decides.Verdict.{verdict}
 use Rattle.ipc_core.specs.Outboxes.{after_step, after_steps}
 use Rattle.ipc_core.specs.CoreView.{CoreView}
 use Rattle.ipc_wire.specs.declared.request.Request.{Request}

@@ -16,9 +16,9 @@ use Rattle.ipc_terms.specs.declared.record.Record.{Record}
 use Rattle.ipc_terms.specs.declared.rule.Rule.TheVariants as rule
 use Rattle.ipc_access.specs.Users.{user_of_key}
 use Rattle.ipc_policy.specs.declared.config.Config.{Config}
-use Rattle.ipc_policy.specs.Sessions.{hellos, live}
-use Rattle.ipc_policy.specs.Bodies.{due}
-use Rattle.ipc_policy.specs.Verdict.{verdict, for_session, tick_answers}
+use Rattle.ipc_policy.specs.Decides.Sessions.{hellos, live}
+use Rattle.ipc_policy.specs.Decides.Bodies.{due}
+use Rattle.ipc_policy.specs.Decides.Verdict.{verdict, for_session, tick_answers}
 use Rattle.ipc_core.specs.Boxes.{box_at, taken}
 use Rattle.ipc_core.specs.Outboxes.{after_step, after_steps}
 use Rattle.ipc_core.specs.CoreView.{CoreView}

@@ -6,8 +6,8 @@ use Rattle.ipc_terms.specs.declared.record.Event.{Event}
 use Rattle.ipc_terms.specs.declared.record.Event.TheVariants as event
 use Rattle.ipc_terms.specs.declared.rule.Rule.TheVariants.{BadKey}
 use Rattle.ipc_policy.specs.declared.config.Config.{Config}
-use Rattle.ipc_policy.specs.History.{History}
-use Rattle.ipc_policy.specs.Verdict.{outbox}
+use Rattle.ipc_policy.specs.Decides.History.{History}
+use Rattle.ipc_policy.specs.Decides.Verdict.{outbox}
 use Rattle.ipc_state.specs.Ranges.{first_bad}
 use Rattle.ipc_core.specs.CoreView.{CoreView}
 use Rattle.ipc_wire.specs.declared.request.Request.{Request}

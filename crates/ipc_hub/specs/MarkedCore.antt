@@ -3,8 +3,8 @@ use Rattle.std.specs.Prelude.{◌≡◌, ◌≤◌, Bool, true, false, ℕ, ◌+
 use Rattle.ipc_terms.specs.declared.ids.Sid.{Sid}
 use Rattle.ipc_terms.specs.declared.record.Event.{Event}
 use Rattle.ipc_terms.specs.declared.record.Event.TheVariants.{Do, Tick}
-use Rattle.ipc_policy.specs.History.{History}
-use Rattle.ipc_policy.specs.Sessions.{hellos, live}
+use Rattle.ipc_policy.specs.Decides.History.{History}
+use Rattle.ipc_policy.specs.Decides.Sessions.{hellos, live}
 use Rattle.ipc_core.specs.Boxes.{box_at}
 use Rattle.ipc_core.specs.CoreView.{CoreView}
 use Rattle.ipc_hub.specs.Hub.{HasEnded}

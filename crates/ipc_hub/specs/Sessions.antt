@@ -1,7 +1,7 @@
 -- Whose sessions are whose.
 use Rattle.std.specs.Prelude.{◌≡◌, true, false, not, ℕ, ◌<◌, List, Some, None, length, slice_get}
 use Rattle.ipc_terms.specs.declared.ids.Sid.{Sid}
-use Rattle.ipc_policy.specs.Sessions.{hellos, live}
+use Rattle.ipc_policy.specs.Decides.Sessions.{hellos, live}
 use Rattle.ipc_core.specs.CoreView.{CoreView}
 use Rattle.ipc_hub.specs.Hub.{Connection}
 use Rattle.ipc_hub.specs.Marking.{is_set, owner_of}

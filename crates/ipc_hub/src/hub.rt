@@ -4,8 +4,8 @@ ghost use Rattle.std.specs.Prelude.{◌≡◌, ◌<◌, ◌≤◌, ◌+◌, ◌+
 ghost use Rattle.ipc_state.specs.Ranges.{first_bad};
 ghost use Rattle.ipc_state.specs.NextDeadline.{IsNextDeadline, EndsOncePast};
 ghost use Rattle.ipc_trail.specs.Sizes.{kept_bytes};
-ghost use Rattle.ipc_policy.specs.Bodies.{due};
-ghost use Rattle.ipc_policy.specs.Verdict.{Legal};
+ghost use Rattle.ipc_policy.specs.Decides.Bodies.{due};
+ghost use Rattle.ipc_policy.specs.Decides.Verdict.{Legal};
 ghost use Rattle.ipc_core.specs.Outboxes.{BoxesAgree};
 ghost use Rattle.ipc_hub.specs.Hub.{new_hub, with_connection, untaken_at, is_over_at, is_marked, started_at, IsGone, fault_of_change, fault_of_take, IsFaultOr, IsSessionFault, Feeds, HangsUp, Takes, Names, Ticks, Forgets};
 ghost use Rattle.ipc_hub.specs.Sessions.{EachHasItsOwn};

@@ -4,8 +4,8 @@ ghost use Rattle.std.specs.Prelude.{◌≡◌, ◌==◌, ◌≤◌, ◌+◌, ◌
 ghost use Rattle.ipc_terms.specs.Lists.{changed};
 ghost use Rattle.ipc_terms.specs.declared.record.Event.TheVariants.{Hello, Hangup};
 ghost use Rattle.ipc_access.specs.Users.{user_of_key};
-ghost use Rattle.ipc_policy.specs.Sessions.{hellos};
-ghost use Rattle.ipc_policy.specs.Verdict.{verdict, answers};
+ghost use Rattle.ipc_policy.specs.Decides.Sessions.{hellos};
+ghost use Rattle.ipc_policy.specs.Decides.Verdict.{verdict, answers};
 ghost use Rattle.ipc_core.specs.Boxes.{taken};
 ghost use Rattle.ipc_core.specs.Outboxes.{session_at, after_step};
 ghost use Rattle.ipc_hub.specs.Hub.{untaken_of};

@@ -2,9 +2,9 @@
 //! nothing of the kind, and a call costs more than to see that.
 
 ghost use Rattle.std.specs.Prelude.{◌≡◌};
-ghost use Rattle.ipc_policy.specs.Names.{naming, opening, unlinking};
-ghost use Rattle.ipc_policy.specs.Objects.{kind_of};
-ghost use Rattle.ipc_policy.specs.Rules.{described};
+ghost use Rattle.ipc_policy.specs.Decides.Names.{naming, opening, unlinking};
+ghost use Rattle.ipc_policy.specs.Decides.Objects.{kind_of};
+ghost use Rattle.ipc_policy.specs.Decides.Rules.{described};
 
 use crate::config::Config;
 use ipc_terms::{
@@ -21,7 +21,7 @@ pub struct Naming<'a> {
 }
 
 impl<'a> Model for Naming<'a> {
-    ghost use Rattle.ipc_policy.specs.Names.{Naming};
+    ghost use Rattle.ipc_policy.specs.Decides.Names.{Naming};
 
     ghost Value = { Naming };
 
@@ -41,7 +41,7 @@ pub struct Opening<'a> {
 }
 
 impl<'a> Model for Opening<'a> {
-    ghost use Rattle.ipc_policy.specs.Names.{Opening};
+    ghost use Rattle.ipc_policy.specs.Decides.Names.{Opening};
 
     ghost Value = { Opening };
 

@@ -2,13 +2,13 @@
 //! `within_limit` and `sized` are over the legal ones, and so is what `answered` says of calls, and `ticks` of which call a tick
 //! ends and that its session is live. These functions do nothing: what they ensure is what is proved.
 
-ghost use Rattle.ipc_policy.specs.Laws.{VerdictIsLeast, RefusedIsQuiet, RefusedIsAnswered, EachCallerIsKnown, ListedIsBound, BoundIsToObject, NamedIsBound, NamesDiffer, BoundIsMade, ParkedIsListed, ParkedIsAlive, EachIsBounded, EachIsInRange, WaitsAtZero, EachValueIsCounted, WithinLimit};
-ghost use Rattle.ipc_policy.specs.Ticks.{EarliestIsDue, TickEndsOne, DueIsLive, EachCountsAsPlain, EachWouldPark};
-ghost use Rattle.ipc_policy.specs.Grow.{AcceptedGrows};
-ghost use Rattle.ipc_policy.specs.Rights.{HeldOutlives, HeldIsHandedOver, EachHasOneHolder, ParkedGivesNothing, RegisteredIsHeld, RightsByDescription};
-ghost use Rattle.ipc_policy.specs.Answered.{EachCallIsAnswered, ParkingAnswersNobody, HelloAnswersItsSession, HangupAnswersNobody, RefusalAnswersItsCaller, EachTickIsAnswered};
-ghost use Rattle.ipc_policy.specs.Sizes.{EachNameIsShort, EachMessageFits, EachDeliveryFits, EachSizeIsInRange, EachAnswerIsSmall, EachOutboxIsSmall};
-ghost use Rattle.ipc_policy.specs.Readings.{EachParkedByPlace, EachInsideByPlace, EachInsideInOrder, EachNextIsGreatest};
+ghost use Rattle.ipc_policy.specs.Follows.Laws.{VerdictIsLeast, RefusedIsQuiet, RefusedIsAnswered, EachCallerIsKnown, ListedIsBound, BoundIsToObject, NamedIsBound, NamesDiffer, BoundIsMade, ParkedIsListed, ParkedIsAlive, EachIsBounded, EachIsInRange, WaitsAtZero, EachValueIsCounted, WithinLimit};
+ghost use Rattle.ipc_policy.specs.Follows.Ticks.{EarliestIsDue, TickEndsOne, DueIsLive, EachCountsAsPlain, EachWouldPark};
+ghost use Rattle.ipc_policy.specs.Follows.Grow.{AcceptedGrows};
+ghost use Rattle.ipc_policy.specs.Follows.Rights.{HeldOutlives, HeldIsHandedOver, EachHasOneHolder, ParkedGivesNothing, RegisteredIsHeld, RightsByDescription};
+ghost use Rattle.ipc_policy.specs.Follows.Answered.{EachCallIsAnswered, ParkingAnswersNobody, HelloAnswersItsSession, HangupAnswersNobody, RefusalAnswersItsCaller, EachTickIsAnswered};
+ghost use Rattle.ipc_policy.specs.Follows.Sizes.{EachNameIsShort, EachMessageFits, EachDeliveryFits, EachSizeIsInRange, EachAnswerIsSmall, EachOutboxIsSmall};
+ghost use Rattle.ipc_policy.specs.Follows.Readings.{EachParkedByPlace, EachInsideByPlace, EachInsideInOrder, EachNextIsGreatest};
 
 /// The verdict is the least of the rules that forbid, or none where no rule does.
 pub fn least()

@@ -1,8 +1,8 @@
 //! Laws of messages over a whole legal history: where each that is received comes from, and what became of each that was
 //! sent. These functions do nothing: what they ensure is what is proved.
 
-ghost use Rattle.ipc_policy.specs.Confined.{EachAnswerIsDelivered, EachDeliveryIsConfined, EachSendIsDeliveredOnce, EachLeadIsWhole};
-ghost use Rattle.ipc_policy.specs.Fates.{EachSendHasOneFate};
+ghost use Rattle.ipc_policy.specs.Follows.Confined.{EachAnswerIsDelivered, EachDeliveryIsConfined, EachSendIsDeliveredOnce, EachLeadIsWhole};
+ghost use Rattle.ipc_policy.specs.Follows.Fates.{EachSendHasOneFate};
 
 /// Each message that an answer brings to a session is that of one accepted send, to the object of one accepted receive of
 /// the session. From the receive on the session held its description for reading, and the sender held its own for writing

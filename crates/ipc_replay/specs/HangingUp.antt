@@ -1,8 +1,8 @@
 -- The sessions that are live hang up, one after another.
 use Rattle.std.specs.Prelude.{Bool, ℕ, zero, suc, ◌∷◌, None, if◌then◌else◌}
 use Rattle.ipc_terms.specs.declared.record.Event.TheVariants.{Hangup}
-use Rattle.ipc_policy.specs.History.{History}
-use Rattle.ipc_policy.specs.Sessions.{hellos, live}
+use Rattle.ipc_policy.specs.Decides.History.{History}
+use Rattle.ipc_policy.specs.Decides.Sessions.{hellos, live}
 
 -- session s hangs up, if it is live
 abbrev pub hung_up : ℕ → Bool → History → History

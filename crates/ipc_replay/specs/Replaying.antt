@@ -2,8 +2,8 @@
 use Rattle.std.specs.Prelude.{◌≡◌, ◌≢◌, length}
 use Rattle.ipc_terms.specs.declared.record.Record.{Record}
 use Rattle.ipc_policy.specs.declared.config.Config.{Config}
-use Rattle.ipc_policy.specs.History.{History}
-use Rattle.ipc_policy.specs.Verdict.{verdict}
+use Rattle.ipc_policy.specs.Decides.History.{History}
+use Rattle.ipc_policy.specs.Decides.Verdict.{verdict}
 use Rattle.ipc_replay.specs.declared.fault.ReplayFault.{ReplayFault}
 use Rattle.ipc_replay.specs.declared.fault.ReplayFault.TheVariants.{BadConfig, Differs, NoMemory}
 

@@ -1,8 +1,8 @@
 //! A state, and the records that led to it.
 
 ghost use Rattle.std.specs.Prelude.{◌≡◌, ℕ, ◌∷◌, ◌+◌, [], false, None, IfOk, IfErr, OnOk, OnErr, min, length, MatchOption};
-ghost use Rattle.ipc_policy.specs.Sessions.{live};
-ghost use Rattle.ipc_policy.specs.Verdict.{verdict, Legal};
+ghost use Rattle.ipc_policy.specs.Decides.Sessions.{live};
+ghost use Rattle.ipc_policy.specs.Decides.Verdict.{verdict, Legal};
 ghost use Rattle.ipc_state.specs.Ranges.{first_bad};
 ghost use Rattle.ipc_replay.specs.HangingUp.{all_hung_up, hung_up};
 ghost use Rattle.ipc_replay.specs.Replaying.{IsFaultOf};

@@ -7,8 +7,8 @@ use Rattle.ipc_terms.specs.declared.record.Event.{Event}
 use Rattle.ipc_terms.specs.declared.rule.Rule.{Rule}
 use Rattle.ipc_terms.specs.declared.rule.Rule.TheVariants.{NoSession, InCall, BadDescr, NotForWrite, NotForRead, PrioRange, MessageLong, BufferShort, WouldBlock, Overflow, TimedOut}
 use Rattle.ipc_policy.specs.declared.config.Config.{Config}
-use Rattle.ipc_policy.specs.History.{History}
-use Rattle.ipc_policy.specs.Rules.{forbids}
+use Rattle.ipc_policy.specs.Decides.History.{History}
+use Rattle.ipc_policy.specs.Decides.Rules.{forbids}
 
 -- the first of these rules that forbids the event
 abbrev pub first_of : List Rule → Config → History → Event → Option Rule

@@ -5,10 +5,10 @@ ghost use Rattle.std.specs.Option.{option_copied};
 ghost use Rattle.ipc_access.specs.Users.{cred_of};
 ghost use Rattle.ipc_access.specs.Ownership.{lets_chmod, lets_chown};
 ghost use Rattle.ipc_terms.specs.Objects.{as_queue, of_queue, attributes_asked, value_asked};
-ghost use Rattle.ipc_policy.specs.Objects.{kind_of};
-ghost use Rattle.ipc_policy.specs.Charges.{bytes_of};
+ghost use Rattle.ipc_policy.specs.Decides.Objects.{kind_of};
+ghost use Rattle.ipc_policy.specs.Decides.Charges.{bytes_of};
 ghost use Rattle.ipc_terms.specs.declared.object.TheConstants.{SEM_VALUE_MAX};
-ghost use Rattle.ipc_policy.specs.Rules.{is_some_and, is_not_admin, above_limit, is_of_family, denied, denied_at, removal_denied, change_denied, reads_only, writes_only, bits_wanted, out_of_range};
+ghost use Rattle.ipc_policy.specs.Decides.Rules.{is_some_and, is_not_admin, above_limit, is_of_family, denied, denied_at, removal_denied, change_denied, reads_only, writes_only, bits_wanted, out_of_range};
 
 use ipc_access::{Cred, READ, WRITE, grants, may_chmod, may_chown, may_remove};
 use ipc_descr::checked_bytes_of;

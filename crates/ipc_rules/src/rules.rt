@@ -2,9 +2,9 @@
 
 ghost use Rattle.std.specs.Prelude.{◌≡◌, false, Some};
 ghost use Rattle.ipc_terms.specs.Timed.{plain};
-ghost use Rattle.ipc_policy.specs.Names.{creating, opening};
-ghost use Rattle.ipc_policy.specs.Rules.{no_session, in_call, not_in_call, name_form, name_long, not_admin, no_user, bad_descr, not_for_write, not_for_read, dir_search, dir_read, absent, present, mode_denied, dir_write, sticky, not_owner, chown_denied, attr_range, value_range, queue_count, byte_limit, descr_limit, prio_range, message_long, buffer_short, notify_taken, would_block, overflow, bad_key, timed_out, no_taker};
-ghost use Rattle.ipc_policy.specs.Verdict.{verdict};
+ghost use Rattle.ipc_policy.specs.Decides.Names.{creating, opening};
+ghost use Rattle.ipc_policy.specs.Decides.Rules.{no_session, in_call, not_in_call, name_form, name_long, not_admin, no_user, bad_descr, not_for_write, not_for_read, dir_search, dir_read, absent, present, mode_denied, dir_write, sticky, not_owner, chown_denied, attr_range, value_range, queue_count, byte_limit, descr_limit, prio_range, message_long, buffer_short, notify_taken, would_block, overflow, bad_key, timed_out, no_taker};
+ghost use Rattle.ipc_policy.specs.Decides.Verdict.{verdict};
 ghost use Rattle.ipc_rules.specs.Spoken.{first_of, of_messages, of_values, of_descriptions};
 
 use crate::conditions::{
@@ -56,7 +56,7 @@ pub fn decide(lookup: &Lookup<'_>) -> Option<Rule>
 
 /// Which of the rules that speak of a send or a receive is the first that forbids it. Like all rules they are inlined: calling
 /// them costs more than to see that they forbid nothing.
-#[tactic(auto, unfolding(ipc_policy::specs::Rules::forbids))]
+#[tactic(auto, unfolding(ipc_policy::specs::Decides::Rules::forbids))]
 fn of_messages(lookup: &Lookup<'_>) -> Option<Rule>
     ensures { result ≡ first_of of_messages lookup.now.config lookup.now.history lookup.now.event }
 {
@@ -75,7 +75,7 @@ fn of_messages(lookup: &Lookup<'_>) -> Option<Rule>
 }
 
 /// The same of a post or a wait.
-#[tactic(auto, unfolding(ipc_policy::specs::Rules::forbids))]
+#[tactic(auto, unfolding(ipc_policy::specs::Decides::Rules::forbids))]
 fn of_values(lookup: &Lookup<'_>) -> Option<Rule>
     ensures { result ≡ first_of of_values lookup.now.config lookup.now.history lookup.now.event }
 {
@@ -90,7 +90,7 @@ fn of_values(lookup: &Lookup<'_>) -> Option<Rule>
 }
 
 /// The same of a call that asks or sets something of a description alone, or of its session.
-#[tactic(auto, unfolding(ipc_policy::specs::Rules::forbids))]
+#[tactic(auto, unfolding(ipc_policy::specs::Decides::Rules::forbids))]
 fn of_descriptions(lookup: &Lookup<'_>) -> Option<Rule>
     ensures { result ≡ first_of of_descriptions lookup.now.config lookup.now.history lookup.now.event }
 {
@@ -102,7 +102,7 @@ fn of_descriptions(lookup: &Lookup<'_>) -> Option<Rule>
 }
 
 /// Which of all rules is the first that forbids the event.
-#[tactic(auto, unfolding(ipc_policy::specs::Verdict::verdict, ipc_policy::specs::Rules::forbids))]
+#[tactic(auto, unfolding(ipc_policy::specs::Decides::Verdict::verdict, ipc_policy::specs::Decides::Rules::forbids))]
 fn of_all(lookup: &Lookup<'_>) -> Option<Rule>
     ensures { result ≡ verdict lookup.now.config lookup.now.history lookup.now.event }
 {
@@ -145,7 +145,7 @@ fn of_all(lookup: &Lookup<'_>) -> Option<Rule>
 
 /// A call or a hang-up of a session that is not live.
 #[inline(always)]
-#[tactic(auto, unfolding(ipc_policy::specs::Rules::no_session))]
+#[tactic(auto, unfolding(ipc_policy::specs::Decides::Rules::no_session))]
 fn no_session(lookup: &Lookup<'_>) -> bool
     ensures { result ≡ no_session lookup.now.config lookup.now.history lookup.now.event }
 {
@@ -157,7 +157,7 @@ fn no_session(lookup: &Lookup<'_>) -> bool
 
 /// Any call but an interrupt while the session is parked; a hang-up is no call.
 #[inline(always)]
-#[tactic(auto, unfolding(ipc_policy::specs::Rules::in_call))]
+#[tactic(auto, unfolding(ipc_policy::specs::Decides::Rules::in_call))]
 fn in_call(lookup: &Lookup<'_>) -> bool
     ensures { result ≡ in_call lookup.now.config lookup.now.history lookup.now.event }
 {
@@ -173,7 +173,7 @@ fn in_call(lookup: &Lookup<'_>) -> bool
 
 /// An interrupt while the session is not parked.
 #[inline(always)]
-#[tactic(auto, unfolding(ipc_policy::specs::Rules::not_in_call))]
+#[tactic(auto, unfolding(ipc_policy::specs::Decides::Rules::not_in_call))]
 fn not_in_call(lookup: &Lookup<'_>) -> bool
     ensures { result ≡ not_in_call lookup.now.config lookup.now.history lookup.now.event }
 {
@@ -188,7 +188,7 @@ fn not_in_call(lookup: &Lookup<'_>) -> bool
 
 /// A named call, and the name has not the form of a name.
 #[inline(always)]
-#[tactic(auto, unfolding(ipc_policy::specs::Rules::name_form))]
+#[tactic(auto, unfolding(ipc_policy::specs::Decides::Rules::name_form))]
 fn name_form(lookup: &Lookup<'_>) -> bool
     ensures { result ≡ name_form lookup.now.config lookup.now.history lookup.now.event }
 {
@@ -200,7 +200,7 @@ fn name_form(lookup: &Lookup<'_>) -> bool
 
 /// A named call, and the name has more bytes in all than its family's limit.
 #[inline(always)]
-#[tactic(auto, unfolding(ipc_policy::specs::Rules::name_long))]
+#[tactic(auto, unfolding(ipc_policy::specs::Decides::Rules::name_long))]
 fn name_long(lookup: &Lookup<'_>) -> bool
     ensures { result ≡ name_long lookup.now.config lookup.now.history lookup.now.event }
 {
@@ -212,7 +212,7 @@ fn name_long(lookup: &Lookup<'_>) -> bool
 
 /// A SetLimit or an Audit, by another than user 0.
 #[inline(always)]
-#[tactic(auto, unfolding(ipc_policy::specs::Rules::not_admin))]
+#[tactic(auto, unfolding(ipc_policy::specs::Decides::Rules::not_admin))]
 fn not_admin(lookup: &Lookup<'_>) -> bool
     requires { no_session lookup.now.config lookup.now.history lookup.now.event ≡ false }
     ensures { result ≡ not_admin lookup.now.config lookup.now.history lookup.now.event }
@@ -228,7 +228,7 @@ fn not_admin(lookup: &Lookup<'_>) -> bool
 
 /// A SetLimit of no user of the file.
 #[inline(always)]
-#[tactic(auto, unfolding(ipc_policy::specs::Rules::no_user))]
+#[tactic(auto, unfolding(ipc_policy::specs::Decides::Rules::no_user))]
 fn no_user(lookup: &Lookup<'_>) -> bool
     ensures { result ≡ no_user lookup.now.config lookup.now.history lookup.now.event }
 {
@@ -244,7 +244,7 @@ fn no_user(lookup: &Lookup<'_>) -> bool
 /// A call that names a description, and the session does not hold it, or it gives an object of the
 /// other family.
 #[inline(always)]
-#[tactic(auto, unfolding(ipc_policy::specs::Rules::bad_descr))]
+#[tactic(auto, unfolding(ipc_policy::specs::Decides::Rules::bad_descr))]
 fn bad_descr(lookup: &Lookup<'_>) -> bool
     ensures { result ≡ bad_descr lookup.now.config lookup.now.history (plain lookup.now.event) }
 {
@@ -259,7 +259,7 @@ fn bad_descr(lookup: &Lookup<'_>) -> bool
 
 /// A send by a description that was opened for reading alone.
 #[inline(always)]
-#[tactic(auto, unfolding(ipc_policy::specs::Rules::not_for_write))]
+#[tactic(auto, unfolding(ipc_policy::specs::Decides::Rules::not_for_write))]
 fn not_for_write(lookup: &Lookup<'_>) -> bool
     ensures { result ≡ not_for_write lookup.now.config lookup.now.history (plain lookup.now.event) }
 {
@@ -274,7 +274,7 @@ fn not_for_write(lookup: &Lookup<'_>) -> bool
 
 /// A receive by a description that was opened for writing alone.
 #[inline(always)]
-#[tactic(auto, unfolding(ipc_policy::specs::Rules::not_for_read))]
+#[tactic(auto, unfolding(ipc_policy::specs::Decides::Rules::not_for_read))]
 fn not_for_read(lookup: &Lookup<'_>) -> bool
     ensures { result ≡ not_for_read lookup.now.config lookup.now.history (plain lookup.now.event) }
 {
@@ -289,7 +289,7 @@ fn not_for_read(lookup: &Lookup<'_>) -> bool
 
 /// A named call, and search on the family's directory is not granted.
 #[inline(always)]
-#[tactic(auto, unfolding(ipc_policy::specs::Rules::dir_search))]
+#[tactic(auto, unfolding(ipc_policy::specs::Decides::Rules::dir_search))]
 fn dir_search(lookup: &Lookup<'_>) -> bool
     requires { no_session lookup.now.config lookup.now.history lookup.now.event ≡ false }
     ensures { result ≡ dir_search lookup.now.config lookup.now.history lookup.now.event }
@@ -302,7 +302,7 @@ fn dir_search(lookup: &Lookup<'_>) -> bool
 
 /// A listing, and read on the directory is not granted.
 #[inline(always)]
-#[tactic(auto, unfolding(ipc_policy::specs::Rules::dir_read))]
+#[tactic(auto, unfolding(ipc_policy::specs::Decides::Rules::dir_read))]
 fn dir_read(lookup: &Lookup<'_>) -> bool
     requires { no_session lookup.now.config lookup.now.history lookup.now.event ≡ false }
     ensures { result ≡ dir_read lookup.now.config lookup.now.history lookup.now.event }
@@ -318,7 +318,7 @@ fn dir_read(lookup: &Lookup<'_>) -> bool
 
 /// An open without CREAT, or a named call that is no open, and the name is unbound.
 #[inline(always)]
-#[tactic(auto, unfolding(ipc_policy::specs::Rules::absent))]
+#[tactic(auto, unfolding(ipc_policy::specs::Decides::Rules::absent))]
 fn absent(lookup: &Lookup<'_>) -> bool
     ensures { result ≡ absent lookup.now.config lookup.now.history lookup.now.event }
 {
@@ -330,7 +330,7 @@ fn absent(lookup: &Lookup<'_>) -> bool
 
 /// An open with CREAT and EXCL, and the name is bound.
 #[inline(always)]
-#[tactic(auto, unfolding(ipc_policy::specs::Rules::present))]
+#[tactic(auto, unfolding(ipc_policy::specs::Decides::Rules::present))]
 fn present(lookup: &Lookup<'_>) -> bool
     ensures { result ≡ present lookup.now.config lookup.now.history lookup.now.event }
 {
@@ -346,7 +346,7 @@ fn present(lookup: &Lookup<'_>) -> bool
 
 /// An open of a bound name, and the object does not grant the wanted access.
 #[inline(always)]
-#[tactic(auto, unfolding(ipc_policy::specs::Rules::mode_denied))]
+#[tactic(auto, unfolding(ipc_policy::specs::Decides::Rules::mode_denied))]
 fn mode_denied(lookup: &Lookup<'_>) -> bool
     requires { no_session lookup.now.config lookup.now.history lookup.now.event ≡ false }
     ensures { result ≡ mode_denied lookup.now.config lookup.now.history lookup.now.event }
@@ -359,7 +359,7 @@ fn mode_denied(lookup: &Lookup<'_>) -> bool
 
 /// A creating open, or an unlink, and write on the directory is not granted.
 #[inline(always)]
-#[tactic(auto, unfolding(ipc_policy::specs::Rules::dir_write))]
+#[tactic(auto, unfolding(ipc_policy::specs::Decides::Rules::dir_write))]
 fn dir_write(lookup: &Lookup<'_>) -> bool
     requires { no_session lookup.now.config lookup.now.history lookup.now.event ≡ false }
     ensures { result ≡ dir_write lookup.now.config lookup.now.history lookup.now.event }
@@ -377,7 +377,7 @@ fn dir_write(lookup: &Lookup<'_>) -> bool
 /// An unlink of a bound name in a sticky directory, by another than user 0, the object's owner
 /// and the directory's.
 #[inline(always)]
-#[tactic(auto, unfolding(ipc_policy::specs::Rules::sticky))]
+#[tactic(auto, unfolding(ipc_policy::specs::Decides::Rules::sticky))]
 fn sticky(lookup: &Lookup<'_>) -> bool
     requires { no_session lookup.now.config lookup.now.history lookup.now.event ≡ false }
     ensures { result ≡ sticky lookup.now.config lookup.now.history lookup.now.event }
@@ -394,7 +394,7 @@ fn sticky(lookup: &Lookup<'_>) -> bool
 
 /// A chmod, by another than user 0 and the owner of what is meant.
 #[inline(always)]
-#[tactic(auto, unfolding(ipc_policy::specs::Rules::not_owner))]
+#[tactic(auto, unfolding(ipc_policy::specs::Decides::Rules::not_owner))]
 fn not_owner(lookup: &Lookup<'_>) -> bool
     requires { no_session lookup.now.config lookup.now.history lookup.now.event ≡ false }
     ensures { result ≡ not_owner lookup.now.config lookup.now.history lookup.now.event }
@@ -411,7 +411,7 @@ fn not_owner(lookup: &Lookup<'_>) -> bool
 /// A chown, by another than user 0 and an owner that stays the owner and keeps the group or takes
 /// one of its own.
 #[inline(always)]
-#[tactic(auto, unfolding(ipc_policy::specs::Rules::chown_denied))]
+#[tactic(auto, unfolding(ipc_policy::specs::Decides::Rules::chown_denied))]
 fn chown_denied(lookup: &Lookup<'_>) -> bool
     requires { no_session lookup.now.config lookup.now.history lookup.now.event ≡ false }
     ensures { result ≡ chown_denied lookup.now.config lookup.now.history lookup.now.event }
@@ -431,7 +431,7 @@ fn chown_denied(lookup: &Lookup<'_>) -> bool
 
 /// A creating open with attributes that are 0 or above the caller's limits.
 #[inline(always)]
-#[tactic(auto, unfolding(ipc_policy::specs::Rules::attr_range))]
+#[tactic(auto, unfolding(ipc_policy::specs::Decides::Rules::attr_range))]
 fn attr_range(lookup: &Lookup<'_>) -> bool
     requires { no_session lookup.now.config lookup.now.history lookup.now.event ≡ false }
     ensures { result ≡ attr_range lookup.now.config lookup.now.history lookup.now.event }
@@ -448,7 +448,7 @@ fn attr_range(lookup: &Lookup<'_>) -> bool
 /// A creating open of a semaphore with a first value above 2,147,483,647, or a SetLimit above
 /// 1,000,000,000,000,000.
 #[inline(always)]
-#[tactic(auto, unfolding(ipc_policy::specs::Rules::value_range))]
+#[tactic(auto, unfolding(ipc_policy::specs::Decides::Rules::value_range))]
 fn value_range(lookup: &Lookup<'_>) -> bool
     ensures { result ≡ value_range lookup.now.config lookup.now.history lookup.now.event }
 {
@@ -467,7 +467,7 @@ fn value_range(lookup: &Lookup<'_>) -> bool
 
 /// A creating open of a queue, by another than user 0, while `queues_max` queues or more are alive.
 #[inline(always)]
-#[tactic(auto, unfolding(ipc_policy::specs::Rules::queue_count))]
+#[tactic(auto, unfolding(ipc_policy::specs::Decides::Rules::queue_count))]
 fn queue_count(lookup: &Lookup<'_>) -> bool
     requires { no_session lookup.now.config lookup.now.history lookup.now.event ≡ false }
     ensures { result ≡ queue_count lookup.now.config lookup.now.history lookup.now.event }
@@ -484,7 +484,7 @@ fn queue_count(lookup: &Lookup<'_>) -> bool
 /// A creating open of a queue, and the caller's queues and the new one take more bytes together than
 /// the caller's limit.
 #[inline(always)]
-#[tactic(auto, unfolding(ipc_policy::specs::Rules::byte_limit))]
+#[tactic(auto, unfolding(ipc_policy::specs::Decides::Rules::byte_limit))]
 fn byte_limit(lookup: &Lookup<'_>) -> bool
     requires { no_session lookup.now.config lookup.now.history lookup.now.event ≡ false }
     ensures { result ≡ byte_limit lookup.now.config lookup.now.history lookup.now.event }
@@ -502,7 +502,7 @@ fn byte_limit(lookup: &Lookup<'_>) -> bool
 
 /// An open while the session holds 1,024 descriptions, or a give while its taker does.
 #[inline(always)]
-#[tactic(auto, unfolding(ipc_policy::specs::Rules::descr_limit))]
+#[tactic(auto, unfolding(ipc_policy::specs::Decides::Rules::descr_limit))]
 fn descr_limit(lookup: &Lookup<'_>) -> bool
     ensures { result ≡ descr_limit lookup.now.config lookup.now.history lookup.now.event }
 {
@@ -521,7 +521,7 @@ fn descr_limit(lookup: &Lookup<'_>) -> bool
 
 /// A send with a priority of 32,768 or more.
 #[inline(always)]
-#[tactic(auto, unfolding(ipc_policy::specs::Rules::prio_range))]
+#[tactic(auto, unfolding(ipc_policy::specs::Decides::Rules::prio_range))]
 fn prio_range(lookup: &Lookup<'_>) -> bool
     ensures { result ≡ prio_range lookup.now.config lookup.now.history (plain lookup.now.event) }
 {
@@ -536,7 +536,7 @@ fn prio_range(lookup: &Lookup<'_>) -> bool
 
 /// A send that is longer than the queue's message size.
 #[inline(always)]
-#[tactic(auto, unfolding(ipc_policy::specs::Rules::message_long))]
+#[tactic(auto, unfolding(ipc_policy::specs::Decides::Rules::message_long))]
 fn message_long(lookup: &Lookup<'_>) -> bool
     ensures { result ≡ message_long lookup.now.config lookup.now.history (plain lookup.now.event) }
 {
@@ -551,7 +551,7 @@ fn message_long(lookup: &Lookup<'_>) -> bool
 
 /// A receive with a length below the queue's message size.
 #[inline(always)]
-#[tactic(auto, unfolding(ipc_policy::specs::Rules::buffer_short))]
+#[tactic(auto, unfolding(ipc_policy::specs::Decides::Rules::buffer_short))]
 fn buffer_short(lookup: &Lookup<'_>) -> bool
     ensures { result ≡ buffer_short lookup.now.config lookup.now.history (plain lookup.now.event) }
 {
@@ -566,7 +566,7 @@ fn buffer_short(lookup: &Lookup<'_>) -> bool
 
 /// A notify on, and the queue has a registration.
 #[inline(always)]
-#[tactic(auto, unfolding(ipc_policy::specs::Rules::notify_taken))]
+#[tactic(auto, unfolding(ipc_policy::specs::Decides::Rules::notify_taken))]
 fn notify_taken(lookup: &Lookup<'_>) -> bool
     ensures { result ≡ notify_taken lookup.now.config lookup.now.history lookup.now.event }
 {
@@ -582,7 +582,7 @@ fn notify_taken(lookup: &Lookup<'_>) -> bool
 /// A send to a full queue, or a receive from an empty one, by a description with NONBLOCK; a trywait
 /// at 0.
 #[inline(always)]
-#[tactic(auto, unfolding(ipc_policy::specs::Rules::would_block))]
+#[tactic(auto, unfolding(ipc_policy::specs::Decides::Rules::would_block))]
 fn would_block(lookup: &Lookup<'_>) -> bool
     ensures { result ≡ would_block lookup.now.config lookup.now.history (plain lookup.now.event) }
 {
@@ -601,7 +601,7 @@ fn would_block(lookup: &Lookup<'_>) -> bool
 
 /// A post at 2,147,483,647.
 #[inline(always)]
-#[tactic(auto, unfolding(ipc_policy::specs::Rules::overflow))]
+#[tactic(auto, unfolding(ipc_policy::specs::Decides::Rules::overflow))]
 fn overflow(lookup: &Lookup<'_>) -> bool
     ensures { result ≡ overflow lookup.now.config lookup.now.history lookup.now.event }
 {
@@ -616,7 +616,7 @@ fn overflow(lookup: &Lookup<'_>) -> bool
 
 /// A hello for no user of the file.
 #[inline(always)]
-#[tactic(auto, unfolding(ipc_policy::specs::Rules::bad_key))]
+#[tactic(auto, unfolding(ipc_policy::specs::Decides::Rules::bad_key))]
 fn bad_key(lookup: &Lookup<'_>) -> bool
     ensures { result ≡ bad_key lookup.now.config lookup.now.history lookup.now.event }
 {
@@ -628,7 +628,7 @@ fn bad_key(lookup: &Lookup<'_>) -> bool
 
 /// A timed call that would park, and whose deadline is past.
 #[inline(always)]
-#[tactic(auto, unfolding(ipc_policy::specs::Rules::timed_out))]
+#[tactic(auto, unfolding(ipc_policy::specs::Decides::Rules::timed_out))]
 fn timed_out(lookup: &Lookup<'_>) -> bool
     ensures { result ≡ timed_out lookup.now.config lookup.now.history lookup.now.event }
 {
@@ -637,7 +637,7 @@ fn timed_out(lookup: &Lookup<'_>) -> bool
 
 /// A give to a session that is not live, or to the session itself.
 #[inline(always)]
-#[tactic(auto, unfolding(ipc_policy::specs::Rules::no_taker))]
+#[tactic(auto, unfolding(ipc_policy::specs::Decides::Rules::no_taker))]
 fn no_taker(lookup: &Lookup<'_>) -> bool
     ensures { result ≡ no_taker lookup.now.config lookup.now.history lookup.now.event }
 {
@@ -651,7 +651,7 @@ fn no_taker(lookup: &Lookup<'_>) -> bool
 }
 
 /// Whether the open creates an object.
-#[tactic(auto, unfolding(ipc_policy::specs::Names::creating))]
+#[tactic(auto, unfolding(ipc_policy::specs::Decides::Names::creating))]
 fn is_creating(lookup: &Lookup<'_>, asked: &Opening) -> bool
     requires { opening lookup.now.event ≡ Some asked.now }
     ensures { result ≡ creating lookup.now.history asked.now }

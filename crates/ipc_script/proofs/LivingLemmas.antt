@@ -16,16 +16,16 @@ use Rattle.ipc_terms.specs.declared.record.Event.TheVariants.{Hello, Do, Hangup,
 use Rattle.ipc_policy.specs.declared.config.Config.{Config}
 use Rattle.ipc_policy.specs.declared.config.Held.{Held}
 use Rattle.ipc_policy.specs.declared.config.Registration.{Registration}
-use Rattle.ipc_policy.specs.History.{History, unless}
-use Rattle.ipc_policy.specs.Sessions.{hellos, live}
-use Rattle.ipc_policy.specs.Names.{Opening, queue_opening, semaphore_opening, bound, creations}
-use Rattle.ipc_policy.specs.Descriptions.{ends_held, hands_over, held, held_as, holds, opens}
-use Rattle.ipc_policy.specs.Queues.{Send, Waiter, attributes, next}
-use Rattle.ipc_policy.specs.Bodies.{contents, due, is_full, is_zero, queue, receivers, senders, waiters}
-use Rattle.ipc_policy.specs.Registrations.{is_idle, registered}
-use Rattle.ipc_policy.specs.Parking.{ParkedKind, Parked, parked}
-use Rattle.ipc_policy.specs.Grow.{held_after, live_after}
-use Rattle.ipc_policy.specs.Verdict.{Legal, verdict, answers, answers_at, accepted_answers, after_event, answers_of, attributes_told, facts_meant, noticed, receive_answers, received, receiver_answers, send_answers, sender_answers, stat_answers, tick_answers, wait_answers, waiter_answers}
+use Rattle.ipc_policy.specs.Decides.History.{History, unless}
+use Rattle.ipc_policy.specs.Decides.Sessions.{hellos, live}
+use Rattle.ipc_policy.specs.Decides.Names.{Opening, queue_opening, semaphore_opening, bound, creations}
+use Rattle.ipc_policy.specs.Decides.Descriptions.{ends_held, hands_over, held, held_as, holds, opens}
+use Rattle.ipc_policy.specs.Decides.Queues.{Send, Waiter, attributes, next}
+use Rattle.ipc_policy.specs.Decides.Bodies.{contents, due, is_full, is_zero, queue, receivers, senders, waiters}
+use Rattle.ipc_policy.specs.Decides.Registrations.{is_idle, registered}
+use Rattle.ipc_policy.specs.Decides.Parking.{ParkedKind, Parked, parked}
+use Rattle.ipc_policy.specs.Follows.Grow.{held_after, live_after}
+use Rattle.ipc_policy.specs.Decides.Verdict.{Legal, verdict, answers, answers_at, accepted_answers, after_event, answers_of, attributes_told, facts_meant, noticed, receive_answers, received, receiver_answers, send_answers, sender_answers, stat_answers, tick_answers, wait_answers, waiter_answers}
 use Rattle.ipc_policy.proofs.Blocked.CallsListed.{calls_listed}
 use Rattle.ipc_policy.proofs.Blocked.Earliest.{due_live}
 use Rattle.ipc_policy.proofs.Blocked.ParkedSessions.{is_parked}

@@ -12,7 +12,7 @@ use Rattle.ipc_terms.specs.declared.ids.Sid.{Sid}
 use Rattle.ipc_terms.specs.declared.record.Event.{Event}
 use Rattle.ipc_core.specs.CoreView.{CoreView}
 use Rattle.ipc_policy.specs.declared.config.Config.{Config}
-use Rattle.ipc_policy.specs.Verdict.{after_event, answers}
+use Rattle.ipc_policy.specs.Decides.Verdict.{after_event, answers}
 use Rattle.ipc_script.specs.Labels.{label_for}
 use Rattle.ipc_script.specs.Printing.{LinePrints, LinesPrint, Scene, StepPrints, answer_lines, labelled_line, with_start, with_starts}
 use Rattle.ipc_script.specs.Running.{AreWritten, Prints, scene_of}

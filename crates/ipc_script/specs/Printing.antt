@@ -6,8 +6,8 @@ use Rattle.ipc_terms.specs.declared.ids.Sid.{Sid}
 use Rattle.ipc_terms.specs.declared.record.Event.{Event}
 use Rattle.ipc_policy.specs.declared.config.Config.{Config}
 use Rattle.ipc_policy.specs.declared.config.Limits.{Limits}
-use Rattle.ipc_policy.specs.History.{History}
-use Rattle.ipc_policy.specs.Verdict.{after_event, answers}
+use Rattle.ipc_policy.specs.Decides.History.{History}
+use Rattle.ipc_policy.specs.Decides.Verdict.{after_event, answers}
 use Rattle.std.specs.Io.KnownBytes.{Appends}
 use Rattle.std.specs.Str.{bytes_eq}
 use Rattle.ipc_access.specs.UserFile.{lines_of, users_of}

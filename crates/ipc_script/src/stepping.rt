@@ -1,7 +1,7 @@
 //! Steps whose answers are given themselves, and no copies of them.
 
 ghost use Rattle.std.specs.Prelude.{◌≡◌, [], IfOk, OnErr, OnOk};
-ghost use Rattle.ipc_policy.specs.Verdict.{after_event, answers};
+ghost use Rattle.ipc_policy.specs.Decides.Verdict.{after_event, answers};
 ghost use Rattle.ipc_script.specs.Told.{told_list};
 
 use ipc_core::{Config, Core, CoreFault};

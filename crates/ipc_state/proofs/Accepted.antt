@@ -22,16 +22,16 @@ use Rattle.ipc_access.specs.Users.{cred_of}
 use Rattle.ipc_policy.specs.declared.config.Config.{Config}
 use Rattle.ipc_policy.specs.declared.config.Held.{Held}
 use Rattle.ipc_terms.specs.declared.object.Object.{Object}
-use Rattle.ipc_policy.specs.History.{History}
-use Rattle.ipc_policy.specs.Sessions.{user, live, cred}
-use Rattle.ipc_policy.specs.Names.{Opening, opening, queue_opening, semaphore_opening, is_bound, bound}
-use Rattle.ipc_policy.specs.Grow.{is_new}
-use Rattle.ipc_policy.specs.Objects.{object, attributes_of, kind_of}
-use Rattle.ipc_policy.specs.Descriptions.{holds}
-use Rattle.ipc_policy.specs.Rules.{is_some_and, is_of_family, not_held, out_of_range, above_limit, queue_made}
-use Rattle.ipc_policy.specs.Charges.{limit}
-use Rattle.ipc_policy.specs.Bodies.{due}
-use Rattle.ipc_policy.specs.Verdict.{verdict}
+use Rattle.ipc_policy.specs.Decides.History.{History}
+use Rattle.ipc_policy.specs.Decides.Sessions.{user, live, cred}
+use Rattle.ipc_policy.specs.Decides.Names.{Opening, opening, queue_opening, semaphore_opening, is_bound, bound}
+use Rattle.ipc_policy.specs.Follows.Grow.{is_new}
+use Rattle.ipc_policy.specs.Decides.Objects.{object, attributes_of, kind_of}
+use Rattle.ipc_policy.specs.Decides.Descriptions.{holds}
+use Rattle.ipc_policy.specs.Decides.Rules.{is_some_and, is_of_family, not_held, out_of_range, above_limit, queue_made}
+use Rattle.ipc_policy.specs.Decides.Charges.{limit}
+use Rattle.ipc_policy.specs.Decides.Bodies.{due}
+use Rattle.ipc_policy.specs.Decides.Verdict.{verdict}
 use Rattle.ipc_policy.proofs.Histories.Known.{bound_iff}
 use Rattle.ipc_tables.specs.declared.rows.Session.{Session}
 use Rattle.ipc_terms.specs.Objects.{family_of, of_queue, as_queue, of_semaphore, as_semaphore, attributes_asked, value_asked}

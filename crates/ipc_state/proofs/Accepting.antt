@@ -15,22 +15,22 @@ use Rattle.ipc_terms.specs.declared.record.Event.TheVariants.{Hello, Do, Hangup,
 use Rattle.ipc_policy.specs.declared.config.Config.{Config}
 use Rattle.ipc_policy.specs.declared.config.Held.{Held}
 use Rattle.ipc_policy.specs.declared.config.Registration.{Registration}
-use Rattle.ipc_policy.specs.Registrations.{registered}
+use Rattle.ipc_policy.specs.Decides.Registrations.{registered}
 use Rattle.ipc_policy.proofs.Queues.RegisteredSteps.{registered_stays, registered_send_other, registered_on, registered_on_other, registered_off, registered_give, other_s_description}
 use Rattle.ipc_terms.proofs.Lists.{eqb_swapped}
-use Rattle.ipc_policy.specs.History.{History, after_accepted, unless, gathered_below}
-use Rattle.ipc_policy.specs.Sessions.{hellos, user, live, mask}
-use Rattle.ipc_policy.specs.Names.{is_bound, creations}
-use Rattle.ipc_policy.specs.Objects.{object, facts, directory, directory_owner, directory_group, directory_mode}
-use Rattle.ipc_policy.specs.Descriptions.{opens, held, holds}
-use Rattle.ipc_policy.specs.Life.{bindings}
-use Rattle.ipc_policy.specs.Queues.{Queue}
-use Rattle.ipc_policy.specs.Semaphores.{with_first}
-use Rattle.ipc_policy.specs.Bodies.{queue, semaphore}
-use Rattle.ipc_policy.specs.Parking.{parked}
-use Rattle.ipc_policy.specs.Laws.{SameValues}
-use Rattle.ipc_policy.specs.Grow.{first_value}
-use Rattle.ipc_policy.specs.Verdict.{verdict}
+use Rattle.ipc_policy.specs.Decides.History.{History, after_accepted, unless, gathered_below}
+use Rattle.ipc_policy.specs.Decides.Sessions.{hellos, user, live, mask}
+use Rattle.ipc_policy.specs.Decides.Names.{is_bound, creations}
+use Rattle.ipc_policy.specs.Decides.Objects.{object, facts, directory, directory_owner, directory_group, directory_mode}
+use Rattle.ipc_policy.specs.Decides.Descriptions.{opens, held, holds}
+use Rattle.ipc_policy.specs.Decides.Life.{bindings}
+use Rattle.ipc_policy.specs.Decides.Queues.{Queue}
+use Rattle.ipc_policy.specs.Decides.Semaphores.{with_first}
+use Rattle.ipc_policy.specs.Decides.Bodies.{queue, semaphore}
+use Rattle.ipc_policy.specs.Decides.Parking.{parked}
+use Rattle.ipc_policy.specs.Follows.Laws.{SameValues}
+use Rattle.ipc_policy.specs.Follows.Grow.{first_value}
+use Rattle.ipc_policy.specs.Decides.Verdict.{verdict}
 use Rattle.ipc_policy.proofs.Holdings.Holding.{holds_parts, given_held, other_held}
 use Rattle.ipc_policy.proofs.Directories.Living.{alive_given}
 use Rattle.ipc_policy.proofs.Histories.Grown.{grows}

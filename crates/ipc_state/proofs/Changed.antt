@@ -20,14 +20,14 @@ use Rattle.ipc_terms.specs.declared.record.Event.{Event}
 use Rattle.ipc_terms.specs.declared.record.Event.TheVariants.{Do}
 use Rattle.ipc_policy.specs.declared.config.Config.{Config}
 use Rattle.ipc_policy.specs.declared.config.Held.{Held}
-use Rattle.ipc_policy.specs.History.{History, after_accepted, unless, is_some_and, gathered_below}
-use Rattle.ipc_policy.specs.Names.{Opening, is_bound, creations, bound}
-use Rattle.ipc_policy.specs.Rules.{forbids, absent}
-use Rattle.ipc_policy.specs.Verdict.{verdict}
-use Rattle.ipc_policy.specs.Objects.{object, facts, directory, object_bits, directory_bits}
-use Rattle.ipc_policy.specs.Descriptions.{held}
-use Rattle.ipc_policy.specs.Life.{bindings, alive}
-use Rattle.ipc_policy.specs.Grow.{named_after, held_after, bindings_after}
+use Rattle.ipc_policy.specs.Decides.History.{History, after_accepted, unless, is_some_and, gathered_below}
+use Rattle.ipc_policy.specs.Decides.Names.{Opening, is_bound, creations, bound}
+use Rattle.ipc_policy.specs.Decides.Rules.{forbids, absent}
+use Rattle.ipc_policy.specs.Decides.Verdict.{verdict}
+use Rattle.ipc_policy.specs.Decides.Objects.{object, facts, directory, object_bits, directory_bits}
+use Rattle.ipc_policy.specs.Decides.Descriptions.{held}
+use Rattle.ipc_policy.specs.Decides.Life.{bindings, alive}
+use Rattle.ipc_policy.specs.Follows.Grow.{named_after, held_after, bindings_after}
 use Rattle.ipc_policy.proofs.Directories.Facts.{facts_left, facts_given, directory_grows}
 use Rattle.ipc_policy.proofs.Histories.Grown.{grows}
 use Rattle.ipc_policy.proofs.Histories.Known.{bound_iff}
@@ -45,7 +45,7 @@ use Rattle.ipc_state.proofs.Lookups.{row_other, row_own, facts_alive, bound_aliv
 use Rattle.ipc_state.proofs.ObjectTables.{directory_kept, objects_kept, row_kept, alive_kept, descriptions_kept}
 use Rattle.ipc_state.proofs.ChargeTables.{charged_same, limit_left, charges_kept}
 use Rattle.ipc_state.proofs.Opens.{Ends, made_left}
-use Rattle.ipc_policy.specs.Registrations.{registered}
+use Rattle.ipc_policy.specs.Decides.Registrations.{registered}
 use Rattle.ipc_policy.proofs.Queues.RegisteredSteps.{registered_stays}
 use Rattle.ipc_state.proofs.Accepting.{others_inside}
 use Rattle.ipc_state.proofs.Opened.{sessions_apart}

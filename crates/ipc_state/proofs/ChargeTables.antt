@@ -19,13 +19,13 @@ use Rattle.ipc_access.specs.declared.class.Cred.{Cred}
 use Rattle.ipc_access.specs.declared.users.User.{User}
 use Rattle.ipc_access.specs.Users.{cred_of}
 use Rattle.ipc_policy.specs.declared.config.Config.{Config}
-use Rattle.ipc_policy.specs.History.{History, after_accepted, newest, sum_below, gathered_below, is_some_and}
-use Rattle.ipc_policy.specs.Names.{creations}
-use Rattle.ipc_policy.specs.Objects.{object, facts}
-use Rattle.ipc_policy.specs.Life.{alive}
-use Rattle.ipc_policy.specs.Charges.{bytes_of, charge, charge_of as charge_of_object, charged, queues_alive, is_queue_alive, sets_limit, limit}
-use Rattle.ipc_policy.specs.Rules.{above_limit}
-use Rattle.ipc_policy.specs.Verdict.{Legal}
+use Rattle.ipc_policy.specs.Decides.History.{History, after_accepted, newest, sum_below, gathered_below, is_some_and}
+use Rattle.ipc_policy.specs.Decides.Names.{creations}
+use Rattle.ipc_policy.specs.Decides.Objects.{object, facts}
+use Rattle.ipc_policy.specs.Decides.Life.{alive}
+use Rattle.ipc_policy.specs.Decides.Charges.{bytes_of, charge, charge_of as charge_of_object, charged, queues_alive, is_queue_alive, sets_limit, limit}
+use Rattle.ipc_policy.specs.Decides.Rules.{above_limit}
+use Rattle.ipc_policy.specs.Decides.Verdict.{Legal}
 use Rattle.ipc_policy.proofs.Lists.Gathering.{passes, weighed, gathered_sum, gathered_count as gathered_passing}
 use Rattle.ipc_policy.proofs.Holdings.Holding.{how_many_below_same}
 use Rattle.ipc_policy.proofs.Queues.Charging.{sum_below_same}

@@ -13,12 +13,12 @@ use Rattle.ipc_containers.specs.declared.timed.Timed.{Timed}
 use Rattle.ipc_containers.specs.Calls.{AllBelow}
 use Rattle.ipc_containers.specs.Sessions.{NoneOf}
 use Rattle.ipc_policy.specs.declared.config.Config.{Config}
-use Rattle.ipc_policy.specs.History.{History, after_accepted}
-use Rattle.ipc_policy.specs.Timed.{now, told}
-use Rattle.ipc_policy.specs.Parking.{parked}
-use Rattle.ipc_policy.specs.Rules.{would_park}
-use Rattle.ipc_policy.specs.CallLists.{dropped, joined}
-use Rattle.ipc_policy.specs.Verdict.{verdict}
+use Rattle.ipc_policy.specs.Decides.History.{History, after_accepted}
+use Rattle.ipc_policy.specs.Decides.Timed.{now, told}
+use Rattle.ipc_policy.specs.Decides.Parking.{parked}
+use Rattle.ipc_policy.specs.Decides.Rules.{would_park}
+use Rattle.ipc_policy.specs.Follows.CallLists.{dropped, joined}
+use Rattle.ipc_policy.specs.Decides.Verdict.{verdict}
 use Rattle.ipc_policy.proofs.Histories.Grown.{grows}
 use Rattle.ipc_policy.proofs.Histories.Refused.{same_values}
 use Rattle.ipc_policy.proofs.Blocked.DueSteps.{list_same, list_new, listed_parked, listed_before}

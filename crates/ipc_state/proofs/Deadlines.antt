@@ -7,12 +7,12 @@ use Rattle.std.proofs.lemmas.Bool.{leb-true}
 use Rattle.ipc_containers.specs.declared.timed.Timed.{Timed}
 use Rattle.ipc_containers.specs.Calls.{is_over, IsLeast}
 use Rattle.ipc_policy.specs.declared.config.Config.{Config}
-use Rattle.ipc_policy.specs.History.{History}
-use Rattle.ipc_policy.specs.Timed.{now, deadline_at, is_past}
-use Rattle.ipc_policy.specs.Parking.{parked}
-use Rattle.ipc_policy.specs.Bodies.{due}
-use Rattle.ipc_policy.specs.Verdict.{Legal}
-use Rattle.ipc_policy.specs.CallLists.{In, IsTimedCall}
+use Rattle.ipc_policy.specs.Decides.History.{History}
+use Rattle.ipc_policy.specs.Decides.Timed.{now, deadline_at, is_past}
+use Rattle.ipc_policy.specs.Decides.Parking.{parked}
+use Rattle.ipc_policy.specs.Decides.Bodies.{due}
+use Rattle.ipc_policy.specs.Decides.Verdict.{Legal}
+use Rattle.ipc_policy.specs.Follows.CallLists.{In, IsTimedCall}
 use Rattle.ipc_policy.proofs.Blocked.DueLists.{in_each, first_is_due}
 use Rattle.ipc_state.specs.declared.clock.Clock.{Clock}
 use Rattle.ipc_state.specs.OnTime.{place_of, session_of, deadline_told, IsClock, IsOnTime}

@@ -18,13 +18,13 @@ use Rattle.ipc_queue.specs.Tickets.{Tickets}
 use Rattle.ipc_sem.specs.Counters.{Counter}
 use Rattle.ipc_policy.specs.declared.config.Config.{Config}
 use Rattle.ipc_policy.specs.declared.config.Held.{Held}
-use Rattle.ipc_policy.specs.History.{History}
-use Rattle.ipc_policy.specs.Timed.{now}
-use Rattle.ipc_policy.specs.Descriptions.{holds}
-use Rattle.ipc_policy.specs.Queues.{Send, Waiter}
-use Rattle.ipc_policy.specs.Bodies.{queue, semaphore, senders, receivers, waiters, due}
-use Rattle.ipc_policy.specs.Registrations.{registered}
-use Rattle.ipc_policy.specs.Verdict.{verdict, Legal}
+use Rattle.ipc_policy.specs.Decides.History.{History}
+use Rattle.ipc_policy.specs.Decides.Timed.{now}
+use Rattle.ipc_policy.specs.Decides.Descriptions.{holds}
+use Rattle.ipc_policy.specs.Decides.Queues.{Send, Waiter}
+use Rattle.ipc_policy.specs.Decides.Bodies.{queue, semaphore, senders, receivers, waiters, due}
+use Rattle.ipc_policy.specs.Decides.Registrations.{registered}
+use Rattle.ipc_policy.specs.Decides.Verdict.{verdict, Legal}
 use Rattle.ipc_policy.proofs.Histories.Unforbidden.{IsFree, call_free}
 use Rattle.ipc_policy.proofs.Blocked.DueLists.{first_is_due}
 use Rattle.ipc_tables.specs.TablesView.{TablesView}

@@ -4,7 +4,7 @@ use Rattle.std.specs.Option.{option_map, option_to_list}
 use Rattle.std.proofs.lemmas.Bool.{cases_eq}
 use Rattle.ipc_terms.specs.Lists.{changed_first}
 use Rattle.ipc_terms.proofs.Lists.{counted, count_push}
-use Rattle.ipc_policy.specs.History.{gathered_below, how_many_below}
+use Rattle.ipc_policy.specs.Decides.History.{gathered_below, how_many_below}
 use Rattle.ipc_policy.proofs.Lists.Gathering.{gathered_same, passes, find_none}
 use Rattle.ipc_policy.proofs.Directories.Living.{append_none}
 

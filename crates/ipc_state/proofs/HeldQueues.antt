@@ -11,21 +11,21 @@ use Rattle.ipc_queue.specs.declared.queue.Ticket.{Ticket}
 use Rattle.ipc_queue.specs.declared.queue.ParkedSend.{ParkedSend}
 use Rattle.ipc_policy.specs.declared.config.Config.{Config}
 use Rattle.ipc_policy.specs.declared.config.Held.{Held}
-use Rattle.ipc_policy.specs.History.{History}
-use Rattle.ipc_policy.specs.Objects.{object}
-use Rattle.ipc_policy.specs.Descriptions.{holds}
-use Rattle.ipc_policy.specs.Queues.{Send, Queue, next}
-use Rattle.ipc_policy.specs.Verdict.{Legal}
+use Rattle.ipc_policy.specs.Decides.History.{History}
+use Rattle.ipc_policy.specs.Decides.Objects.{object}
+use Rattle.ipc_policy.specs.Decides.Descriptions.{holds}
+use Rattle.ipc_policy.specs.Decides.Queues.{Send, Queue, next}
+use Rattle.ipc_policy.specs.Decides.Verdict.{Legal}
 use Rattle.ipc_policy.proofs.Semaphores.ValueCounts.{value_counted}
 use Rattle.ipc_terms.specs.Objects.{as_semaphore}
 use Rattle.ipc_terms.specs.declared.call.Attributes.{Attributes}
-use Rattle.ipc_policy.specs.Queues.{attributes}
-use Rattle.ipc_policy.specs.Semaphores.{Semaphore}
-use Rattle.ipc_policy.specs.Bodies.{queue, semaphore, value}
+use Rattle.ipc_policy.specs.Decides.Queues.{attributes}
+use Rattle.ipc_policy.specs.Decides.Semaphores.{Semaphore}
+use Rattle.ipc_policy.specs.Decides.Bodies.{queue, semaphore, value}
 use Rattle.ipc_sem.specs.Counters.{Counter}
 use Rattle.ipc_state.specs.StateView.{brought, queue_by, semaphore_by, value_by}
 use Rattle.ipc_policy.specs.declared.config.Registration.{Registration}
-use Rattle.ipc_policy.specs.Registrations.{registered}
+use Rattle.ipc_policy.specs.Decides.Registrations.{registered}
 use Rattle.ipc_state.specs.Agrees.{ticket_of, tickets_of, sender_of, receiver_of, queue_meant, counter_of, semaphore_meant}
 use Rattle.ipc_state.proofs.QueueSteps.{next_same}
 use Rattle.ipc_state.proofs.Mapped.{longest_mapped}

@@ -13,18 +13,18 @@ use Rattle.ipc_terms.specs.declared.object.Kind.TheVariants.{Queue as QueueKind,
 use Rattle.ipc_terms.specs.declared.record.Event.{Event}
 use Rattle.ipc_terms.specs.declared.record.Event.TheVariants.{Hello, Do, Hangup}
 use Rattle.ipc_policy.specs.declared.config.Config.{Config}
-use Rattle.ipc_policy.specs.Registrations.{registered}
-use Rattle.ipc_policy.specs.History.{History, after_accepted, gathered_below}
-use Rattle.ipc_policy.specs.Sessions.{hellos, user, live, mask}
-use Rattle.ipc_policy.specs.Names.{creations}
-use Rattle.ipc_policy.specs.Objects.{object, facts, directory}
-use Rattle.ipc_policy.specs.Descriptions.{opens, held, is_nonblock}
-use Rattle.ipc_policy.specs.Life.{named, bindings, alive}
-use Rattle.ipc_policy.specs.Queues.{attributes}
-use Rattle.ipc_policy.specs.Bodies.{queue, semaphore}
+use Rattle.ipc_policy.specs.Decides.Registrations.{registered}
+use Rattle.ipc_policy.specs.Decides.History.{History, after_accepted, gathered_below}
+use Rattle.ipc_policy.specs.Decides.Sessions.{hellos, user, live, mask}
+use Rattle.ipc_policy.specs.Decides.Names.{creations}
+use Rattle.ipc_policy.specs.Decides.Objects.{object, facts, directory}
+use Rattle.ipc_policy.specs.Decides.Descriptions.{opens, held, is_nonblock}
+use Rattle.ipc_policy.specs.Decides.Life.{named, bindings, alive}
+use Rattle.ipc_policy.specs.Decides.Queues.{attributes}
+use Rattle.ipc_policy.specs.Decides.Bodies.{queue, semaphore}
 use Rattle.ipc_terms.specs.declared.object.Object.{Object}
-use Rattle.ipc_policy.specs.Charges.{charged, limit}
-use Rattle.ipc_policy.specs.Parking.{Parked, parked}
+use Rattle.ipc_policy.specs.Decides.Charges.{charged, limit}
+use Rattle.ipc_policy.specs.Decides.Parking.{Parked, parked}
 use Rattle.ipc_policy.proofs.Holdings.Holding.{kept_all}
 use Rattle.ipc_policy.proofs.Histories.Grown.{grows}
 use Rattle.ipc_queue.specs.Tickets.{Tickets}

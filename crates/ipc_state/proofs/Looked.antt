@@ -17,15 +17,15 @@ use Rattle.ipc_policy.specs.declared.config.Config.{Config}
 use Rattle.ipc_policy.specs.declared.config.Held.{Held}
 use Rattle.ipc_policy.specs.declared.config.Registration.{Registration}
 use Rattle.ipc_policy.specs.declared.asking.Described.{Described}
-use Rattle.ipc_policy.specs.History.{History}
-use Rattle.ipc_policy.specs.Names.{Naming, naming, is_bound, bound}
-use Rattle.ipc_policy.specs.Objects.{object, facts}
-use Rattle.ipc_policy.specs.Descriptions.{holds, is_nonblock}
-use Rattle.ipc_policy.specs.Bodies.{value}
-use Rattle.ipc_policy.specs.Registrations.{registered}
-use Rattle.ipc_policy.specs.Verdict.{Legal}
+use Rattle.ipc_policy.specs.Decides.History.{History}
+use Rattle.ipc_policy.specs.Decides.Names.{Naming, naming, is_bound, bound}
+use Rattle.ipc_policy.specs.Decides.Objects.{object, facts}
+use Rattle.ipc_policy.specs.Decides.Descriptions.{holds, is_nonblock}
+use Rattle.ipc_policy.specs.Decides.Bodies.{value}
+use Rattle.ipc_policy.specs.Decides.Registrations.{registered}
+use Rattle.ipc_policy.specs.Decides.Verdict.{Legal}
 use Rattle.ipc_policy.proofs.Histories.Known.{bound_iff}
-use Rattle.ipc_policy.specs.Rules.{is_some_and, object_held, is_full, is_empty}
+use Rattle.ipc_policy.specs.Decides.Rules.{is_some_and, object_held, is_full, is_empty}
 use Rattle.ipc_state.specs.Agrees.{IsCore, DescriptionsAgree, held_in, queue_meant}
 use Rattle.ipc_state.proofs.Lookups.{mapped_some, found_is, facts_found, directory_agrees}
 use Rattle.ipc_state.proofs.QueueLookups.{holds_is, number_is, object_is, queue_is, semaphore_is, held_full_is, held_empty_is, held_test_is, nonblock_is}

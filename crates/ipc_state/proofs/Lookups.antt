@@ -15,18 +15,18 @@ use Rattle.ipc_names.specs.Directory.{Directory, object_named, names_object, bou
 use Rattle.ipc_policy.specs.declared.config.Config.{Config}
 use Rattle.ipc_policy.specs.declared.config.Held.{Held}
 use Rattle.ipc_terms.specs.declared.object.Object.{Object}
-use Rattle.ipc_policy.specs.History.{History, gathered_below, any_below}
-use Rattle.ipc_policy.specs.Sessions.{cred, mask}
-use Rattle.ipc_policy.specs.Names.{Opening, creations, bound}
-use Rattle.ipc_policy.specs.Objects.{object, facts}
-use Rattle.ipc_policy.specs.Descriptions.{opens, if_of, held, holds, held_count, is_nonblock}
-use Rattle.ipc_policy.specs.Life.{named, binding_of, bindings, names, gives_object, alive}
-use Rattle.ipc_policy.specs.Parking.{Parked, parked}
+use Rattle.ipc_policy.specs.Decides.History.{History, gathered_below, any_below}
+use Rattle.ipc_policy.specs.Decides.Sessions.{cred, mask}
+use Rattle.ipc_policy.specs.Decides.Names.{Opening, creations, bound}
+use Rattle.ipc_policy.specs.Decides.Objects.{object, facts}
+use Rattle.ipc_policy.specs.Decides.Descriptions.{opens, if_of, held, holds, held_count, is_nonblock}
+use Rattle.ipc_policy.specs.Decides.Life.{named, binding_of, bindings, names, gives_object, alive}
+use Rattle.ipc_policy.specs.Decides.Parking.{Parked, parked}
 use Rattle.ipc_policy.proofs.Lists.Gathering.{passes, gathered_any, gathered_find, any_one, any_below_same, any_below_at}
 use Rattle.ipc_policy.proofs.Holdings.Holding.{held_below, how_many_below_same}
 use Rattle.ipc_policy.proofs.Directories.Living.{named_below}
 use Rattle.ipc_policy.proofs.Directories.Listing.{listed_is_bound}
-use Rattle.ipc_policy.specs.Verdict.{Legal}
+use Rattle.ipc_policy.specs.Decides.Verdict.{Legal}
 use Rattle.ipc_policy.proofs.Histories.Known.{object_below}
 use Rattle.ipc_policy.proofs.Directories.Bindings.{object_with_facts}
 use Rattle.ipc_tables.specs.declared.rows.Session.{Session}
@@ -39,8 +39,8 @@ use Rattle.ipc_tables.specs.TablesView.{TablesView, directory_kept, parked_on_at
 use Rattle.ipc_terms.specs.Objects.{of_queue, as_queue, of_semaphore, as_semaphore}
 use Rattle.ipc_terms.specs.declared.object.Kind.{Kind}
 use Rattle.ipc_terms.specs.declared.object.Kind.TheVariants.{Queue as QueueKind, Semaphore as SemaphoreKind}
-use Rattle.ipc_policy.specs.Bodies.{queue, semaphore}
-use Rattle.ipc_policy.specs.Registrations.{registered}
+use Rattle.ipc_policy.specs.Decides.Bodies.{queue, semaphore}
+use Rattle.ipc_policy.specs.Decides.Registrations.{registered}
 use Rattle.ipc_state.specs.Agrees.{Agrees, SessionsAgree, DirectoryAgrees, ObjectsAgree, DescriptionsAgree, tickets_of, queue_meant, counter_of, semaphore_meant, Inside, inside, body_of, row_made, row_with, row_held, held_in}
 use Rattle.ipc_terms.proofs.Lists.{counted_is, found_any, eqb_swapped}
 use Rattle.ipc_state.proofs.Gathered.{gathered_count}

@@ -15,19 +15,19 @@ use Rattle.ipc_terms.proofs.Lists.{eqb_swapped}
 use Rattle.ipc_containers.specs.declared.timed.Timed.{Timed}
 use Rattle.ipc_policy.specs.declared.config.Config.{Config}
 use Rattle.ipc_policy.specs.declared.config.Held.{Held}
-use Rattle.ipc_policy.specs.History.{History, after_accepted, is_some_and}
-use Rattle.ipc_policy.specs.Timed.{deadline_at}
-use Rattle.ipc_policy.specs.Descriptions.{holds}
-use Rattle.ipc_policy.specs.Queues.{Send, Waiter}
-use Rattle.ipc_policy.specs.Bodies.{senders, receivers, waiters, is_full, is_empty, is_zero, due}
-use Rattle.ipc_policy.specs.Parking.{Sending, Receiving, Waiting, Parked, parked}
-use Rattle.ipc_policy.specs.Rules.{would_park}
-use Rattle.ipc_policy.specs.Verdict.{verdict, Legal}
+use Rattle.ipc_policy.specs.Decides.History.{History, after_accepted, is_some_and}
+use Rattle.ipc_policy.specs.Decides.Timed.{deadline_at}
+use Rattle.ipc_policy.specs.Decides.Descriptions.{holds}
+use Rattle.ipc_policy.specs.Decides.Queues.{Send, Waiter}
+use Rattle.ipc_policy.specs.Decides.Bodies.{senders, receivers, waiters, is_full, is_empty, is_zero, due}
+use Rattle.ipc_policy.specs.Decides.Parking.{Sending, Receiving, Waiting, Parked, parked}
+use Rattle.ipc_policy.specs.Decides.Rules.{would_park}
+use Rattle.ipc_policy.specs.Decides.Verdict.{verdict, Legal}
 use Rattle.ipc_policy.proofs.Histories.Unforbidden.{IsFree, call_free}
 use Rattle.ipc_policy.proofs.Blocked.ParkedSteps.{parked_by_others, parked_by_send, parked_by_receive, parked_by_interrupt, parked_by_hangup}
 use Rattle.ipc_policy.proofs.Blocked.WaitSteps.{parked_by_post, parked_by_wait, parked_by_try}
 use Rattle.ipc_policy.proofs.Blocked.TimedSteps.{parked_as_plain, parked_by_tick}
-use Rattle.ipc_policy.specs.CallLists.{IsCallList, dropped, joined}
+use Rattle.ipc_policy.specs.Follows.CallLists.{IsCallList, dropped, joined}
 use Rattle.ipc_policy.proofs.Blocked.DueSteps.{Comes, starting, parked_before, deadline_stays, deadline_here, list_left, list_stays, list_joined, list_same}
 use Rattle.ipc_tables.specs.TablesView.{TablesView}
 use Rattle.ipc_state.specs.Agrees.{IsCore}

@@ -11,11 +11,11 @@ use Rattle.ipc_names.specs.Directory.{Directory}
 use Rattle.ipc_policy.specs.declared.config.Config.{Config}
 use Rattle.ipc_policy.specs.declared.config.Held.{Held}
 use Rattle.ipc_terms.specs.declared.object.Object.{Object}
-use Rattle.ipc_policy.specs.History.{History, unless, gathered_below, any_below}
-use Rattle.ipc_policy.specs.Names.{Opening, creations}
-use Rattle.ipc_policy.specs.Objects.{object, facts, directory}
-use Rattle.ipc_policy.specs.Descriptions.{opens, held, is_nonblock}
-use Rattle.ipc_policy.specs.Life.{named, bindings, gives_object, alive}
+use Rattle.ipc_policy.specs.Decides.History.{History, unless, gathered_below, any_below}
+use Rattle.ipc_policy.specs.Decides.Names.{Opening, creations}
+use Rattle.ipc_policy.specs.Decides.Objects.{object, facts, directory}
+use Rattle.ipc_policy.specs.Decides.Descriptions.{opens, held, is_nonblock}
+use Rattle.ipc_policy.specs.Decides.Life.{named, bindings, gives_object, alive}
 use Rattle.ipc_policy.proofs.Lists.Gathering.{gathered_same, gathered_more, passing, gathered_filter, any_below_same, any_below_more, more_at}
 use Rattle.ipc_policy.proofs.Holdings.Holding.{kept_some}
 use Rattle.ipc_tables.specs.declared.rows.ObjectRow.{ObjectRow}
@@ -28,8 +28,8 @@ use Rattle.ipc_terms.specs.declared.call.Attributes.{Attributes}
 use Rattle.ipc_terms.specs.declared.object.Kind.{Kind}
 use Rattle.ipc_terms.specs.declared.object.Kind.TheVariants.{Queue as QueueKind, Semaphore as SemaphoreKind}
 use Rattle.ipc_policy.specs.declared.config.Registration.{Registration}
-use Rattle.ipc_policy.specs.Queues.{Queue}
-use Rattle.ipc_policy.specs.Semaphores.{Semaphore}
+use Rattle.ipc_policy.specs.Decides.Queues.{Queue}
+use Rattle.ipc_policy.specs.Decides.Semaphores.{Semaphore}
 use Rattle.ipc_tables.specs.Objects.{is_number, bytes_taken, new_body, new_row, with_queue, with_held}
 use Rattle.ipc_tables.specs.declared.rows.Body.TheVariants.{Queue as QueueBody}
 use Rattle.ipc_tables.specs.declared.rows.Body.{Body}

@@ -14,15 +14,15 @@ use Rattle.ipc_terms.specs.declared.record.Event.{Event}
 use Rattle.ipc_access.specs.declared.class.Cred.{Cred}
 use Rattle.ipc_policy.specs.declared.config.Config.{Config}
 use Rattle.ipc_policy.specs.declared.config.Held.{Held}
-use Rattle.ipc_policy.specs.History.{History, after_accepted, unless, any_below}
-use Rattle.ipc_policy.specs.Sessions.{cred, mask}
-use Rattle.ipc_policy.specs.Names.{Opening, Naming, nonblock_asked, unlinks, is_bound, creations, bound}
-use Rattle.ipc_policy.specs.Objects.{made_by, first_facts}
-use Rattle.ipc_policy.specs.Descriptions.{opens, opened, held}
-use Rattle.ipc_policy.specs.Life.{named, bindings, gives_object, alive}
-use Rattle.ipc_policy.specs.Semaphores.{with_first}
-use Rattle.ipc_policy.specs.Bodies.{semaphore}
-use Rattle.ipc_policy.specs.Grow.{is_new}
+use Rattle.ipc_policy.specs.Decides.History.{History, after_accepted, unless, any_below}
+use Rattle.ipc_policy.specs.Decides.Sessions.{cred, mask}
+use Rattle.ipc_policy.specs.Decides.Names.{Opening, Naming, nonblock_asked, unlinks, is_bound, creations, bound}
+use Rattle.ipc_policy.specs.Decides.Objects.{made_by, first_facts}
+use Rattle.ipc_policy.specs.Decides.Descriptions.{opens, opened, held}
+use Rattle.ipc_policy.specs.Decides.Life.{named, bindings, gives_object, alive}
+use Rattle.ipc_policy.specs.Decides.Semaphores.{with_first}
+use Rattle.ipc_policy.specs.Decides.Bodies.{semaphore}
+use Rattle.ipc_policy.specs.Follows.Grow.{is_new}
 use Rattle.ipc_policy.proofs.Holdings.Holding.{kept_all}
 use Rattle.ipc_policy.proofs.Histories.Grown.{grows}
 use Rattle.ipc_policy.proofs.Lists.Gathering.{filter_all}
@@ -43,7 +43,7 @@ use Rattle.ipc_state.proofs.SessionTables.{sessions_kept}
 use Rattle.ipc_policy.proofs.Directories.Facts.{GivesNothing, facts_made, directory_left}
 use Rattle.ipc_state.proofs.ObjectTables.{directory_kept, objects_kept, objects_created, descriptions_kept, descriptions_dropped}
 use Rattle.ipc_state.proofs.Opens.{Apart, Opens, Ends, Unlinks, Closes, made_open, made_left, body_made, descriptions_opened, alive_opened}
-use Rattle.ipc_policy.specs.Registrations.{registered}
+use Rattle.ipc_policy.specs.Decides.Registrations.{registered}
 use Rattle.ipc_policy.proofs.Queues.RegisteredSteps.{not_created_unregistered}
 use Rattle.ipc_state.proofs.Accepting.{others_inside, within}
 use Rattle.ipc_state.proofs.Releases.{gone}

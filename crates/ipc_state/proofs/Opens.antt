@@ -18,17 +18,17 @@ use Rattle.ipc_terms.specs.declared.record.Event.TheVariants.{Hello, Do, Hangup,
 use Rattle.ipc_policy.specs.declared.config.Config.{Config}
 use Rattle.ipc_policy.specs.declared.config.Held.{Held}
 use Rattle.ipc_policy.specs.declared.config.Registration.{Registration}
-use Rattle.ipc_policy.specs.Registrations.{registered}
+use Rattle.ipc_policy.specs.Decides.Registrations.{registered}
 use Rattle.ipc_policy.proofs.Queues.RegisteredSteps.{registered_stays, registered_kept}
-use Rattle.ipc_policy.specs.History.{History, after_accepted, unless, gathered_below, any_below}
-use Rattle.ipc_policy.specs.Names.{Opening, Naming, opening, unlinking, unlinks, queue_opening, semaphore_opening, nonblock_asked, is_bound, creations, bound}
-use Rattle.ipc_policy.specs.Objects.{kind_of}
-use Rattle.ipc_policy.specs.Descriptions.{opens, opened, opened_by, held_as, held, is_nonblock}
-use Rattle.ipc_policy.specs.Life.{named, gives_object, alive}
-use Rattle.ipc_policy.specs.Charges.{sets_limit}
-use Rattle.ipc_policy.specs.Queues.{Queue, empty_queue}
-use Rattle.ipc_policy.specs.Semaphores.{Semaphore, no_semaphore, with_first}
-use Rattle.ipc_policy.specs.Grow.{Grows, is_new, hellos_after, user_after, live_after, mask_after, nonblock_after, named_after, held_after, opens_after, bindings_after, creations_after, made_after}
+use Rattle.ipc_policy.specs.Decides.History.{History, after_accepted, unless, gathered_below, any_below}
+use Rattle.ipc_policy.specs.Decides.Names.{Opening, Naming, opening, unlinking, unlinks, queue_opening, semaphore_opening, nonblock_asked, is_bound, creations, bound}
+use Rattle.ipc_policy.specs.Decides.Objects.{kind_of}
+use Rattle.ipc_policy.specs.Decides.Descriptions.{opens, opened, opened_by, held_as, held, is_nonblock}
+use Rattle.ipc_policy.specs.Decides.Life.{named, gives_object, alive}
+use Rattle.ipc_policy.specs.Decides.Charges.{sets_limit}
+use Rattle.ipc_policy.specs.Decides.Queues.{Queue, empty_queue}
+use Rattle.ipc_policy.specs.Decides.Semaphores.{Semaphore, no_semaphore, with_first}
+use Rattle.ipc_policy.specs.Follows.Grow.{Grows, is_new, hellos_after, user_after, live_after, mask_after, nonblock_after, named_after, held_after, opens_after, bindings_after, creations_after, made_after}
 use Rattle.ipc_policy.proofs.Lists.Gathering.{gathered_more, any_below_same}
 use Rattle.ipc_policy.proofs.Blocked.ParkedSteps.{moves}
 use Rattle.ipc_descr.specs.Descriptions.{Descriptions, with_open}

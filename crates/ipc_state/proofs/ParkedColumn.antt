@@ -8,12 +8,12 @@ use Rattle.ipc_terms.specs.declared.call.Call.TheVariants.{MqSend, MqReceive, Se
 use Rattle.ipc_terms.specs.declared.record.Event.TheVariants.{Do, Hangup, Tick}
 use Rattle.ipc_policy.specs.declared.config.Config.{Config}
 use Rattle.ipc_policy.specs.declared.config.Held.{Held}
-use Rattle.ipc_policy.specs.History.{History, after_accepted, is_some_and}
-use Rattle.ipc_policy.specs.Descriptions.{holds}
-use Rattle.ipc_policy.specs.Queues.{Send, Waiter}
-use Rattle.ipc_policy.specs.Bodies.{senders, receivers, is_full, is_empty, waiters, is_zero, due}
-use Rattle.ipc_policy.specs.Parking.{Sending, Receiving, Waiting, Parked, parked}
-use Rattle.ipc_policy.specs.Verdict.{Legal}
+use Rattle.ipc_policy.specs.Decides.History.{History, after_accepted, is_some_and}
+use Rattle.ipc_policy.specs.Decides.Descriptions.{holds}
+use Rattle.ipc_policy.specs.Decides.Queues.{Send, Waiter}
+use Rattle.ipc_policy.specs.Decides.Bodies.{senders, receivers, is_full, is_empty, waiters, is_zero, due}
+use Rattle.ipc_policy.specs.Decides.Parking.{Sending, Receiving, Waiting, Parked, parked}
+use Rattle.ipc_policy.specs.Decides.Verdict.{Legal}
 use Rattle.ipc_policy.proofs.Blocked.ParkedSteps.{parked_by_send, parked_by_receive, parked_by_interrupt, parked_by_hangup}
 use Rattle.ipc_policy.proofs.Blocked.WaitSteps.{parked_by_post, parked_by_wait}
 use Rattle.ipc_policy.proofs.Blocked.TimedSteps.{parked_by_tick}

@@ -14,15 +14,15 @@ use Rattle.ipc_sem.specs.declared.semaphore.WaitOutcome.TheVariants.{Passed, Par
 use Rattle.ipc_sem.specs.Counters.{Counter, has_no_waiter, overflows, posted, wait_outcome, waited, tried, withdrawn}
 use Rattle.ipc_policy.specs.declared.config.Config.{Config}
 use Rattle.ipc_policy.specs.declared.config.Held.{Held}
-use Rattle.ipc_policy.specs.History.{History, after_accepted, is_some_and}
-use Rattle.ipc_policy.specs.Sessions.{hellos, user, live, mask}
-use Rattle.ipc_policy.specs.Objects.{object}
-use Rattle.ipc_policy.specs.Descriptions.{holds}
-use Rattle.ipc_policy.specs.Life.{alive}
-use Rattle.ipc_policy.specs.Queues.{Waiter}
-use Rattle.ipc_policy.specs.Semaphores.{Posts, Waits, Tries, WithdrawsWait, Semaphore, semaphore_after}
-use Rattle.ipc_policy.specs.Bodies.{semaphore, waiters, is_zero, is_greatest}
-use Rattle.ipc_policy.specs.Verdict.{verdict, Legal}
+use Rattle.ipc_policy.specs.Decides.History.{History, after_accepted, is_some_and}
+use Rattle.ipc_policy.specs.Decides.Sessions.{hellos, user, live, mask}
+use Rattle.ipc_policy.specs.Decides.Objects.{object}
+use Rattle.ipc_policy.specs.Decides.Descriptions.{holds}
+use Rattle.ipc_policy.specs.Decides.Life.{alive}
+use Rattle.ipc_policy.specs.Decides.Queues.{Waiter}
+use Rattle.ipc_policy.specs.Decides.Semaphores.{Posts, Waits, Tries, WithdrawsWait, Semaphore, semaphore_after}
+use Rattle.ipc_policy.specs.Decides.Bodies.{semaphore, waiters, is_zero, is_greatest}
+use Rattle.ipc_policy.specs.Decides.Verdict.{verdict, Legal}
 use Rattle.ipc_policy.proofs.Lists.EachItem.{each_first, each_map}
 use Rattle.ipc_policy.proofs.Blocked.CallsListed.{calls_listed}
 use Rattle.ipc_policy.proofs.Blocked.ParkedSessions.{waiters_differ}

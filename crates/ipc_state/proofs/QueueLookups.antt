@@ -8,16 +8,16 @@ use Rattle.std.proofs.lemmas.List.{length-map}
 use Rattle.ipc_queue.specs.Tickets.{is_full_of}
 use Rattle.ipc_policy.specs.declared.config.Config.{Config}
 use Rattle.ipc_policy.specs.declared.config.Held.{Held}
-use Rattle.ipc_policy.specs.History.{History}
-use Rattle.ipc_policy.specs.Objects.{object}
-use Rattle.ipc_policy.specs.Descriptions.{if_of, held, holds, is_nonblock}
-use Rattle.ipc_policy.specs.Queues.{has_none, attributes}
-use Rattle.ipc_policy.specs.Semaphores.{Semaphore}
-use Rattle.ipc_policy.specs.Bodies.{queue, contents, semaphore, value}
-use Rattle.ipc_policy.specs.Verdict.{Legal}
+use Rattle.ipc_policy.specs.Decides.History.{History}
+use Rattle.ipc_policy.specs.Decides.Objects.{object}
+use Rattle.ipc_policy.specs.Decides.Descriptions.{if_of, held, holds, is_nonblock}
+use Rattle.ipc_policy.specs.Decides.Queues.{has_none, attributes}
+use Rattle.ipc_policy.specs.Decides.Semaphores.{Semaphore}
+use Rattle.ipc_policy.specs.Decides.Bodies.{queue, contents, semaphore, value}
+use Rattle.ipc_policy.specs.Decides.Verdict.{Legal}
 use Rattle.ipc_policy.proofs.Semaphores.ValueCounts.{value_counted}
-use Rattle.ipc_policy.specs.Life.{alive}
-use Rattle.ipc_policy.specs.Rules.{is_some_and, object_held, is_full, is_empty}
+use Rattle.ipc_policy.specs.Decides.Life.{alive}
+use Rattle.ipc_policy.specs.Decides.Rules.{is_some_and, object_held, is_full, is_empty}
 use Rattle.ipc_tables.specs.declared.rows.ObjectRow.{ObjectRow}
 use Rattle.ipc_descr.specs.declared.row.Row.{Row}
 use Rattle.ipc_policy.proofs.Directories.Creating.{holds_is_held}
@@ -28,7 +28,7 @@ use Rattle.ipc_sem.specs.Counters.{Counter}
 use Rattle.ipc_terms.specs.Objects.{as_semaphore}
 use Rattle.ipc_tables.specs.Objects.{row_at, queue_at, semaphore_at}
 use Rattle.ipc_tables.specs.TablesView.{TablesView}
-use Rattle.ipc_policy.specs.Registrations.{registered}
+use Rattle.ipc_policy.specs.Decides.Registrations.{registered}
 use Rattle.ipc_state.specs.Agrees.{Agrees, row_held, held_in, ticket_of, tickets_of, queue_meant, counter_of, semaphore_meant}
 use Rattle.ipc_state.proofs.Lookups.{row_is, held_is, held_alive, object_alive, queue_alive, semaphore_alive}
 

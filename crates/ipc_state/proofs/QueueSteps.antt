@@ -11,14 +11,14 @@ use Rattle.ipc_terms.specs.Events.{is_session}
 use Rattle.ipc_terms.specs.Lists.{without_first}
 use Rattle.ipc_queue.specs.Tickets.{is_ticket, is_sender, is_full_of, next_ticket, without_next, sent_to, sent, received_by, received, withdrawn}
 use Rattle.ipc_terms.specs.declared.call.Attributes.{Attributes}
-use Rattle.ipc_policy.specs.Queues.{Send, Waiter, Sends, Receives, Withdraws, Queue, next, others, tail, has_none, is_filled, queue_after}
+use Rattle.ipc_policy.specs.Decides.Queues.{Send, Waiter, Sends, Receives, Withdraws, Queue, next, others, tail, has_none, is_filled, queue_after}
 use Rattle.ipc_policy.proofs.Lists.Counting.{count_at}
 use Rattle.ipc_policy.proofs.Lists.EntryOrder.{next_some}
 use Rattle.ipc_policy.proofs.Directories.Living.{append_none}
-use Rattle.ipc_policy.specs.Laws.{IsBounded}
+use Rattle.ipc_policy.specs.Follows.Laws.{IsBounded}
 use Rattle.ipc_policy.proofs.Blocked.ParkedSessions.{Different}
 use Rattle.ipc_policy.specs.declared.config.Registration.{Registration}
-use Rattle.ipc_policy.specs.Registrations.{is_idle}
+use Rattle.ipc_policy.specs.Decides.Registrations.{is_idle}
 use Rattle.ipc_state.specs.Agrees.{ticket_of, sender_of, receiver_of, tickets_of}
 use Rattle.ipc_state.proofs.Mapped.{first_of_mapped}
 

@@ -16,20 +16,20 @@ use Rattle.ipc_terms.specs.declared.record.Event.TheVariants.{Hello, Do, Hangup,
 use Rattle.ipc_policy.specs.declared.config.Config.{Config}
 use Rattle.ipc_policy.specs.declared.config.Held.{Held}
 use Rattle.ipc_policy.specs.declared.config.Registration.{Registration}
-use Rattle.ipc_policy.specs.History.{History, after_accepted, unless, is_some_and}
-use Rattle.ipc_policy.specs.Names.{Opening, opening, is_bound, creations}
-use Rattle.ipc_policy.specs.Objects.{object}
-use Rattle.ipc_policy.specs.Descriptions.{held, holds, is_nonblock}
-use Rattle.ipc_policy.specs.Life.{gives_object}
-use Rattle.ipc_policy.specs.Queues.{attributes}
-use Rattle.ipc_policy.specs.Bodies.{act, queue}
-use Rattle.ipc_policy.specs.Registrations.{registers, ends_registration, registered}
-use Rattle.ipc_policy.specs.Grow.{is_new}
-use Rattle.ipc_policy.specs.Verdict.{verdict, Legal}
+use Rattle.ipc_policy.specs.Decides.History.{History, after_accepted, unless, is_some_and}
+use Rattle.ipc_policy.specs.Decides.Names.{Opening, opening, is_bound, creations}
+use Rattle.ipc_policy.specs.Decides.Objects.{object}
+use Rattle.ipc_policy.specs.Decides.Descriptions.{held, holds, is_nonblock}
+use Rattle.ipc_policy.specs.Decides.Life.{gives_object}
+use Rattle.ipc_policy.specs.Decides.Queues.{attributes}
+use Rattle.ipc_policy.specs.Decides.Bodies.{act, queue}
+use Rattle.ipc_policy.specs.Decides.Registrations.{registers, ends_registration, registered}
+use Rattle.ipc_policy.specs.Follows.Grow.{is_new}
+use Rattle.ipc_policy.specs.Decides.Verdict.{verdict, Legal}
 use Rattle.ipc_policy.proofs.Histories.Known.{object_below}
 use Rattle.ipc_policy.proofs.Histories.Grown.{grows}
 use Rattle.ipc_policy.proofs.Histories.Unforbidden.{unforbidden, call_free}
-use Rattle.ipc_policy.specs.Rules.{forbids, notify_taken}
+use Rattle.ipc_policy.specs.Decides.Rules.{forbids, notify_taken}
 use Rattle.ipc_terms.specs.declared.rule.Rule.TheVariants.{NotifyTaken}
 use Rattle.ipc_queue.specs.Tickets.{Tickets}
 use Rattle.ipc_policy.proofs.Directories.Creating.{holds_is_held}

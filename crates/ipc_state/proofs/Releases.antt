@@ -10,20 +10,20 @@ use Rattle.ipc_names.specs.Directory.{Directory}
 use Rattle.ipc_policy.specs.declared.config.Config.{Config}
 use Rattle.ipc_policy.specs.declared.config.Held.{Held}
 use Rattle.ipc_policy.specs.declared.config.Registration.{Registration}
-use Rattle.ipc_policy.specs.Registrations.{registered}
+use Rattle.ipc_policy.specs.Decides.Registrations.{registered}
 use Rattle.ipc_policy.proofs.Queues.Registering.{IsHeldFor, registered_held}
 use Rattle.ipc_policy.proofs.Queues.RegisteredSteps.{registered_hangup}
 use Rattle.ipc_policy.proofs.Directories.Creating.{holds_is_held}
-use Rattle.ipc_policy.specs.History.{History, after_accepted, unless, gathered_below}
-use Rattle.ipc_policy.specs.Names.{Opening, creations}
-use Rattle.ipc_policy.specs.Objects.{object, facts}
-use Rattle.ipc_policy.specs.Descriptions.{opens, held, is_nonblock}
-use Rattle.ipc_policy.specs.Life.{named}
-use Rattle.ipc_policy.specs.Charges.{limit}
+use Rattle.ipc_policy.specs.Decides.History.{History, after_accepted, unless, gathered_below}
+use Rattle.ipc_policy.specs.Decides.Names.{Opening, creations}
+use Rattle.ipc_policy.specs.Decides.Objects.{object, facts}
+use Rattle.ipc_policy.specs.Decides.Descriptions.{opens, held, is_nonblock}
+use Rattle.ipc_policy.specs.Decides.Life.{named}
+use Rattle.ipc_policy.specs.Decides.Charges.{limit}
 use Rattle.ipc_policy.proofs.Directories.Bindings.{object_with_facts}
-use Rattle.ipc_policy.specs.Parking.{parked}
-use Rattle.ipc_policy.specs.Grow.{Grows}
-use Rattle.ipc_policy.specs.Verdict.{Legal}
+use Rattle.ipc_policy.specs.Decides.Parking.{parked}
+use Rattle.ipc_policy.specs.Follows.Grow.{Grows}
+use Rattle.ipc_policy.specs.Decides.Verdict.{Legal}
 use Rattle.ipc_policy.proofs.Histories.Grown.{grows}
 use Rattle.ipc_policy.proofs.Blocked.ParkedSessions.{if_of_is, session_is}
 use Rattle.ipc_policy.proofs.Blocked.WaitSteps.{semaphore_by_hangup}

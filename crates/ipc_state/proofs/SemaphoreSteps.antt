@@ -6,8 +6,8 @@ use Rattle.std.proofs.lemmas.List.{map_push}
 use Rattle.ipc_terms.specs.Events.{is_session}
 use Rattle.ipc_terms.specs.declared.ids.Sid.{Sid}
 use Rattle.ipc_sem.specs.Counters.{posted_to, posted, waited, tried, withdrawn}
-use Rattle.ipc_policy.specs.Queues.{Waiter, tail, has_none}
-use Rattle.ipc_policy.specs.Semaphores.{Posts, Waits, Tries, WithdrawsWait, Semaphore, semaphore_after}
+use Rattle.ipc_policy.specs.Decides.Queues.{Waiter, tail, has_none}
+use Rattle.ipc_policy.specs.Decides.Semaphores.{Posts, Waits, Tries, WithdrawsWait, Semaphore, semaphore_after}
 use Rattle.ipc_policy.proofs.Blocked.ParkedSessions.{Different}
 use Rattle.ipc_state.specs.Agrees.{receiver_of, counter_of}
 use Rattle.ipc_state.proofs.QueueSteps.{left_is}

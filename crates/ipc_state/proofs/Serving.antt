@@ -20,27 +20,27 @@ use Rattle.ipc_terms.specs.declared.call.Attributes.{Attributes}
 use Rattle.ipc_terms.specs.declared.object.Object.{Object}
 use Rattle.ipc_terms.specs.declared.ids.Family.TheVariants.{Mq, Sem}
 use Rattle.ipc_terms.specs.Objects.{as_queue, as_semaphore}
-use Rattle.ipc_policy.specs.Objects.{object}
-use Rattle.ipc_policy.specs.History.{History, after_accepted, is_some_and}
-use Rattle.ipc_policy.specs.Sessions.{hellos, user, live, mask}
-use Rattle.ipc_policy.specs.Descriptions.{holds}
-use Rattle.ipc_policy.specs.Life.{alive, gives_object}
+use Rattle.ipc_policy.specs.Decides.Objects.{object}
+use Rattle.ipc_policy.specs.Decides.History.{History, after_accepted, is_some_and}
+use Rattle.ipc_policy.specs.Decides.Sessions.{hellos, user, live, mask}
+use Rattle.ipc_policy.specs.Decides.Descriptions.{holds}
+use Rattle.ipc_policy.specs.Decides.Life.{alive, gives_object}
 use Rattle.ipc_policy.specs.declared.config.Registration.{Registration}
-use Rattle.ipc_policy.specs.Registrations.{fires, registered}
+use Rattle.ipc_policy.specs.Decides.Registrations.{fires, registered}
 use Rattle.ipc_policy.proofs.Queues.RegisteredSteps.{registered_stays, registered_send}
-use Rattle.ipc_policy.specs.Queues.{Send, Waiter, Sends, Receives, Withdraws, NoAct, Queue, next, has_none, is_filled, maxmsg_of, attributes, maxmsg, queue_after}
-use Rattle.ipc_policy.specs.Bodies.{queue, contents, senders, receivers, is_full, is_empty}
-use Rattle.ipc_policy.specs.Parking.{Parked, parked}
+use Rattle.ipc_policy.specs.Decides.Queues.{Send, Waiter, Sends, Receives, Withdraws, NoAct, Queue, next, has_none, is_filled, maxmsg_of, attributes, maxmsg, queue_after}
+use Rattle.ipc_policy.specs.Decides.Bodies.{queue, contents, senders, receivers, is_full, is_empty}
+use Rattle.ipc_policy.specs.Decides.Parking.{Parked, parked}
 use Rattle.ipc_policy.specs.declared.asking.Described.{Described}
-use Rattle.ipc_policy.specs.Rules.{forbids, bad_descr, described, not_held}
-use Rattle.ipc_policy.specs.Verdict.{verdict, Legal}
+use Rattle.ipc_policy.specs.Decides.Rules.{forbids, bad_descr, described, not_held}
+use Rattle.ipc_policy.specs.Decides.Verdict.{verdict, Legal}
 use Rattle.ipc_policy.proofs.Lists.EachItem.{each_first, each_map}
 use Rattle.ipc_policy.proofs.Lists.EntryOrder.{next_some}
 use Rattle.ipc_policy.proofs.Queues.Keeping.{sent_once}
 use Rattle.ipc_policy.proofs.Lists.Lengths.{none_is_empty}
 use Rattle.ipc_policy.proofs.Fates.Sent.{IsSent, all_sent, next_sent}
 use Rattle.ipc_policy.proofs.Blocked.CallsListed.{calls_listed}
-use Rattle.ipc_policy.specs.Laws.{IsBounded}
+use Rattle.ipc_policy.specs.Follows.Laws.{IsBounded}
 use Rattle.ipc_policy.proofs.Queues.QueueBounds.{bounded, room_positive}
 use Rattle.ipc_policy.proofs.Blocked.ParkedSessions.{senders_differ, receivers_differ}
 use Rattle.ipc_policy.proofs.Blocked.ParkedSteps.{queue_by_send, queue_by_receive}

@@ -11,11 +11,11 @@ use Rattle.ipc_terms.specs.declared.call.Call.TheVariants.{Umask}
 use Rattle.ipc_terms.specs.declared.record.Event.{Event}
 use Rattle.ipc_terms.specs.declared.record.Event.TheVariants.{Hello, Do, Hangup}
 use Rattle.ipc_policy.specs.declared.config.Config.{Config}
-use Rattle.ipc_policy.specs.History.{History, after_accepted}
-use Rattle.ipc_policy.specs.Sessions.{hellos, user, live, mask}
-use Rattle.ipc_policy.specs.Parking.{Parked, parked}
-use Rattle.ipc_policy.specs.Grow.{Grows, hellos_after, user_after, live_after, mask_after}
-use Rattle.ipc_policy.specs.Verdict.{Legal}
+use Rattle.ipc_policy.specs.Decides.History.{History, after_accepted}
+use Rattle.ipc_policy.specs.Decides.Sessions.{hellos, user, live, mask}
+use Rattle.ipc_policy.specs.Decides.Parking.{Parked, parked}
+use Rattle.ipc_policy.specs.Follows.Grow.{Grows, hellos_after, user_after, live_after, mask_after}
+use Rattle.ipc_policy.specs.Decides.Verdict.{Legal}
 use Rattle.ipc_policy.proofs.Histories.Known.{first_mask}
 use Rattle.ipc_policy.proofs.Blocked.ParkedSteps.{parked_by_others}
 use Rattle.ipc_tables.specs.declared.rows.Session.{Session}

@@ -8,16 +8,16 @@ use Rattle.ipc_terms.specs.declared.object.Kind.{Kind}
 use Rattle.ipc_terms.specs.declared.object.Kind.TheVariants.{Queue as QueueKind, Semaphore as SemaphoreKind}
 use Rattle.ipc_terms.specs.declared.record.Event.TheVariants.{Do, Tick}
 use Rattle.ipc_policy.specs.declared.config.Config.{Config}
-use Rattle.ipc_policy.specs.Registrations.{registered}
+use Rattle.ipc_policy.specs.Decides.Registrations.{registered}
 use Rattle.ipc_policy.proofs.Queues.RegisteredSteps.{registered_stays}
-use Rattle.ipc_policy.specs.History.{History, after_accepted, is_some_and, gathered_below}
-use Rattle.ipc_policy.specs.Sessions.{hellos, user, live, mask}
-use Rattle.ipc_policy.specs.Names.{creations}
-use Rattle.ipc_policy.specs.Queues.{Withdraws, withdrawal, queue_after, maxmsg}
-use Rattle.ipc_policy.specs.Semaphores.{WithdrawsWait, wait_withdrawal, semaphore_after}
-use Rattle.ipc_policy.specs.Bodies.{queue, semaphore, due}
-use Rattle.ipc_policy.specs.Parking.{Parked, parked}
-use Rattle.ipc_policy.specs.Verdict.{Legal}
+use Rattle.ipc_policy.specs.Decides.History.{History, after_accepted, is_some_and, gathered_below}
+use Rattle.ipc_policy.specs.Decides.Sessions.{hellos, user, live, mask}
+use Rattle.ipc_policy.specs.Decides.Names.{creations}
+use Rattle.ipc_policy.specs.Decides.Queues.{Withdraws, withdrawal, queue_after, maxmsg}
+use Rattle.ipc_policy.specs.Decides.Semaphores.{WithdrawsWait, wait_withdrawal, semaphore_after}
+use Rattle.ipc_policy.specs.Decides.Bodies.{queue, semaphore, due}
+use Rattle.ipc_policy.specs.Decides.Parking.{Parked, parked}
+use Rattle.ipc_policy.specs.Decides.Verdict.{Legal}
 use Rattle.ipc_policy.proofs.Blocked.ParkedSessions.{withdrawn_elsewhere, cancelled_elsewhere}
 use Rattle.ipc_policy.proofs.Blocked.WaitSteps.{semaphore_by_interrupt}
 use Rattle.ipc_policy.proofs.Blocked.ParkedSteps.{queue_by_interrupt}

@@ -29,19 +29,19 @@ use Rattle.ipc_tables.specs.TablesView.{TablesView, live_at, parked_on_at}
 use Rattle.ipc_policy.specs.declared.config.Config.{Config}
 use Rattle.ipc_policy.specs.declared.config.Held.{Held}
 use Rattle.ipc_policy.specs.declared.config.Registration.{Registration}
-use Rattle.ipc_policy.specs.Registrations.{registered}
-use Rattle.ipc_policy.specs.History.{History, gathered_below}
-use Rattle.ipc_policy.specs.Sessions.{hellos, user, live, mask}
-use Rattle.ipc_policy.specs.Names.{creations}
-use Rattle.ipc_policy.specs.Objects.{object, facts, directory}
-use Rattle.ipc_policy.specs.Descriptions.{opens, held, is_nonblock}
-use Rattle.ipc_policy.specs.Queues.{Send, Waiter, Queue, attributes}
-use Rattle.ipc_policy.specs.Semaphores.{Semaphore}
-use Rattle.ipc_policy.specs.Bodies.{queue, semaphore}
-use Rattle.ipc_policy.specs.Parking.{parked}
-use Rattle.ipc_policy.specs.Life.{bindings, alive}
-use Rattle.ipc_policy.specs.Charges.{charged, limit}
-use Rattle.ipc_policy.specs.Verdict.{Legal}
+use Rattle.ipc_policy.specs.Decides.Registrations.{registered}
+use Rattle.ipc_policy.specs.Decides.History.{History, gathered_below}
+use Rattle.ipc_policy.specs.Decides.Sessions.{hellos, user, live, mask}
+use Rattle.ipc_policy.specs.Decides.Names.{creations}
+use Rattle.ipc_policy.specs.Decides.Objects.{object, facts, directory}
+use Rattle.ipc_policy.specs.Decides.Descriptions.{opens, held, is_nonblock}
+use Rattle.ipc_policy.specs.Decides.Queues.{Send, Waiter, Queue, attributes}
+use Rattle.ipc_policy.specs.Decides.Semaphores.{Semaphore}
+use Rattle.ipc_policy.specs.Decides.Bodies.{queue, semaphore}
+use Rattle.ipc_policy.specs.Decides.Parking.{parked}
+use Rattle.ipc_policy.specs.Decides.Life.{bindings, alive}
+use Rattle.ipc_policy.specs.Decides.Charges.{charged, limit}
+use Rattle.ipc_policy.specs.Decides.Verdict.{Legal}
 use Rattle.ipc_state.specs.Ranges.{first_bad}
 
 -- sessions stand at their numbers, each with its user, its mask, whether it is live, and what its call is parked on

@@ -6,7 +6,7 @@ use Rattle.ipc_terms.specs.declared.ids.Target.TheVariants.{Dir, Name}
 use Rattle.ipc_terms.specs.declared.call.Call.{Call}
 use Rattle.ipc_terms.specs.declared.call.Call.TheVariants.{Chmod, Chown}
 use Rattle.ipc_terms.specs.declared.facts.Facts.{Facts}
-use Rattle.ipc_policy.specs.Objects.{object_bits, directory_bits}
+use Rattle.ipc_policy.specs.Decides.Objects.{object_bits, directory_bits}
 
 -- what a chmod or a chown means, if the call is one
 abbrev pub changing : Call → Option Target

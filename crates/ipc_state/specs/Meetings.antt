@@ -8,12 +8,12 @@ use Rattle.ipc_terms.specs.declared.ids.Target.TheVariants.{Dir, Name}
 use Rattle.ipc_terms.specs.declared.facts.Facts.{Facts}
 use Rattle.ipc_terms.specs.Events.{caller}
 use Rattle.ipc_policy.specs.declared.config.Config.{Config}
-use Rattle.ipc_policy.specs.History.{History}
-use Rattle.ipc_policy.specs.Names.{Naming, naming, bound}
-use Rattle.ipc_policy.specs.Objects.{facts, directory}
-use Rattle.ipc_policy.specs.Descriptions.{holds}
+use Rattle.ipc_policy.specs.Decides.History.{History}
+use Rattle.ipc_policy.specs.Decides.Names.{Naming, naming, bound}
+use Rattle.ipc_policy.specs.Decides.Objects.{facts, directory}
+use Rattle.ipc_policy.specs.Decides.Descriptions.{holds}
 use Rattle.ipc_policy.specs.declared.asking.Described.{Described}
-use Rattle.ipc_policy.specs.Rules.{described}
+use Rattle.ipc_policy.specs.Decides.Rules.{described}
 use Rattle.ipc_queue.specs.Tickets.{Tickets}
 use Rattle.ipc_sem.specs.Counters.{Counter}
 use Rattle.ipc_state.specs.Agrees.{queue_meant, semaphore_meant}

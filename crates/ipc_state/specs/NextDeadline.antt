@@ -1,10 +1,10 @@
 -- The least deadline of the calls that are parked.
 use Rattle.std.specs.Prelude.{◌≡◌, ℕ, ◌≤◌, max, Option, Some, is_some, MatchOption}
 use Rattle.ipc_policy.specs.declared.config.Config.{Config}
-use Rattle.ipc_policy.specs.History.{History}
-use Rattle.ipc_policy.specs.Timed.{now, deadline_at, is_past}
-use Rattle.ipc_policy.specs.Bodies.{due}
-use Rattle.ipc_policy.specs.Parking.{Parked, parked}
+use Rattle.ipc_policy.specs.Decides.History.{History}
+use Rattle.ipc_policy.specs.Decides.Timed.{now, deadline_at, is_past}
+use Rattle.ipc_policy.specs.Decides.Bodies.{due}
+use Rattle.ipc_policy.specs.Decides.Parking.{Parked, parked}
 
 -- session s is parked in a call that waits no longer than to t
 pub record WaitsUntil (c : Config) (h : History) (s t : ℕ) : Type 0 where

@@ -12,12 +12,12 @@ use Rattle.ipc_containers.specs.Sessions.{NoneOf}
 use Rattle.ipc_tables.specs.TablesView.{TablesView}
 use Rattle.ipc_state.specs.declared.clock.Clock.{Clock}
 use Rattle.ipc_state.specs.Agrees.{IsCore}
-use Rattle.ipc_policy.specs.CallLists.{IsTimedList}
+use Rattle.ipc_policy.specs.Follows.CallLists.{IsTimedList}
 use Rattle.ipc_policy.specs.declared.config.Config.{Config}
-use Rattle.ipc_policy.specs.History.{History}
-use Rattle.ipc_policy.specs.Timed.{now}
-use Rattle.ipc_policy.specs.Descriptions.{holds}
-use Rattle.ipc_policy.specs.Bodies.{senders, receivers, waiters, due}
+use Rattle.ipc_policy.specs.Decides.History.{History}
+use Rattle.ipc_policy.specs.Decides.Timed.{now}
+use Rattle.ipc_policy.specs.Decides.Descriptions.{holds}
+use Rattle.ipc_policy.specs.Decides.Bodies.{senders, receivers, waiters, due}
 
 -- the session whose parked call the event ends, if it is accepted; a timed call ends what it does without its deadline
 abbrev pub ended_call : Config → History → Event → Option ℕ

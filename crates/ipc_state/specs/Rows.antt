@@ -12,7 +12,7 @@ use Rattle.ipc_tables.specs.declared.rows.ObjectRow.{ObjectRow}
 use Rattle.ipc_tables.specs.Objects.{row_at}
 use Rattle.ipc_tables.specs.TablesView.{TablesView, directory_kept, live_session, parked_on_at}
 use Rattle.ipc_policy.specs.declared.config.Config.{Config}
-use Rattle.ipc_policy.specs.History.{History}
+use Rattle.ipc_policy.specs.Decides.History.{History}
 use Rattle.ipc_state.specs.declared.clock.Clock.{Clock}
 use Rattle.ipc_state.specs.Agrees.{IsCore}
 use Rattle.ipc_state.specs.OnTime.{IsOnTime}

@@ -6,13 +6,13 @@ use Rattle.ipc_terms.specs.History.{Message}
 use Rattle.ipc_terms.specs.Objects.{as_semaphore}
 use Rattle.ipc_terms.specs.declared.record.Event.{Event}
 use Rattle.ipc_policy.specs.declared.config.Config.{Config}
-use Rattle.ipc_policy.specs.History.{History}
-use Rattle.ipc_policy.specs.Objects.{object}
-use Rattle.ipc_policy.specs.Descriptions.{holds}
-use Rattle.ipc_policy.specs.Queues.{Send, Queue, attributes}
-use Rattle.ipc_policy.specs.Semaphores.{Semaphore}
-use Rattle.ipc_policy.specs.Bodies.{queue, semaphore, value}
-use Rattle.ipc_policy.specs.Verdict.{after_event}
+use Rattle.ipc_policy.specs.Decides.History.{History}
+use Rattle.ipc_policy.specs.Decides.Objects.{object}
+use Rattle.ipc_policy.specs.Decides.Descriptions.{holds}
+use Rattle.ipc_policy.specs.Decides.Queues.{Send, Queue, attributes}
+use Rattle.ipc_policy.specs.Decides.Semaphores.{Semaphore}
+use Rattle.ipc_policy.specs.Decides.Bodies.{queue, semaphore, value}
+use Rattle.ipc_policy.specs.Decides.Verdict.{after_event}
 
 pub record StateView : Type 0 where
   pub config : Config

@@ -5,12 +5,12 @@ ghost use Rattle.ipc_terms.specs.declared.record.Event.TheVariants.{Hello, Do, H
 ghost use Rattle.ipc_terms.specs.declared.call.Call.TheVariants.{Umask, MqSetattr, MqGive, SetLimit, Interrupt};
 ghost use Rattle.std.specs.Option.{option_map};
 ghost use Rattle.ipc_terms.specs.Timed.{plain, plain_call};
-ghost use Rattle.ipc_policy.specs.Bodies.{due};
-ghost use Rattle.ipc_policy.specs.History.{after_accepted};
-ghost use Rattle.ipc_policy.specs.Names.{opening, nonblock_asked};
-ghost use Rattle.ipc_policy.specs.Objects.{made_by, first_facts};
-ghost use Rattle.ipc_policy.specs.Rules.{described};
-ghost use Rattle.ipc_policy.specs.Verdict.{verdict};
+ghost use Rattle.ipc_policy.specs.Decides.Bodies.{due};
+ghost use Rattle.ipc_policy.specs.Decides.History.{after_accepted};
+ghost use Rattle.ipc_policy.specs.Decides.Names.{opening, nonblock_asked};
+ghost use Rattle.ipc_policy.specs.Decides.Objects.{made_by, first_facts};
+ghost use Rattle.ipc_policy.specs.Decides.Rules.{described};
+ghost use Rattle.ipc_policy.specs.Decides.Verdict.{verdict};
 ghost use Rattle.ipc_state.specs.Agrees.{Agrees, IsCore};
 ghost use Rattle.ipc_state.specs.Meetings.{by_description, by_name, object_by, object_bound};
 ghost use Rattle.ipc_state.specs.OnTime.{ended_call};

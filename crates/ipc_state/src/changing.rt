@@ -2,8 +2,8 @@
 
 ghost use Rattle.std.specs.Prelude.{◌≡◌, Some, None};
 ghost use Rattle.ipc_terms.specs.declared.record.Event.TheVariants.{Do};
-ghost use Rattle.ipc_policy.specs.History.{after_accepted};
-ghost use Rattle.ipc_policy.specs.Verdict.{verdict};
+ghost use Rattle.ipc_policy.specs.Decides.History.{after_accepted};
+ghost use Rattle.ipc_policy.specs.Decides.Verdict.{verdict};
 ghost use Rattle.ipc_state.specs.Agrees.{Agrees, IsCore};
 ghost use Rattle.ipc_state.specs.Meetings.{by_name, object_bound};
 ghost use Rattle.ipc_state.specs.Changes.{changing, bits_of, changed_by};

@@ -5,8 +5,8 @@ ghost use Rattle.std.specs.Option.{option_map, IfSome};
 ghost use Rattle.ipc_terms.specs.Events.{caller};
 ghost use Rattle.ipc_terms.specs.Timed.{deadline};
 ghost use Rattle.ipc_containers.specs.Calls.{is_over};
-ghost use Rattle.ipc_policy.specs.Timed.{told};
-ghost use Rattle.ipc_policy.specs.CallLists.{dropped, joined};
+ghost use Rattle.ipc_policy.specs.Decides.Timed.{told};
+ghost use Rattle.ipc_policy.specs.Follows.CallLists.{dropped, joined};
 ghost use Rattle.ipc_state.specs.OnTime.{MayCome, new_call, session_of, with_calls};
 
 use ipc_containers::{Timed, TimedCalls};

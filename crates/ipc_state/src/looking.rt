@@ -6,7 +6,7 @@ ghost use Rattle.ipc_terms.specs.Lists.{first};
 ghost use Rattle.ipc_queue.specs.Tickets.{is_full_of};
 ghost use Rattle.ipc_tables.specs.Objects.{row_at, queue_in, semaphore_in};
 ghost use Rattle.ipc_tables.specs.TablesView.{is_live_row};
-ghost use Rattle.ipc_policy.specs.History.{is_some_and};
+ghost use Rattle.ipc_policy.specs.Decides.History.{is_some_and};
 ghost use Rattle.ipc_state.specs.Agrees.{held_in};
 ghost use Rattle.ipc_state.specs.Rows.{user_in, row_meant, number_meant};
 

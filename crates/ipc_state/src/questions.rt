@@ -2,10 +2,10 @@
 
 ghost use Rattle.std.specs.Prelude.{◌≡◌, IfOk};
 ghost use Rattle.ipc_terms.specs.Pages.{page};
-ghost use Rattle.ipc_policy.specs.Sessions.{hellos};
-ghost use Rattle.ipc_policy.specs.Descriptions.{held_count, opens};
-ghost use Rattle.ipc_policy.specs.Charges.{queues_alive, limit, charged};
-ghost use Rattle.ipc_policy.specs.Life.{names};
+ghost use Rattle.ipc_policy.specs.Decides.Sessions.{hellos};
+ghost use Rattle.ipc_policy.specs.Decides.Descriptions.{held_count, opens};
+ghost use Rattle.ipc_policy.specs.Decides.Charges.{queues_alive, limit, charged};
+ghost use Rattle.ipc_policy.specs.Decides.Life.{names};
 
 use crate::lookup::Lookup;
 use ipc_terms::{Family, Names, NoMemory, Sid, Uid};

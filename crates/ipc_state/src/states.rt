@@ -3,10 +3,10 @@
 ghost use Rattle.std.specs.Prelude.{◌≡◌, ◌+◌, ◌^◌, ◌<◌, ◌∷◌, min, length, None, [], IfOk, OnOk, OnErr};
 ghost use Rattle.std.specs.Option.{option_map};
 ghost use Rattle.ipc_terms.specs.Timed.{plain};
-ghost use Rattle.ipc_policy.specs.Bodies.{due};
-ghost use Rattle.ipc_policy.specs.Rules.{would_park};
-ghost use Rattle.ipc_policy.specs.Sessions.{live};
-ghost use Rattle.ipc_policy.specs.Verdict.{verdict, Legal};
+ghost use Rattle.ipc_policy.specs.Decides.Bodies.{due};
+ghost use Rattle.ipc_policy.specs.Decides.Rules.{would_park};
+ghost use Rattle.ipc_policy.specs.Decides.Sessions.{live};
+ghost use Rattle.ipc_policy.specs.Decides.Verdict.{verdict, Legal};
 ghost use Rattle.ipc_state.specs.Ranges.{first_bad};
 ghost use Rattle.ipc_state.specs.StateView.{with_event};
 ghost use Rattle.ipc_state.specs.Agrees.{IsCore};

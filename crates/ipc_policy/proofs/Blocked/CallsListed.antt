@@ -16,16 +16,16 @@ use Rattle.ipc_terms.specs.declared.record.Event.TheVariants.{Hello, Do, Hangup,
 use Rattle.ipc_policy.specs.declared.config.Config.{Config}
 use Rattle.ipc_policy.specs.declared.config.Held.{Held}
 use Rattle.ipc_terms.specs.declared.call.Attributes.{Attributes}
-use Rattle.ipc_policy.specs.History.{History, unless, is_some_and}
-use Rattle.ipc_policy.specs.Descriptions.{holds}
-use Rattle.ipc_policy.specs.Queues.{Send, Waiter, Act, Sends, Receives, Withdraws, NoAct, Queue, is_filled, has_none, tail, senders_after, receivers_after, queue_after, maxmsg, maxmsg_of, attributes}
-use Rattle.ipc_policy.specs.Semaphores.{SemaphoreAct, Posts, Waits, Tries, WithdrawsWait, NoSemaphoreAct, Semaphore, semaphore_after, waiters_after, gives_value}
-use Rattle.ipc_policy.specs.Bodies.{act, queue, contents, senders, receivers, is_full, is_empty, semaphore_act, semaphore, value, waiters, is_zero}
-use Rattle.ipc_policy.specs.Parking.{ParkedKind, Sending, Receiving, Waiting, Parked, withdraws, is_posted, plain_parks, parks, parked_on, ends_call, ends_parked, parked, stands_at, seen}
-use Rattle.ipc_policy.specs.Readings.{ends_send, ends_receive}
-use Rattle.ipc_policy.specs.Rules.{forbids, in_call, is_interrupt}
-use Rattle.ipc_policy.specs.Verdict.{verdict}
-use Rattle.ipc_policy.specs.Laws.{IsListed, ParkedIsListed, place_listed}
+use Rattle.ipc_policy.specs.Decides.History.{History, unless, is_some_and}
+use Rattle.ipc_policy.specs.Decides.Descriptions.{holds}
+use Rattle.ipc_policy.specs.Decides.Queues.{Send, Waiter, Act, Sends, Receives, Withdraws, NoAct, Queue, is_filled, has_none, tail, senders_after, receivers_after, queue_after, maxmsg, maxmsg_of, attributes}
+use Rattle.ipc_policy.specs.Decides.Semaphores.{SemaphoreAct, Posts, Waits, Tries, WithdrawsWait, NoSemaphoreAct, Semaphore, semaphore_after, waiters_after, gives_value}
+use Rattle.ipc_policy.specs.Decides.Bodies.{act, queue, contents, senders, receivers, is_full, is_empty, semaphore_act, semaphore, value, waiters, is_zero}
+use Rattle.ipc_policy.specs.Decides.Parking.{ParkedKind, Sending, Receiving, Waiting, Parked, withdraws, is_posted, plain_parks, parks, parked_on, ends_call, ends_parked, parked, stands_at, seen}
+use Rattle.ipc_policy.specs.Follows.Readings.{ends_send, ends_receive}
+use Rattle.ipc_policy.specs.Decides.Rules.{forbids, in_call, is_interrupt}
+use Rattle.ipc_policy.specs.Decides.Verdict.{verdict}
+use Rattle.ipc_policy.specs.Follows.Laws.{IsListed, ParkedIsListed, place_listed}
 use Rattle.ipc_policy.proofs.Histories.PlainForms.{plain_accepted}
 use Rattle.ipc_policy.proofs.Lists.EachItem.{each_map, each_parked_sender, each_parked_receiver, each_parked_waiter}
 use Rattle.ipc_policy.proofs.Lists.Gathering.{find_kept}

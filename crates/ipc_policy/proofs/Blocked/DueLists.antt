@@ -6,14 +6,14 @@ use Rattle.std.specs.Option.{option_map}
 use Rattle.std.proofs.lemmas.Bool.{eqb-true}
 use Rattle.ipc_terms.specs.Lists.{Each}
 use Rattle.ipc_policy.specs.declared.config.Config.{Config}
-use Rattle.ipc_policy.specs.History.{History}
-use Rattle.ipc_policy.specs.Timed.{now, deadline_at, is_past}
-use Rattle.ipc_policy.specs.Bodies.{due}
-use Rattle.ipc_policy.specs.Parking.{Parked, parked}
-use Rattle.ipc_policy.specs.Readings.{Rising}
-use Rattle.ipc_policy.specs.Verdict.{Legal}
-use Rattle.ipc_policy.specs.Ticks.{IsDue, IsEarliestDue}
-use Rattle.ipc_policy.specs.CallLists.{In, IsTimedCall, HasCall, IsCallList, IsTimedList}
+use Rattle.ipc_policy.specs.Decides.History.{History}
+use Rattle.ipc_policy.specs.Decides.Timed.{now, deadline_at, is_past}
+use Rattle.ipc_policy.specs.Decides.Bodies.{due}
+use Rattle.ipc_policy.specs.Decides.Parking.{Parked, parked}
+use Rattle.ipc_policy.specs.Follows.Readings.{Rising}
+use Rattle.ipc_policy.specs.Decides.Verdict.{Legal}
+use Rattle.ipc_policy.specs.Follows.Ticks.{IsDue, IsEarliestDue}
+use Rattle.ipc_policy.specs.Follows.CallLists.{In, IsTimedCall, HasCall, IsCallList, IsTimedList}
 use Rattle.ipc_policy.proofs.Blocked.Earliest.{earliest_due}
 
 pub in_each : {A : Type 0} (P : A → Type 0) (y : A) (xs : List A) → Each P xs → In y xs → P y

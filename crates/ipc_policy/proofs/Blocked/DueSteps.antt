@@ -8,19 +8,19 @@ use Rattle.ipc_terms.specs.Timed.{deadline}
 use Rattle.ipc_terms.specs.Lists.{Each}
 use Rattle.ipc_terms.specs.declared.record.Event.{Event}
 use Rattle.ipc_policy.specs.declared.config.Config.{Config}
-use Rattle.ipc_policy.specs.History.{History, after_accepted, is_some_and}
-use Rattle.ipc_policy.specs.Timed.{deadline_at}
-use Rattle.ipc_policy.specs.Queues.{Send, Waiter}
-use Rattle.ipc_policy.specs.Bodies.{queue, semaphore, senders, receivers, waiters}
-use Rattle.ipc_policy.specs.Parking.{ParkedKind, Sending, Receiving, Waiting, Parked, parked}
-use Rattle.ipc_policy.specs.Laws.{place_listed}
-use Rattle.ipc_policy.specs.Readings.{Rising}
-use Rattle.ipc_policy.specs.Verdict.{Legal}
+use Rattle.ipc_policy.specs.Decides.History.{History, after_accepted, is_some_and}
+use Rattle.ipc_policy.specs.Decides.Timed.{deadline_at}
+use Rattle.ipc_policy.specs.Decides.Queues.{Send, Waiter}
+use Rattle.ipc_policy.specs.Decides.Bodies.{queue, semaphore, senders, receivers, waiters}
+use Rattle.ipc_policy.specs.Decides.Parking.{ParkedKind, Sending, Receiving, Waiting, Parked, parked}
+use Rattle.ipc_policy.specs.Follows.Laws.{place_listed}
+use Rattle.ipc_policy.specs.Follows.Readings.{Rising}
+use Rattle.ipc_policy.specs.Decides.Verdict.{Legal}
 use Rattle.ipc_policy.proofs.Histories.Refused.{none_yet}
 use Rattle.ipc_policy.proofs.Lists.PlaceLists.{rising_le, rising_higher, rising_append, rising_filter}
 use Rattle.ipc_policy.proofs.Blocked.ParkedPlaces.{parked_by_place}
 use Rattle.ipc_policy.proofs.Blocked.CallsListed.{calls_listed}
-use Rattle.ipc_policy.specs.CallLists.{In, IsTimedCall, HasCall, IsCallList, IsTimedList, dropped, joined}
+use Rattle.ipc_policy.specs.Follows.CallLists.{In, IsTimedCall, HasCall, IsCallList, IsTimedList, dropped, joined}
 use Rattle.ipc_policy.proofs.Blocked.DueLists.{in_each, found_in}
 
 -- what stands in lists

@@ -5,17 +5,17 @@ use Rattle.std.specs.Option.{option_or, option_map}
 use Rattle.std.proofs.lemmas.Bool.{eqb-true, eqb-false, eq-eqb, ltb-true, ltb-false, leb-true, leb-false}
 use Rattle.ipc_terms.specs.Lists.{Each}
 use Rattle.ipc_policy.specs.declared.config.Config.{Config}
-use Rattle.ipc_policy.specs.History.{History, first_below}
-use Rattle.ipc_policy.specs.Timed.{now, deadline_at, is_past}
-use Rattle.ipc_policy.specs.Names.{creations}
-use Rattle.ipc_policy.specs.Queues.{Send, Waiter, Queue}
-use Rattle.ipc_policy.specs.Semaphores.{Semaphore}
-use Rattle.ipc_policy.specs.Bodies.{parked_there, parked_anywhere, due, queue, semaphore, senders, receivers, waiters}
-use Rattle.ipc_policy.specs.Parking.{ParkedKind, Sending, Receiving, Waiting, Parked, parked}
-use Rattle.ipc_policy.specs.Verdict.{Legal}
-use Rattle.ipc_policy.specs.Laws.{IsListed, place_listed}
-use Rattle.ipc_policy.specs.Sessions.{live}
-use Rattle.ipc_policy.specs.Ticks.{IsDue, IsEarliestDue, EarliestIsDue, DueIsLive}
+use Rattle.ipc_policy.specs.Decides.History.{History, first_below}
+use Rattle.ipc_policy.specs.Decides.Timed.{now, deadline_at, is_past}
+use Rattle.ipc_policy.specs.Decides.Names.{creations}
+use Rattle.ipc_policy.specs.Decides.Queues.{Send, Waiter, Queue}
+use Rattle.ipc_policy.specs.Decides.Semaphores.{Semaphore}
+use Rattle.ipc_policy.specs.Decides.Bodies.{parked_there, parked_anywhere, due, queue, semaphore, senders, receivers, waiters}
+use Rattle.ipc_policy.specs.Decides.Parking.{ParkedKind, Sending, Receiving, Waiting, Parked, parked}
+use Rattle.ipc_policy.specs.Decides.Verdict.{Legal}
+use Rattle.ipc_policy.specs.Follows.Laws.{IsListed, place_listed}
+use Rattle.ipc_policy.specs.Decides.Sessions.{live}
+use Rattle.ipc_policy.specs.Follows.Ticks.{IsDue, IsEarliestDue, EarliestIsDue, DueIsLive}
 use Rattle.ipc_policy.proofs.Directories.Creating.{held_created, holds_is_held}
 use Rattle.ipc_policy.proofs.Histories.Refused.{none_yet}
 use Rattle.ipc_policy.proofs.Blocked.CallsListed.{calls_listed}

@@ -8,10 +8,10 @@ use Rattle.ipc_terms.specs.declared.call.Call.TheVariants.{MqGive}
 use Rattle.ipc_terms.specs.declared.record.Event.TheVariants.{Do}
 use Rattle.ipc_policy.specs.declared.config.Config.{Config}
 use Rattle.ipc_policy.specs.declared.config.Held.{Held}
-use Rattle.ipc_policy.specs.History.{History}
-use Rattle.ipc_policy.specs.Descriptions.{held, if_of, holds}
-use Rattle.ipc_policy.specs.Parking.{Parked, parked}
-use Rattle.ipc_policy.specs.Verdict.{verdict}
+use Rattle.ipc_policy.specs.Decides.History.{History}
+use Rattle.ipc_policy.specs.Decides.Descriptions.{held, if_of, holds}
+use Rattle.ipc_policy.specs.Decides.Parking.{Parked, parked}
+use Rattle.ipc_policy.specs.Decides.Verdict.{verdict}
 use Rattle.ipc_policy.proofs.Blocked.CallsListed.{another_call}
 
 mine : (s : ℕ) (x : Held) → is_some (if_of s x) ≡ true → x.session.0 ≡ s

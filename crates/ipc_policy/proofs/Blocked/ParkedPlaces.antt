@@ -9,13 +9,13 @@ use Rattle.ipc_terms.specs.declared.record.Event.{Event}
 use Rattle.ipc_terms.specs.declared.record.Event.TheVariants.{Hello, Do, Hangup, Tick}
 use Rattle.ipc_terms.specs.declared.call.Call.TheVariants.{MqSend, MqReceive, SemPost, SemWait, SemTryWait, Interrupt}
 use Rattle.ipc_policy.specs.declared.config.Config.{Config}
-use Rattle.ipc_policy.specs.History.{History, unless}
-use Rattle.ipc_policy.specs.Descriptions.{holds}
-use Rattle.ipc_policy.specs.Life.{gives_object}
-use Rattle.ipc_policy.specs.Queues.{Send, Waiter, Act, Sends, Receives, Withdraws, NoAct, withdrawal, plain_act, Queue, is_filled, has_none, tail, senders_after, receivers_after, maxmsg}
-use Rattle.ipc_policy.specs.Semaphores.{SemaphoreAct, Posts, Waits, Tries, WithdrawsWait, NoSemaphoreAct, wait_withdrawal, plain_semaphore_act, Semaphore, semaphore_after, waiters_after, with_first, gives_value}
-use Rattle.ipc_policy.specs.Bodies.{due, act, queue, senders, receivers, semaphore_act, semaphore, waiters}
-use Rattle.ipc_policy.specs.Readings.{of_place, Rising, parks_send, ends_send, parks_receive, ends_receive, parks_wait, ends_wait, ParkedByPlace, EachParkedByPlace}
+use Rattle.ipc_policy.specs.Decides.History.{History, unless}
+use Rattle.ipc_policy.specs.Decides.Descriptions.{holds}
+use Rattle.ipc_policy.specs.Decides.Life.{gives_object}
+use Rattle.ipc_policy.specs.Decides.Queues.{Send, Waiter, Act, Sends, Receives, Withdraws, NoAct, withdrawal, plain_act, Queue, is_filled, has_none, tail, senders_after, receivers_after, maxmsg}
+use Rattle.ipc_policy.specs.Decides.Semaphores.{SemaphoreAct, Posts, Waits, Tries, WithdrawsWait, NoSemaphoreAct, wait_withdrawal, plain_semaphore_act, Semaphore, semaphore_after, waiters_after, with_first, gives_value}
+use Rattle.ipc_policy.specs.Decides.Bodies.{due, act, queue, senders, receivers, semaphore_act, semaphore, waiters}
+use Rattle.ipc_policy.specs.Follows.Readings.{of_place, Rising, parks_send, ends_send, parks_receive, ends_receive, parks_wait, ends_wait, ParkedByPlace, EachParkedByPlace}
 use Rattle.ipc_policy.proofs.Holdings.Holding.{kept_all}
 use Rattle.ipc_policy.proofs.Lists.PlaceLists.{rising_higher, rising_append, rising_behind, rising_filter, found_above, found_append, found_behind, found_filter}
 

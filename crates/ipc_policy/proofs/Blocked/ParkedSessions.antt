@@ -14,22 +14,22 @@ use Rattle.ipc_terms.specs.declared.record.Event.TheVariants.{Hello, Do, Hangup,
 use Rattle.ipc_policy.specs.declared.config.Config.{Config}
 use Rattle.ipc_policy.specs.declared.config.Held.{Held}
 use Rattle.ipc_terms.specs.declared.object.Object.{Object}
-use Rattle.ipc_policy.specs.History.{History, unless, is_some_and, any_below}
-use Rattle.ipc_policy.specs.Sessions.{hellos, live}
-use Rattle.ipc_policy.specs.Names.{queue_opening, semaphore_opening, is_bound, creations, bound}
-use Rattle.ipc_policy.specs.Objects.{object, made_by}
-use Rattle.ipc_policy.specs.Sessions.{cred}
-use Rattle.ipc_policy.specs.Descriptions.{opens, if_of, held, holds, ends_held}
-use Rattle.ipc_policy.specs.Life.{named, alive, gives_object}
-use Rattle.ipc_policy.specs.Queues.{Send, Waiter, Withdraws, Queue, queue_after}
-use Rattle.ipc_policy.specs.Semaphores.{WithdrawsWait, semaphore_after}
-use Rattle.ipc_policy.specs.Bodies.{queue, senders, receivers, is_full, is_empty, semaphore, waiters, is_zero}
-use Rattle.ipc_policy.specs.Parking.{ParkedKind, Sending, Receiving, Waiting, Parked, parks, parked_on, serves, is_longest, ends_call, ends_parked, parked}
+use Rattle.ipc_policy.specs.Decides.History.{History, unless, is_some_and, any_below}
+use Rattle.ipc_policy.specs.Decides.Sessions.{hellos, live}
+use Rattle.ipc_policy.specs.Decides.Names.{queue_opening, semaphore_opening, is_bound, creations, bound}
+use Rattle.ipc_policy.specs.Decides.Objects.{object, made_by}
+use Rattle.ipc_policy.specs.Decides.Sessions.{cred}
+use Rattle.ipc_policy.specs.Decides.Descriptions.{opens, if_of, held, holds, ends_held}
+use Rattle.ipc_policy.specs.Decides.Life.{named, alive, gives_object}
+use Rattle.ipc_policy.specs.Decides.Queues.{Send, Waiter, Withdraws, Queue, queue_after}
+use Rattle.ipc_policy.specs.Decides.Semaphores.{WithdrawsWait, semaphore_after}
+use Rattle.ipc_policy.specs.Decides.Bodies.{queue, senders, receivers, is_full, is_empty, semaphore, waiters, is_zero}
+use Rattle.ipc_policy.specs.Decides.Parking.{ParkedKind, Sending, Receiving, Waiting, Parked, parks, parked_on, serves, is_longest, ends_call, ends_parked, parked}
 use Rattle.ipc_terms.specs.Lists.{Each}
-use Rattle.ipc_policy.specs.Readings.{Rising}
-use Rattle.ipc_policy.specs.Grow.{live_after, held_after, made_after, is_new}
-use Rattle.ipc_policy.specs.Verdict.{verdict, Legal}
-use Rattle.ipc_policy.specs.Laws.{IsParked}
+use Rattle.ipc_policy.specs.Follows.Readings.{Rising}
+use Rattle.ipc_policy.specs.Follows.Grow.{live_after, held_after, made_after, is_new}
+use Rattle.ipc_policy.specs.Decides.Verdict.{verdict, Legal}
+use Rattle.ipc_policy.specs.Follows.Laws.{IsParked}
 use Rattle.ipc_policy.proofs.Holdings.Holding.{held_below, held_grows}
 use Rattle.ipc_policy.proofs.Lists.Gathering.{any_below_at}
 use Rattle.ipc_policy.proofs.Directories.Creating.{holds_is_held}

@@ -11,15 +11,15 @@ use Rattle.ipc_terms.specs.declared.record.Event.{Event}
 use Rattle.ipc_terms.specs.declared.record.Event.TheVariants.{Hello, Do, Hangup, Tick}
 use Rattle.ipc_policy.specs.declared.config.Config.{Config}
 use Rattle.ipc_policy.specs.declared.config.Held.{Held}
-use Rattle.ipc_policy.specs.History.{History, unless, is_some_and}
-use Rattle.ipc_policy.specs.Descriptions.{holds}
-use Rattle.ipc_policy.specs.Life.{gives_object}
-use Rattle.ipc_policy.specs.Queues.{Send, Waiter, Act, Sends, Receives, Withdraws, NoAct, Queue, queue_after, maxmsg}
-use Rattle.ipc_policy.specs.Bodies.{queue, senders, receivers, is_full, is_empty, semaphore}
-use Rattle.ipc_policy.specs.Parking.{ParkedKind, Sending, Receiving, Waiting, Parked, stands_at, serves, is_longest, ends_call, parked, parked_on}
-use Rattle.ipc_policy.specs.Readings.{Rising}
-use Rattle.ipc_policy.specs.Verdict.{Legal}
-use Rattle.ipc_policy.specs.Laws.{place_listed}
+use Rattle.ipc_policy.specs.Decides.History.{History, unless, is_some_and}
+use Rattle.ipc_policy.specs.Decides.Descriptions.{holds}
+use Rattle.ipc_policy.specs.Decides.Life.{gives_object}
+use Rattle.ipc_policy.specs.Decides.Queues.{Send, Waiter, Act, Sends, Receives, Withdraws, NoAct, Queue, queue_after, maxmsg}
+use Rattle.ipc_policy.specs.Decides.Bodies.{queue, senders, receivers, is_full, is_empty, semaphore}
+use Rattle.ipc_policy.specs.Decides.Parking.{ParkedKind, Sending, Receiving, Waiting, Parked, stands_at, serves, is_longest, ends_call, parked, parked_on}
+use Rattle.ipc_policy.specs.Follows.Readings.{Rising}
+use Rattle.ipc_policy.specs.Decides.Verdict.{Legal}
+use Rattle.ipc_policy.specs.Follows.Laws.{place_listed}
 use Rattle.ipc_policy.proofs.Blocked.ParkedPlaces.{parked_by_place}
 use Rattle.ipc_policy.proofs.Blocked.CallsListed.{calls_listed}
 

@@ -5,12 +5,12 @@ use Rattle.ipc_terms.specs.declared.call.Call.TheVariants.{MqTimedSend, MqTimedR
 use Rattle.ipc_terms.specs.declared.record.Event.{Event}
 use Rattle.ipc_terms.specs.declared.record.Event.TheVariants.{Hello, Do, Hangup, Tick}
 use Rattle.ipc_policy.specs.declared.config.Config.{Config}
-use Rattle.ipc_policy.specs.History.{History, after_accepted, is_some_and}
-use Rattle.ipc_policy.specs.Queues.{Queue, withdrawal, queue_after, maxmsg}
-use Rattle.ipc_policy.specs.Semaphores.{Semaphore, wait_withdrawal, semaphore_after}
-use Rattle.ipc_policy.specs.Bodies.{due, queue, semaphore}
-use Rattle.ipc_policy.specs.Registrations.{fires, registered}
-use Rattle.ipc_policy.specs.Parking.{Parked, is_posted, ends_call, parked}
+use Rattle.ipc_policy.specs.Decides.History.{History, after_accepted, is_some_and}
+use Rattle.ipc_policy.specs.Decides.Queues.{Queue, withdrawal, queue_after, maxmsg}
+use Rattle.ipc_policy.specs.Decides.Semaphores.{Semaphore, wait_withdrawal, semaphore_after}
+use Rattle.ipc_policy.specs.Decides.Bodies.{due, queue, semaphore}
+use Rattle.ipc_policy.specs.Decides.Registrations.{fires, registered}
+use Rattle.ipc_policy.specs.Decides.Parking.{Parked, is_posted, ends_call, parked}
 use Rattle.ipc_policy.proofs.Queues.Queueing.{semaphore_grows}
 use Rattle.ipc_policy.proofs.Queues.RegisteredSteps.{registered_stays}
 use Rattle.ipc_policy.proofs.Blocked.ParkedSteps.{kept_if, rests_end, withdrawal_ends}

@@ -11,16 +11,16 @@ use Rattle.ipc_terms.specs.declared.record.Event.{Event}
 use Rattle.ipc_terms.specs.declared.record.Event.TheVariants.{Hello, Do, Hangup, Tick}
 use Rattle.ipc_policy.specs.declared.config.Config.{Config}
 use Rattle.ipc_policy.specs.declared.config.Held.{Held}
-use Rattle.ipc_policy.specs.History.{History, unless, is_some_and}
-use Rattle.ipc_policy.specs.Names.{is_bound, creations}
-use Rattle.ipc_policy.specs.Descriptions.{holds}
-use Rattle.ipc_policy.specs.Life.{gives_object}
-use Rattle.ipc_policy.specs.Queues.{Waiter, NoAct, Queue}
-use Rattle.ipc_policy.specs.Semaphores.{SemaphoreAct, Posts, Waits, Tries, WithdrawsWait, NoSemaphoreAct, Semaphore, semaphore_act_by, semaphore_after, with_first}
-use Rattle.ipc_policy.specs.Bodies.{due, queue, semaphore, waiters, is_zero}
-use Rattle.ipc_policy.specs.Parking.{ParkedKind, Sending, Receiving, Waiting, Parked, parked_on, is_posted, ends_call, parked}
-use Rattle.ipc_policy.specs.Grow.{first_value}
-use Rattle.ipc_policy.specs.Verdict.{Legal}
+use Rattle.ipc_policy.specs.Decides.History.{History, unless, is_some_and}
+use Rattle.ipc_policy.specs.Decides.Names.{is_bound, creations}
+use Rattle.ipc_policy.specs.Decides.Descriptions.{holds}
+use Rattle.ipc_policy.specs.Decides.Life.{gives_object}
+use Rattle.ipc_policy.specs.Decides.Queues.{Waiter, NoAct, Queue}
+use Rattle.ipc_policy.specs.Decides.Semaphores.{SemaphoreAct, Posts, Waits, Tries, WithdrawsWait, NoSemaphoreAct, Semaphore, semaphore_act_by, semaphore_after, with_first}
+use Rattle.ipc_policy.specs.Decides.Bodies.{due, queue, semaphore, waiters, is_zero}
+use Rattle.ipc_policy.specs.Decides.Parking.{ParkedKind, Sending, Receiving, Waiting, Parked, parked_on, is_posted, ends_call, parked}
+use Rattle.ipc_policy.specs.Follows.Grow.{first_value}
+use Rattle.ipc_policy.specs.Decides.Verdict.{Legal}
 use Rattle.ipc_policy.proofs.Queues.Queueing.{semaphore_grows}
 use Rattle.ipc_policy.proofs.Blocked.ParkedPlaces.{parked_by_place}
 use Rattle.ipc_policy.proofs.Blocked.CallsListed.{calls_listed}

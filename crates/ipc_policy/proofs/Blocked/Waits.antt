@@ -10,14 +10,14 @@ use Rattle.ipc_terms.specs.declared.record.Event.{Event}
 use Rattle.ipc_terms.specs.declared.record.Event.TheVariants.{Hello, Do, Hangup, Tick}
 use Rattle.ipc_policy.specs.declared.config.Config.{Config}
 use Rattle.ipc_policy.specs.declared.config.Held.{Held}
-use Rattle.ipc_policy.specs.History.{History}
-use Rattle.ipc_policy.specs.Descriptions.{holds}
-use Rattle.ipc_policy.specs.Life.{gives_object}
-use Rattle.ipc_policy.specs.Queues.{Waiter, Act, Sends, Receives, NoAct, withdrawal, plain_act, Queue}
-use Rattle.ipc_policy.specs.Semaphores.{SemaphoreAct, Posts, Waits, Tries, WithdrawsWait, NoSemaphoreAct, wait_withdrawal, plain_semaphore_act, Semaphore}
-use Rattle.ipc_policy.specs.Bodies.{due, act, semaphore_act}
-use Rattle.ipc_policy.specs.Parking.{Sending, Receiving, Waiting, withdraws, ends_call, is_posted}
-use Rattle.ipc_policy.specs.Readings.{ends_wait}
+use Rattle.ipc_policy.specs.Decides.History.{History}
+use Rattle.ipc_policy.specs.Decides.Descriptions.{holds}
+use Rattle.ipc_policy.specs.Decides.Life.{gives_object}
+use Rattle.ipc_policy.specs.Decides.Queues.{Waiter, Act, Sends, Receives, NoAct, withdrawal, plain_act, Queue}
+use Rattle.ipc_policy.specs.Decides.Semaphores.{SemaphoreAct, Posts, Waits, Tries, WithdrawsWait, NoSemaphoreAct, wait_withdrawal, plain_semaphore_act, Semaphore}
+use Rattle.ipc_policy.specs.Decides.Bodies.{due, act, semaphore_act}
+use Rattle.ipc_policy.specs.Decides.Parking.{Sending, Receiving, Waiting, withdraws, ends_call, is_posted}
+use Rattle.ipc_policy.specs.Follows.Readings.{ends_wait}
 
 pub or_left : (a b : Bool) → (a || b) ≡ false → a ≡ false
 or_left true b e = absurd cc

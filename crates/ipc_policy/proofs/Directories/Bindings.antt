@@ -16,12 +16,12 @@ use Rattle.ipc_terms.specs.declared.facts.Facts.{Facts}
 use Rattle.ipc_access.specs.declared.class.Cred.{Cred}
 use Rattle.ipc_access.specs.Users.{cred_of}
 use Rattle.ipc_policy.specs.declared.config.Config.{Config}
-use Rattle.ipc_policy.specs.History.{History, newest, is_some_and}
-use Rattle.ipc_policy.specs.Sessions.{user, live, cred, mask}
-use Rattle.ipc_policy.specs.Names.{Opening, queue_opening, semaphore_opening, creating, creation, creations, bound}
-use Rattle.ipc_policy.specs.Objects.{creation_of, makes, made_by, first_facts, sets_first, sets_owner, sets_group, sets_mode, owner_given, group_given, mode_given, means_object, object_bits, together, object, owner, group, mode, facts}
-use Rattle.ipc_policy.specs.Verdict.{verdict, Legal}
-use Rattle.ipc_policy.specs.Laws.{EachCallerIsKnown}
+use Rattle.ipc_policy.specs.Decides.History.{History, newest, is_some_and}
+use Rattle.ipc_policy.specs.Decides.Sessions.{user, live, cred, mask}
+use Rattle.ipc_policy.specs.Decides.Names.{Opening, queue_opening, semaphore_opening, creating, creation, creations, bound}
+use Rattle.ipc_policy.specs.Decides.Objects.{creation_of, makes, made_by, first_facts, sets_first, sets_owner, sets_group, sets_mode, owner_given, group_given, mode_given, means_object, object_bits, together, object, owner, group, mode, facts}
+use Rattle.ipc_policy.specs.Decides.Verdict.{verdict, Legal}
+use Rattle.ipc_policy.specs.Follows.Laws.{EachCallerIsKnown}
 use Rattle.ipc_policy.proofs.Directories.Creating.{bound_below}
 use Rattle.ipc_policy.proofs.Histories.Known.{known_user, live_user, object_below}
 use Rattle.ipc_policy.proofs.Histories.Unforbidden.{caller_live}

@@ -15,14 +15,14 @@ use Rattle.ipc_terms.specs.declared.record.Event.{Event}
 use Rattle.ipc_terms.specs.declared.record.Event.TheVariants.{Hello, Do, Hangup, Tick}
 use Rattle.ipc_policy.specs.declared.config.Config.{Config}
 use Rattle.ipc_policy.specs.declared.config.Held.{Held}
-use Rattle.ipc_policy.specs.History.{History}
-use Rattle.ipc_policy.specs.Names.{Opening, queue_opening, semaphore_opening, unlinks, asks_name, is_bound, creations, bound}
-use Rattle.ipc_policy.specs.Descriptions.{opened, held_as, opens, if_of, held, holds, ends_held}
-use Rattle.ipc_policy.specs.Life.{gives_object}
-use Rattle.ipc_policy.specs.Queues.{withdrawal, plain_act, act_by, empty_queue, queue_after, maxmsg}
-use Rattle.ipc_policy.specs.Semaphores.{wait_withdrawal, plain_semaphore_act, semaphore_act_by, semaphore_after, with_first, no_semaphore}
-use Rattle.ipc_policy.specs.Bodies.{due, queue, semaphore}
-use Rattle.ipc_policy.specs.Grow.{is_new, first_value, creations_after, bound_after, held_after}
+use Rattle.ipc_policy.specs.Decides.History.{History}
+use Rattle.ipc_policy.specs.Decides.Names.{Opening, queue_opening, semaphore_opening, unlinks, asks_name, is_bound, creations, bound}
+use Rattle.ipc_policy.specs.Decides.Descriptions.{opened, held_as, opens, if_of, held, holds, ends_held}
+use Rattle.ipc_policy.specs.Decides.Life.{gives_object}
+use Rattle.ipc_policy.specs.Decides.Queues.{withdrawal, plain_act, act_by, empty_queue, queue_after, maxmsg}
+use Rattle.ipc_policy.specs.Decides.Semaphores.{wait_withdrawal, plain_semaphore_act, semaphore_act_by, semaphore_after, with_first, no_semaphore}
+use Rattle.ipc_policy.specs.Decides.Bodies.{due, queue, semaphore}
+use Rattle.ipc_policy.specs.Follows.Grow.{is_new, first_value, creations_after, bound_after, held_after}
 use Rattle.ipc_policy.proofs.Holdings.Holding.{kept_is, held_grows, held_given, moved}
 use Rattle.ipc_policy.proofs.Histories.Growing.{creations_grow, bound_grows}
 use Rattle.ipc_policy.proofs.Queues.Queueing.{queue_grows, refused_queue, semaphore_grows, refused_semaphore}

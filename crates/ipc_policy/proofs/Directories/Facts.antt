@@ -15,11 +15,11 @@ use Rattle.ipc_terms.specs.declared.record.Event.{Event}
 use Rattle.ipc_terms.specs.declared.record.Event.TheVariants.{Hello, Do, Hangup, Tick}
 use Rattle.ipc_access.specs.declared.class.Cred.{Cred}
 use Rattle.ipc_policy.specs.declared.config.Config.{Config}
-use Rattle.ipc_policy.specs.History.{History, after_accepted, newest}
-use Rattle.ipc_policy.specs.Sessions.{cred, mask}
-use Rattle.ipc_policy.specs.Names.{Opening, opening, queue_opening, semaphore_opening, is_bound, creations, bound}
-use Rattle.ipc_policy.specs.Objects.{first_facts, sets_first, sets_owner, sets_group, sets_mode, sets_directory_owner, sets_directory_group, sets_directory_mode, creation_of, owner_given, group_given, mode_given, means_object, means_directory, object_bits, directory_bits, together, owner, group, mode, facts, directory_owner, directory_group, directory_mode, directory}
-use Rattle.ipc_policy.specs.Grow.{is_new, made_after, owner_after, group_after, mode_after, facts_changed, directory_after}
+use Rattle.ipc_policy.specs.Decides.History.{History, after_accepted, newest}
+use Rattle.ipc_policy.specs.Decides.Sessions.{cred, mask}
+use Rattle.ipc_policy.specs.Decides.Names.{Opening, opening, queue_opening, semaphore_opening, is_bound, creations, bound}
+use Rattle.ipc_policy.specs.Decides.Objects.{first_facts, sets_first, sets_owner, sets_group, sets_mode, sets_directory_owner, sets_directory_group, sets_directory_mode, creation_of, owner_given, group_given, mode_given, means_object, means_directory, object_bits, directory_bits, together, owner, group, mode, facts, directory_owner, directory_group, directory_mode, directory}
+use Rattle.ipc_policy.specs.Follows.Grow.{is_new, made_after, owner_after, group_after, mode_after, facts_changed, directory_after}
 use Rattle.ipc_policy.proofs.Histories.Growing.{made_grows}
 
 -- a part of what the creation sets

@@ -12,10 +12,10 @@ use Rattle.ipc_terms.specs.declared.rule.Rule.{Rule}
 use Rattle.ipc_terms.specs.declared.call.Call.TheVariants.{Umask, MqOpen, MqClose, MqSend, MqReceive, MqGetattr, MqSetattr, MqNotify, MqGive, MqUnlink, SemOpen, SemClose, SemUnlink, SemPost, SemWait, SemTryWait, SemGetvalue, ListNames, StatName, Chmod, Chown, SetLimit, Interrupt, Audit, MqTimedSend, MqTimedReceive, SemTimedWait}
 use Rattle.ipc_terms.specs.declared.record.Event.{Event}
 use Rattle.ipc_terms.specs.declared.record.Event.TheVariants.{Hello, Do, Hangup, Tick}
-use Rattle.ipc_policy.specs.History.{History}
-use Rattle.ipc_policy.specs.Names.{queue_opening, semaphore_opening, is_bound, creations, bound}
-use Rattle.ipc_policy.specs.Life.{named, bindings}
-use Rattle.ipc_policy.specs.Grow.{is_new, bound_after, bindings_after}
+use Rattle.ipc_policy.specs.Decides.History.{History}
+use Rattle.ipc_policy.specs.Decides.Names.{queue_opening, semaphore_opening, is_bound, creations, bound}
+use Rattle.ipc_policy.specs.Decides.Life.{named, bindings}
+use Rattle.ipc_policy.specs.Follows.Grow.{is_new, bound_after, bindings_after}
 use Rattle.ipc_policy.proofs.Lists.Gathering.{find_kept, find_dropped}
 use Rattle.ipc_policy.proofs.Histories.Growing.{bound_grows}
 use Rattle.ipc_policy.proofs.Directories.Living.{bindings_grow}

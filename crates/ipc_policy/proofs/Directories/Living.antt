@@ -14,12 +14,12 @@ use Rattle.ipc_terms.specs.declared.call.Call.TheVariants.{Umask, MqOpen, MqClos
 use Rattle.ipc_terms.specs.declared.record.Event.{Event}
 use Rattle.ipc_terms.specs.declared.record.Event.TheVariants.{Hello, Do, Hangup, Tick}
 use Rattle.ipc_policy.specs.declared.config.Held.{Held}
-use Rattle.ipc_policy.specs.History.{History, unless, unended, gathered_below, any_below}
-use Rattle.ipc_policy.specs.Names.{queue_opening, semaphore_opening, Opening, unlinks, is_bound, creating, creations, bound}
-use Rattle.ipc_policy.specs.Objects.{creation_of}
-use Rattle.ipc_policy.specs.Descriptions.{opens, held}
-use Rattle.ipc_policy.specs.Life.{named, binding_of, bindings, names, gives_object, alive}
-use Rattle.ipc_policy.specs.Grow.{is_new, creations_after, named_after, bindings_after, names_after, alive_after, held_after, opens_after}
+use Rattle.ipc_policy.specs.Decides.History.{History, unless, unended, gathered_below, any_below}
+use Rattle.ipc_policy.specs.Decides.Names.{queue_opening, semaphore_opening, Opening, unlinks, is_bound, creating, creations, bound}
+use Rattle.ipc_policy.specs.Decides.Objects.{creation_of}
+use Rattle.ipc_policy.specs.Decides.Descriptions.{opens, held}
+use Rattle.ipc_policy.specs.Decides.Life.{named, binding_of, bindings, names, gives_object, alive}
+use Rattle.ipc_policy.specs.Follows.Grow.{is_new, creations_after, named_after, bindings_after, names_after, alive_after, held_after, opens_after}
 use Rattle.ipc_policy.proofs.Holdings.Holding.{kept_all, kept_some, held_grows, held_given, moved}
 use Rattle.ipc_policy.proofs.Lists.Gathering.{gathered_same, gathered_more, passing, gathered_filter, any_below_same}
 use Rattle.ipc_policy.proofs.Histories.Growing.{creations_grow, opens_grow}

@@ -17,13 +17,13 @@ use Rattle.ipc_terms.specs.declared.call.Call.TheVariants.{MqOpen, SemOpen}
 use Rattle.ipc_terms.specs.declared.record.Event.{Event}
 use Rattle.ipc_terms.specs.declared.record.Event.TheVariants.{Hello, Do, Hangup, Tick}
 use Rattle.ipc_policy.specs.declared.config.Config.{Config}
-use Rattle.ipc_policy.specs.History.{History}
-use Rattle.ipc_policy.specs.Names.{Opening, Naming, opening, unlinking, queue_opening, semaphore_opening, is_bound, creations}
-use Rattle.ipc_policy.specs.Life.{bindings, names}
-use Rattle.ipc_policy.specs.Rules.{forbids, name_long}
-use Rattle.ipc_policy.specs.Grow.{is_new, names_after}
-use Rattle.ipc_policy.specs.Verdict.{verdict, Legal}
-use Rattle.ipc_policy.specs.Sizes.{EachNameIsShort}
+use Rattle.ipc_policy.specs.Decides.History.{History}
+use Rattle.ipc_policy.specs.Decides.Names.{Opening, Naming, opening, unlinking, queue_opening, semaphore_opening, is_bound, creations}
+use Rattle.ipc_policy.specs.Decides.Life.{bindings, names}
+use Rattle.ipc_policy.specs.Decides.Rules.{forbids, name_long}
+use Rattle.ipc_policy.specs.Follows.Grow.{is_new, names_after}
+use Rattle.ipc_policy.specs.Decides.Verdict.{verdict, Legal}
+use Rattle.ipc_policy.specs.Follows.Sizes.{EachNameIsShort}
 use Rattle.ipc_policy.proofs.Lists.EachItem.{each_map, each_append, each_filter}
 use Rattle.ipc_policy.proofs.Histories.Unforbidden.{unforbidden}
 use Rattle.ipc_policy.proofs.Histories.Known.{same_is, bound_iff}

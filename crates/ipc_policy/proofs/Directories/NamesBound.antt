@@ -10,11 +10,11 @@ use Rattle.ipc_terms.specs.declared.binding.Binding.{Binding}
 use Rattle.ipc_terms.specs.declared.ids.Family.{Family}
 use Rattle.ipc_terms.specs.declared.rule.Rule.{Rule}
 use Rattle.ipc_terms.specs.declared.record.Event.{Event}
-use Rattle.ipc_policy.specs.History.{History, unless, is_some_and}
-use Rattle.ipc_policy.specs.Names.{Opening, Naming, opening, unlinking, asks_name, unlinks, is_bound, creations, bound}
-use Rattle.ipc_policy.specs.Life.{named, bindings, names}
-use Rattle.ipc_policy.specs.Grow.{is_new, bound_after, named_after, names_after}
-use Rattle.ipc_policy.specs.Laws.{NamedIsBound, NamesDiffer}
+use Rattle.ipc_policy.specs.Decides.History.{History, unless, is_some_and}
+use Rattle.ipc_policy.specs.Decides.Names.{Opening, Naming, opening, unlinking, asks_name, unlinks, is_bound, creations, bound}
+use Rattle.ipc_policy.specs.Decides.Life.{named, bindings, names}
+use Rattle.ipc_policy.specs.Follows.Grow.{is_new, bound_after, named_after, names_after}
+use Rattle.ipc_policy.specs.Follows.Laws.{NamedIsBound, NamesDiffer}
 use Rattle.ipc_policy.proofs.Directories.Creating.{bound_below}
 use Rattle.ipc_policy.proofs.Histories.Growing.{bound_grows}
 use Rattle.ipc_policy.proofs.Histories.Known.{asked_is, bound_iff}

@@ -8,11 +8,11 @@ use Rattle.ipc_terms.specs.declared.call.Call.TheVariants.{MqOpen, SemOpen}
 use Rattle.ipc_terms.specs.declared.record.Event.{Event}
 use Rattle.ipc_terms.specs.declared.record.Event.TheVariants.{Hello, Do, Hangup, Tick}
 use Rattle.ipc_policy.specs.declared.config.Config.{Config}
-use Rattle.ipc_policy.specs.History.{History}
-use Rattle.ipc_policy.specs.Sessions.{cred}
-use Rattle.ipc_policy.specs.Names.{Opening, opening, queue_opening, semaphore_opening, is_bound, creating}
-use Rattle.ipc_policy.specs.Rules.{forbids, attr_range, value_range, byte_limit, above_limit, queue_made, is_some_and, out_of_range}
-use Rattle.ipc_policy.specs.Verdict.{verdict}
+use Rattle.ipc_policy.specs.Decides.History.{History}
+use Rattle.ipc_policy.specs.Decides.Sessions.{cred}
+use Rattle.ipc_policy.specs.Decides.Names.{Opening, opening, queue_opening, semaphore_opening, is_bound, creating}
+use Rattle.ipc_policy.specs.Decides.Rules.{forbids, attr_range, value_range, byte_limit, above_limit, queue_made, is_some_and, out_of_range}
+use Rattle.ipc_policy.specs.Decides.Verdict.{verdict}
 use Rattle.ipc_policy.proofs.Histories.Unforbidden.{unforbidden, open_there as queue_there, semaphore_open_there}
 
 -- an open has CREAT, or its name is bound

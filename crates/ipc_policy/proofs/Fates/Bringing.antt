@@ -17,15 +17,15 @@ use Rattle.ipc_terms.specs.declared.record.Event.TheVariants.{Hello, Do, Hangup,
 use Rattle.ipc_policy.specs.declared.config.Config.{Config}
 use Rattle.ipc_policy.specs.declared.config.Held.{Held}
 use Rattle.ipc_policy.specs.declared.config.Registration.{Registration}
-use Rattle.ipc_policy.specs.History.{History}
-use Rattle.ipc_policy.specs.Descriptions.{holds, is_nonblock}
-use Rattle.ipc_policy.specs.Life.{gives_object}
-use Rattle.ipc_policy.specs.Queues.{Send, Waiter, Act, Sends, Receives, NoAct, Queue, is_filled, next, maxmsg, attributes}
-use Rattle.ipc_policy.specs.Bodies.{due, act, queue, contents, receivers, is_full, value, waiters, is_zero}
-use Rattle.ipc_policy.specs.Registrations.{is_idle, registered}
-use Rattle.ipc_policy.specs.Verdict.{verdict, facts_meant, stat_answers, answers_of, receiver_answers, noticed, received, sender_answers, waiter_answers, send_answers, receive_answers, tick_answers, accepted_answers, answers_at, answers}
-use Rattle.ipc_policy.specs.Deliveries.{delivers, object_asked, delivery}
-use Rattle.ipc_policy.specs.Confined.{brought, brings, EachAnswerIsDelivered}
+use Rattle.ipc_policy.specs.Decides.History.{History}
+use Rattle.ipc_policy.specs.Decides.Descriptions.{holds, is_nonblock}
+use Rattle.ipc_policy.specs.Decides.Life.{gives_object}
+use Rattle.ipc_policy.specs.Decides.Queues.{Send, Waiter, Act, Sends, Receives, NoAct, Queue, is_filled, next, maxmsg, attributes}
+use Rattle.ipc_policy.specs.Decides.Bodies.{due, act, queue, contents, receivers, is_full, value, waiters, is_zero}
+use Rattle.ipc_policy.specs.Decides.Registrations.{is_idle, registered}
+use Rattle.ipc_policy.specs.Decides.Verdict.{verdict, facts_meant, stat_answers, answers_of, receiver_answers, noticed, received, sender_answers, waiter_answers, send_answers, receive_answers, tick_answers, accepted_answers, answers_at, answers}
+use Rattle.ipc_policy.specs.Follows.Deliveries.{delivers, object_asked, delivery}
+use Rattle.ipc_policy.specs.Follows.Confined.{brought, brings, EachAnswerIsDelivered}
 use Rattle.ipc_policy.proofs.Histories.PlainForms.{plain_accepted}
 use Rattle.ipc_policy.proofs.Queues.ActsOf.{held_queue}
 use Rattle.ipc_policy.proofs.Blocked.CallsListed.{is_full-at}

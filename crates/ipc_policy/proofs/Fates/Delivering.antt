@@ -13,14 +13,14 @@ use Rattle.ipc_terms.specs.declared.record.Event.TheVariants.{Do}
 use Rattle.ipc_terms.specs.declared.call.Call.TheVariants.{MqSend}
 use Rattle.ipc_policy.specs.declared.config.Config.{Config}
 use Rattle.ipc_policy.specs.declared.config.Held.{Held}
-use Rattle.ipc_policy.specs.History.{History, record_at, before_at}
-use Rattle.ipc_policy.specs.Descriptions.{holds}
-use Rattle.ipc_policy.specs.Queues.{Send, Waiter, Act, Sends, Receives, Withdraws, NoAct, Queue, is_filled, has_none, next, maxmsg}
-use Rattle.ipc_policy.specs.Bodies.{act, queue, contents, receivers}
-use Rattle.ipc_policy.specs.Parking.{stands_at}
-use Rattle.ipc_policy.specs.Verdict.{Legal}
-use Rattle.ipc_policy.specs.Deliveries.{Delivery, delivers, object_asked, delivery, receive_of, deliveries}
-use Rattle.ipc_policy.specs.Confined.{IsSend, IsSendTo, IsConfined, EachDeliveryIsConfined, EachSendIsDeliveredOnce}
+use Rattle.ipc_policy.specs.Decides.History.{History, record_at, before_at}
+use Rattle.ipc_policy.specs.Decides.Descriptions.{holds}
+use Rattle.ipc_policy.specs.Decides.Queues.{Send, Waiter, Act, Sends, Receives, Withdraws, NoAct, Queue, is_filled, has_none, next, maxmsg}
+use Rattle.ipc_policy.specs.Decides.Bodies.{act, queue, contents, receivers}
+use Rattle.ipc_policy.specs.Decides.Parking.{stands_at}
+use Rattle.ipc_policy.specs.Decides.Verdict.{Legal}
+use Rattle.ipc_policy.specs.Follows.Deliveries.{Delivery, delivers, object_asked, delivery, receive_of, deliveries}
+use Rattle.ipc_policy.specs.Follows.Confined.{IsSend, IsSendTo, IsConfined, EachDeliveryIsConfined, EachSendIsDeliveredOnce}
 use Rattle.ipc_policy.proofs.Lists.EachItem.{each_first, each_greatest}
 use Rattle.ipc_policy.proofs.Queues.ActsOf.{act_sends, act_receives}
 use Rattle.ipc_policy.proofs.Lists.Counting.{takes_at}

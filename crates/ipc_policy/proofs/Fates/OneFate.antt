@@ -13,16 +13,16 @@ use Rattle.ipc_terms.specs.declared.record.Event.{Event}
 use Rattle.ipc_terms.specs.declared.record.Event.TheVariants.{Do}
 use Rattle.ipc_policy.specs.declared.config.Config.{Config}
 use Rattle.ipc_policy.specs.declared.config.Held.{Held}
-use Rattle.ipc_policy.specs.History.{History, newest, how_many, record_at, before_at}
-use Rattle.ipc_policy.specs.Descriptions.{holds}
-use Rattle.ipc_policy.specs.Life.{alive, gives_object}
-use Rattle.ipc_policy.specs.Queues.{Send, Waiter, Act, Sends, Receives, Withdraws, NoAct, plain_act, Queue}
-use Rattle.ipc_policy.specs.Bodies.{due, act, queue, contents, senders}
-use Rattle.ipc_policy.specs.Rules.{not_held}
-use Rattle.ipc_policy.specs.Verdict.{Legal, verdict}
-use Rattle.ipc_policy.specs.Deliveries.{Delivery, delivery, receive_of, receive_that_took, deliveries}
-use Rattle.ipc_policy.specs.Confined.{IsSend, IsSendTo, IsReceiveFrom}
-use Rattle.ipc_policy.specs.Fates.{has_send, withdraws_send, is_withdrawn, Fate, StaysParked, IsWithdrawn, StaysInQueue, IsTaken, IsLeft, became, IsReceiveOf, HasOneFate, EachSendHasOneFate}
+use Rattle.ipc_policy.specs.Decides.History.{History, newest, how_many, record_at, before_at}
+use Rattle.ipc_policy.specs.Decides.Descriptions.{holds}
+use Rattle.ipc_policy.specs.Decides.Life.{alive, gives_object}
+use Rattle.ipc_policy.specs.Decides.Queues.{Send, Waiter, Act, Sends, Receives, Withdraws, NoAct, plain_act, Queue}
+use Rattle.ipc_policy.specs.Decides.Bodies.{due, act, queue, contents, senders}
+use Rattle.ipc_policy.specs.Decides.Rules.{not_held}
+use Rattle.ipc_policy.specs.Decides.Verdict.{Legal, verdict}
+use Rattle.ipc_policy.specs.Follows.Deliveries.{Delivery, delivery, receive_of, receive_that_took, deliveries}
+use Rattle.ipc_policy.specs.Follows.Confined.{IsSend, IsSendTo, IsReceiveFrom}
+use Rattle.ipc_policy.specs.Follows.Fates.{has_send, withdraws_send, is_withdrawn, Fate, StaysParked, IsWithdrawn, StaysInQueue, IsTaken, IsLeft, became, IsReceiveOf, HasOneFate, EachSendHasOneFate}
 use Rattle.ipc_policy.proofs.Histories.Moments.{before_stays, legal_at}
 use Rattle.ipc_policy.proofs.Histories.Unforbidden.{call_free}
 use Rattle.ipc_policy.proofs.Histories.PlainForms.{plain_accepted}

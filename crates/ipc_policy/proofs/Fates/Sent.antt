@@ -11,11 +11,11 @@ use Rattle.ipc_terms.specs.declared.record.Event.{Event}
 use Rattle.ipc_terms.specs.declared.record.Event.TheVariants.{Hello, Do, Hangup, Tick}
 use Rattle.ipc_terms.specs.declared.record.Record.{Record}
 use Rattle.ipc_policy.specs.declared.config.Config.{Config}
-use Rattle.ipc_policy.specs.History.{History}
-use Rattle.ipc_policy.specs.Descriptions.{holds}
-use Rattle.ipc_policy.specs.Life.{gives_object}
-use Rattle.ipc_policy.specs.Queues.{Send, Act, Sends, NoAct, withdrawal, plain_act, next, maxmsg}
-use Rattle.ipc_policy.specs.Bodies.{due, act, queue, contents, senders}
+use Rattle.ipc_policy.specs.Decides.History.{History}
+use Rattle.ipc_policy.specs.Decides.Descriptions.{holds}
+use Rattle.ipc_policy.specs.Decides.Life.{gives_object}
+use Rattle.ipc_policy.specs.Decides.Queues.{Send, Act, Sends, NoAct, withdrawal, plain_act, next, maxmsg}
+use Rattle.ipc_policy.specs.Decides.Bodies.{due, act, queue, contents, senders}
 use Rattle.ipc_policy.proofs.Histories.PlainForms.{message_plain}
 use Rattle.ipc_policy.proofs.Lists.EachItem.{each_map, each_first, each_greatest, each_inside, each_sender}
 

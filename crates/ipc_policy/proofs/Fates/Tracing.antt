@@ -12,16 +12,16 @@ use Rattle.ipc_terms.specs.declared.record.Event.{Event}
 use Rattle.ipc_terms.specs.declared.record.Event.TheVariants.{Do}
 use Rattle.ipc_policy.specs.declared.config.Config.{Config}
 use Rattle.ipc_policy.specs.declared.config.Held.{Held}
-use Rattle.ipc_policy.specs.History.{History, is_some_and, record_at, before_at}
-use Rattle.ipc_policy.specs.Descriptions.{held, holds, ends_held}
-use Rattle.ipc_policy.specs.Queues.{Send, Waiter, Sends, maxmsg}
-use Rattle.ipc_policy.specs.Bodies.{act, queue, contents, senders, receivers, semaphore_act, semaphore}
-use Rattle.ipc_policy.specs.Parking.{Parked, Receiving, is_posted, ends_call, ends_parked, parked}
+use Rattle.ipc_policy.specs.Decides.History.{History, is_some_and, record_at, before_at}
+use Rattle.ipc_policy.specs.Decides.Descriptions.{held, holds, ends_held}
+use Rattle.ipc_policy.specs.Decides.Queues.{Send, Waiter, Sends, maxmsg}
+use Rattle.ipc_policy.specs.Decides.Bodies.{act, queue, contents, senders, receivers, semaphore_act, semaphore}
+use Rattle.ipc_policy.specs.Decides.Parking.{Parked, Receiving, is_posted, ends_call, ends_parked, parked}
 use Rattle.ipc_terms.specs.Lists.{Each}
-use Rattle.ipc_policy.specs.Readings.{ends_receive}
-use Rattle.ipc_policy.specs.Rules.{forbids, not_for_write, not_for_read, reads_only, writes_only}
-use Rattle.ipc_policy.specs.Verdict.{Legal, verdict}
-use Rattle.ipc_policy.specs.Confined.{IsMade, IsGranted, IsSendTo, IsReceiveFrom}
+use Rattle.ipc_policy.specs.Follows.Readings.{ends_receive}
+use Rattle.ipc_policy.specs.Decides.Rules.{forbids, not_for_write, not_for_read, reads_only, writes_only}
+use Rattle.ipc_policy.specs.Decides.Verdict.{Legal, verdict}
+use Rattle.ipc_policy.specs.Follows.Confined.{IsMade, IsGranted, IsSendTo, IsReceiveFrom}
 use Rattle.ipc_policy.proofs.Histories.PlainForms.{plain_accepted, ends_plain}
 use Rattle.ipc_policy.proofs.Histories.Moments.{place_below, record_stays, before_stays, record_now, before_now, newest_or_before}
 use Rattle.ipc_policy.proofs.Holdings.Granting.{granted_on, held_granted}

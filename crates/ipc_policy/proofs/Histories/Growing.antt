@@ -8,12 +8,12 @@ use Rattle.ipc_terms.specs.Flags.{has_create, has_nonblock}
 use Rattle.ipc_terms.specs.declared.call.Call.TheVariants.{Umask, MqOpen, MqSetattr, MqUnlink, SemOpen, SemUnlink}
 use Rattle.ipc_terms.specs.declared.record.Event.{Event}
 use Rattle.ipc_terms.specs.declared.record.Event.TheVariants.{Hello, Do, Hangup, Tick}
-use Rattle.ipc_policy.specs.History.{History, newest, unless, unended}
-use Rattle.ipc_policy.specs.Sessions.{hellos, begins, hangs_up, user, live, mask, sets_mask}
-use Rattle.ipc_policy.specs.Names.{queue_opening, semaphore_opening, Opening, asks_name, unlinks, leaves_bound, is_bound, creating, creations, binds, bound}
-use Rattle.ipc_policy.specs.Objects.{creation_of}
-use Rattle.ipc_policy.specs.Descriptions.{opens, is_nonblock, sets_nonblock}
-use Rattle.ipc_policy.specs.Grow.{hellos_after, user_after, live_after, mask_after, is_bound_after, creations_after, bound_after, made_after, is_new, opens_after, nonblock_after}
+use Rattle.ipc_policy.specs.Decides.History.{History, newest, unless, unended}
+use Rattle.ipc_policy.specs.Decides.Sessions.{hellos, begins, hangs_up, user, live, mask, sets_mask}
+use Rattle.ipc_policy.specs.Decides.Names.{queue_opening, semaphore_opening, Opening, asks_name, unlinks, leaves_bound, is_bound, creating, creations, binds, bound}
+use Rattle.ipc_policy.specs.Decides.Objects.{creation_of}
+use Rattle.ipc_policy.specs.Decides.Descriptions.{opens, is_nonblock, sets_nonblock}
+use Rattle.ipc_policy.specs.Follows.Grow.{hellos_after, user_after, live_after, mask_after, is_bound_after, creations_after, bound_after, made_after, is_new, opens_after, nonblock_after}
 use Rattle.ipc_policy.proofs.Holdings.Holding.{kept_all}
 
 pub hello_grows : (h : History) (e : Event) → hellos (record { event = e; rule = None } ∷ h) ≡ hellos_after e (hellos h)

@@ -2,9 +2,9 @@
 use Rattle.std.proofs.Common.{refl}
 use Rattle.ipc_terms.specs.declared.record.Event.{Event}
 use Rattle.ipc_policy.specs.declared.config.Config.{Config}
-use Rattle.ipc_policy.specs.History.{History, after_accepted, newest}
-use Rattle.ipc_policy.specs.Objects.{makes, object}
-use Rattle.ipc_policy.specs.Grow.{Grows}
+use Rattle.ipc_policy.specs.Decides.History.{History, after_accepted, newest}
+use Rattle.ipc_policy.specs.Decides.Objects.{makes, object}
+use Rattle.ipc_policy.specs.Follows.Grow.{Grows}
 use Rattle.ipc_policy.proofs.Directories.Facts.{owner_grows, group_grows, mode_grows, facts_grow, directory_grows}
 use Rattle.ipc_policy.proofs.Holdings.Holding.{held_grows, count_grows}
 use Rattle.ipc_policy.proofs.Histories.Growing.{hello_grows, user_grows, live_grows, mask_grows, is_bound_grows, creations_grow, bound_grows, made_grows, opens_grow, nonblock_grows}

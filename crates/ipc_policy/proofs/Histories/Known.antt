@@ -16,12 +16,12 @@ use Rattle.ipc_terms.specs.declared.record.Event.TheVariants.{Hello, Do, Hangup,
 use Rattle.ipc_access.specs.Users.{cred_of}
 use Rattle.ipc_policy.specs.declared.config.Config.{Config}
 use Rattle.ipc_terms.specs.declared.object.Object.{Object}
-use Rattle.ipc_policy.specs.History.{History, newest, unless, unended, how_many}
-use Rattle.ipc_policy.specs.Sessions.{hellos, is_hello, begins, hangs_up, user, live, mask, sets_mask}
-use Rattle.ipc_policy.specs.Names.{queue_opening, semaphore_opening, Opening, opening, asks_name, unlinks, is_bound, leaves_bound, creation, creations, binds, bound, creating}
-use Rattle.ipc_policy.specs.Objects.{makes, object}
-use Rattle.ipc_policy.specs.Descriptions.{opens}
-use Rattle.ipc_policy.specs.Verdict.{verdict, Legal, answers, after_event, after_events, all_answers}
+use Rattle.ipc_policy.specs.Decides.History.{History, newest, unless, unended, how_many}
+use Rattle.ipc_policy.specs.Decides.Sessions.{hellos, is_hello, begins, hangs_up, user, live, mask, sets_mask}
+use Rattle.ipc_policy.specs.Decides.Names.{queue_opening, semaphore_opening, Opening, opening, asks_name, unlinks, is_bound, leaves_bound, creation, creations, binds, bound, creating}
+use Rattle.ipc_policy.specs.Decides.Objects.{makes, object}
+use Rattle.ipc_policy.specs.Decides.Descriptions.{opens}
+use Rattle.ipc_policy.specs.Decides.Verdict.{verdict, Legal, answers, after_event, after_events, all_answers}
 use Rattle.ipc_policy.proofs.Histories.Unforbidden.{hello_known, caller_live}
 use Rattle.ipc_policy.proofs.Holdings.Holding.{kept_all, kept_some}
 

@@ -3,8 +3,8 @@ use Rattle.std.proofs.Common.{◌≡◌, ℕ, suc, ◌<◌, Bool, true, false, e
 use Rattle.std.proofs.lemmas.Bool.{eqb-true, eqb-false, eq-eqb, ne_eqb}
 use Rattle.ipc_terms.specs.declared.record.Record.{Record}
 use Rattle.ipc_policy.specs.declared.config.Config.{Config}
-use Rattle.ipc_policy.specs.History.{History, record_at, before_at}
-use Rattle.ipc_policy.specs.Verdict.{Legal, verdict}
+use Rattle.ipc_policy.specs.Decides.History.{History, record_at, before_at}
+use Rattle.ipc_policy.specs.Decides.Verdict.{Legal, verdict}
 
 pub place_below : (h : History) (i : ℕ) (r : Record) → record_at i h ≡ Some r → i < length h
 place_below [] i r e = absurd cc

@@ -13,11 +13,11 @@ use Rattle.ipc_terms.specs.declared.record.Event.{Event}
 use Rattle.ipc_terms.specs.declared.record.Event.TheVariants.{Hello, Do, Hangup, Tick}
 use Rattle.ipc_policy.specs.declared.config.Config.{Config}
 use Rattle.ipc_policy.specs.declared.config.Held.{Held}
-use Rattle.ipc_policy.specs.History.{History}
-use Rattle.ipc_policy.specs.Descriptions.{ends_held}
-use Rattle.ipc_policy.specs.Timed.{now, is_past}
-use Rattle.ipc_policy.specs.Rules.{forbids, no_session, in_call, not_in_call, name_form, name_long, not_admin, no_user, bad_descr, not_for_write, not_for_read, dir_search, dir_read, absent, present, mode_denied, dir_write, sticky, not_owner, chown_denied, attr_range, value_range, queue_count, byte_limit, descr_limit, prio_range, message_long, buffer_short, notify_taken, would_block, overflow, bad_key, would_park, timed_out, no_taker}
-use Rattle.ipc_policy.specs.Verdict.{verdict}
+use Rattle.ipc_policy.specs.Decides.History.{History}
+use Rattle.ipc_policy.specs.Decides.Descriptions.{ends_held}
+use Rattle.ipc_policy.specs.Decides.Timed.{now, is_past}
+use Rattle.ipc_policy.specs.Decides.Rules.{forbids, no_session, in_call, not_in_call, name_form, name_long, not_admin, no_user, bad_descr, not_for_write, not_for_read, dir_search, dir_read, absent, present, mode_denied, dir_write, sticky, not_owner, chown_denied, attr_range, value_range, queue_count, byte_limit, descr_limit, prio_range, message_long, buffer_short, notify_taken, would_block, overflow, bad_key, would_park, timed_out, no_taker}
+use Rattle.ipc_policy.specs.Decides.Verdict.{verdict}
 
 -- it brings the same message
 pub message_plain : (e : Event) → message_of (plain e) ≡ message_of e

@@ -9,20 +9,20 @@ use Rattle.ipc_terms.specs.declared.call.Call.TheVariants.{Umask, MqOpen, MqClos
 use Rattle.ipc_terms.specs.declared.record.Event.{Event}
 use Rattle.ipc_terms.specs.declared.record.Event.TheVariants.{Hello, Do, Hangup, Tick}
 use Rattle.ipc_policy.specs.declared.config.Config.{Config}
-use Rattle.ipc_policy.specs.History.{History, after_refused}
-use Rattle.ipc_policy.specs.Sessions.{hellos, user, live, cred, mask}
-use Rattle.ipc_policy.specs.Names.{is_bound, creating, bound, creations}
-use Rattle.ipc_policy.specs.Objects.{object, owner, group, mode, facts, directory_owner, directory_group, directory_mode, directory}
-use Rattle.ipc_policy.specs.Descriptions.{opens, held, holds, held_count, is_nonblock}
-use Rattle.ipc_policy.specs.Life.{named, bindings, names, alive}
-use Rattle.ipc_policy.specs.Timed.{now, deadline_at}
-use Rattle.ipc_policy.specs.Registrations.{registered}
-use Rattle.ipc_policy.specs.Bodies.{due, queue, semaphore, value}
-use Rattle.ipc_policy.specs.Parking.{parked}
-use Rattle.ipc_policy.specs.Charges.{charge_of, charged, queues_alive, limit}
-use Rattle.ipc_policy.specs.Rules.{forbids, no_session, in_call, not_in_call, name_form, name_long, not_admin, no_user, bad_descr, not_for_write, not_for_read, dir_search, dir_read, absent, present, mode_denied, dir_write, sticky, not_owner, chown_denied, attr_range, value_range, queue_count, byte_limit, descr_limit, prio_range, message_long, buffer_short, notify_taken, would_block, overflow, bad_key, timed_out, no_taker}
-use Rattle.ipc_policy.specs.Verdict.{verdict}
-use Rattle.ipc_policy.specs.Laws.{SameValues}
+use Rattle.ipc_policy.specs.Decides.History.{History, after_refused}
+use Rattle.ipc_policy.specs.Decides.Sessions.{hellos, user, live, cred, mask}
+use Rattle.ipc_policy.specs.Decides.Names.{is_bound, creating, bound, creations}
+use Rattle.ipc_policy.specs.Decides.Objects.{object, owner, group, mode, facts, directory_owner, directory_group, directory_mode, directory}
+use Rattle.ipc_policy.specs.Decides.Descriptions.{opens, held, holds, held_count, is_nonblock}
+use Rattle.ipc_policy.specs.Decides.Life.{named, bindings, names, alive}
+use Rattle.ipc_policy.specs.Decides.Timed.{now, deadline_at}
+use Rattle.ipc_policy.specs.Decides.Registrations.{registered}
+use Rattle.ipc_policy.specs.Decides.Bodies.{due, queue, semaphore, value}
+use Rattle.ipc_policy.specs.Decides.Parking.{parked}
+use Rattle.ipc_policy.specs.Decides.Charges.{charge_of, charged, queues_alive, limit}
+use Rattle.ipc_policy.specs.Decides.Rules.{forbids, no_session, in_call, not_in_call, name_form, name_long, not_admin, no_user, bad_descr, not_for_write, not_for_read, dir_search, dir_read, absent, present, mode_denied, dir_write, sticky, not_owner, chown_denied, attr_range, value_range, queue_count, byte_limit, descr_limit, prio_range, message_long, buffer_short, notify_taken, would_block, overflow, bad_key, timed_out, no_taker}
+use Rattle.ipc_policy.specs.Decides.Verdict.{verdict}
+use Rattle.ipc_policy.specs.Follows.Laws.{SameValues}
 
 same_verdict : (c : Config) (h : History) (e' : Event) (rule : Rule) (e : Event) → verdict c (after_refused h e' rule) e ≡ verdict c h e
 unfolding user live cred is_bound creating creations bound object owner group mode facts directory_owner directory_group directory_mode directory opens held holds held_count is_nonblock named alive charge_of charged queues_alive limit queue registered semaphore value parked verdict forbids no_session in_call not_in_call name_form name_long not_admin no_user bad_descr not_for_write not_for_read dir_search dir_read absent present mode_denied dir_write sticky not_owner chown_denied attr_range value_range queue_count byte_limit descr_limit prio_range message_long buffer_short notify_taken would_block overflow bad_key timed_out now no_taker

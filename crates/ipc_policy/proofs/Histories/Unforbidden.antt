@@ -21,13 +21,13 @@ use Rattle.ipc_terms.specs.declared.record.Event.TheVariants.{Hello, Do, Hangup}
 use Rattle.ipc_access.specs.declared.class.Cred.{Cred}
 use Rattle.ipc_access.specs.Users.{cred_of}
 use Rattle.ipc_policy.specs.declared.config.Config.{Config}
-use Rattle.ipc_policy.specs.History.{History}
-use Rattle.ipc_policy.specs.Sessions.{live, cred}
-use Rattle.ipc_policy.specs.Names.{is_bound, creating}
-use Rattle.ipc_policy.specs.Descriptions.{holds}
-use Rattle.ipc_policy.specs.Parking.{parked}
-use Rattle.ipc_policy.specs.Rules.{forbids, no_session, in_call, bad_descr, absent, attr_range, value_range, would_block, overflow, bad_key, no_taker, is_interrupt, Described, described, is_some_and, not_held, out_of_range, is_zero, is_greatest}
-use Rattle.ipc_policy.specs.Verdict.{verdict}
+use Rattle.ipc_policy.specs.Decides.History.{History}
+use Rattle.ipc_policy.specs.Decides.Sessions.{live, cred}
+use Rattle.ipc_policy.specs.Decides.Names.{is_bound, creating}
+use Rattle.ipc_policy.specs.Decides.Descriptions.{holds}
+use Rattle.ipc_policy.specs.Decides.Parking.{parked}
+use Rattle.ipc_policy.specs.Decides.Rules.{forbids, no_session, in_call, bad_descr, absent, attr_range, value_range, would_block, overflow, bad_key, no_taker, is_interrupt, Described, described, is_some_and, not_held, out_of_range, is_zero, is_greatest}
+use Rattle.ipc_policy.specs.Decides.Verdict.{verdict}
 use Rattle.ipc_policy.proofs.Lists.FirstPassing.{NonePass, IsLeastPassing, first_is_least, numbered, place_of, has_place}
 
 none_passes : (test : Rule → Bool) (o : Option Rule) → o ≡ None → MatchOption o (NonePass test every_rule) (IsLeastPassing test every_rule) → NonePass test every_rule

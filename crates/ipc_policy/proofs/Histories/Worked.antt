@@ -19,22 +19,22 @@ use Rattle.ipc_terms.specs.declared.record.Event.TheVariants.{Hello, Do, Hangup,
 use Rattle.ipc_access.specs.declared.users.User.{User}
 use Rattle.ipc_policy.specs.declared.config.Config.{Config}
 use Rattle.ipc_policy.specs.declared.config.Held.{Held}
-use Rattle.ipc_policy.specs.History.{History, after_accepted}
-use Rattle.ipc_policy.specs.Sessions.{hellos, user, live, cred, mask}
-use Rattle.ipc_policy.specs.Names.{is_bound, creating, creations, bound}
-use Rattle.ipc_policy.specs.Objects.{object, owner, group, mode, facts, directory_owner, directory_group, directory_mode, directory}
-use Rattle.ipc_policy.specs.Descriptions.{opens, held, holds, held_count, is_nonblock}
-use Rattle.ipc_policy.specs.Timed.{now}
-use Rattle.ipc_policy.specs.Registrations.{registered}
-use Rattle.ipc_policy.specs.Bodies.{queue, semaphore, value}
-use Rattle.ipc_policy.specs.Parking.{Receiving, parked}
-use Rattle.ipc_policy.specs.Life.{named, alive}
-use Rattle.ipc_policy.specs.Charges.{bytes_of, charge_of, charged, queues_alive, limit}
-use Rattle.ipc_policy.specs.Rules.{forbids, no_session, in_call, not_in_call, name_form, name_long, not_admin, no_user, bad_descr, not_for_write, not_for_read, dir_search, dir_read, absent, present, mode_denied, dir_write, sticky, not_owner, chown_denied, attr_range, value_range, queue_count, byte_limit, descr_limit, prio_range, message_long, buffer_short, notify_taken, would_block, overflow, bad_key, timed_out, no_taker}
-use Rattle.ipc_policy.specs.Deliveries.{delivery, receive_that_took}
-use Rattle.ipc_policy.specs.Confined.{Lead}
-use Rattle.ipc_policy.specs.Fates.{StaysParked, IsWithdrawn, StaysInQueue, IsTaken, IsLeft, became}
-use Rattle.ipc_policy.specs.Verdict.{verdict, answers, outbox, after_events, all_answers}
+use Rattle.ipc_policy.specs.Decides.History.{History, after_accepted}
+use Rattle.ipc_policy.specs.Decides.Sessions.{hellos, user, live, cred, mask}
+use Rattle.ipc_policy.specs.Decides.Names.{is_bound, creating, creations, bound}
+use Rattle.ipc_policy.specs.Decides.Objects.{object, owner, group, mode, facts, directory_owner, directory_group, directory_mode, directory}
+use Rattle.ipc_policy.specs.Decides.Descriptions.{opens, held, holds, held_count, is_nonblock}
+use Rattle.ipc_policy.specs.Decides.Timed.{now}
+use Rattle.ipc_policy.specs.Decides.Registrations.{registered}
+use Rattle.ipc_policy.specs.Decides.Bodies.{queue, semaphore, value}
+use Rattle.ipc_policy.specs.Decides.Parking.{Receiving, parked}
+use Rattle.ipc_policy.specs.Decides.Life.{named, alive}
+use Rattle.ipc_policy.specs.Decides.Charges.{bytes_of, charge_of, charged, queues_alive, limit}
+use Rattle.ipc_policy.specs.Decides.Rules.{forbids, no_session, in_call, not_in_call, name_form, name_long, not_admin, no_user, bad_descr, not_for_write, not_for_read, dir_search, dir_read, absent, present, mode_denied, dir_write, sticky, not_owner, chown_denied, attr_range, value_range, queue_count, byte_limit, descr_limit, prio_range, message_long, buffer_short, notify_taken, would_block, overflow, bad_key, timed_out, no_taker}
+use Rattle.ipc_policy.specs.Follows.Deliveries.{delivery, receive_that_took}
+use Rattle.ipc_policy.specs.Follows.Confined.{Lead}
+use Rattle.ipc_policy.specs.Follows.Fates.{StaysParked, IsWithdrawn, StaysInQueue, IsTaken, IsLeft, became}
+use Rattle.ipc_policy.specs.Decides.Verdict.{verdict, answers, outbox, after_events, all_answers}
 
 abbrev person : ℕ → User
 person n = record { name = []; key = []; cred = record { uid = record { 0 = n }; gid = record { 0 = n }; groups = []; limit = 819200 } }

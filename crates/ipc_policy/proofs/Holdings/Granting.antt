@@ -18,14 +18,14 @@ use Rattle.ipc_access.specs.declared.class.Cred.{Cred}
 use Rattle.ipc_access.specs.Class.{granted}
 use Rattle.ipc_policy.specs.declared.config.Config.{Config}
 use Rattle.ipc_policy.specs.declared.config.Held.{Held}
-use Rattle.ipc_policy.specs.History.{History, unless, is_some_and, record_at, before_at}
-use Rattle.ipc_policy.specs.Sessions.{cred}
-use Rattle.ipc_policy.specs.Names.{Opening, opening, queue_opening, semaphore_opening, is_bound, creating, creations, bound}
-use Rattle.ipc_policy.specs.Objects.{facts}
-use Rattle.ipc_policy.specs.Descriptions.{opens, opened, held_as, hands_over, ends_held, held, if_of, holds}
-use Rattle.ipc_policy.specs.Rules.{forbids, mode_denied, denied_at, bits_wanted}
-use Rattle.ipc_policy.specs.Verdict.{Legal, verdict}
-use Rattle.ipc_policy.specs.Confined.{Give, HeldThroughout, Lead, IsGranted, grants_to}
+use Rattle.ipc_policy.specs.Decides.History.{History, unless, is_some_and, record_at, before_at}
+use Rattle.ipc_policy.specs.Decides.Sessions.{cred}
+use Rattle.ipc_policy.specs.Decides.Names.{Opening, opening, queue_opening, semaphore_opening, is_bound, creating, creations, bound}
+use Rattle.ipc_policy.specs.Decides.Objects.{facts}
+use Rattle.ipc_policy.specs.Decides.Descriptions.{opens, opened, held_as, hands_over, ends_held, held, if_of, holds}
+use Rattle.ipc_policy.specs.Decides.Rules.{forbids, mode_denied, denied_at, bits_wanted}
+use Rattle.ipc_policy.specs.Decides.Verdict.{Legal, verdict}
+use Rattle.ipc_policy.specs.Follows.Confined.{Give, HeldThroughout, Lead, IsGranted, grants_to}
 use Rattle.ipc_policy.proofs.Histories.Moments.{place_below, record_stays, before_stays, record_now, before_now}
 use Rattle.ipc_policy.proofs.Histories.Unforbidden.{unforbidden}
 use Rattle.ipc_policy.proofs.Holdings.Holding.{kept_is, nothing_handed}

@@ -26,19 +26,19 @@ use Rattle.ipc_policy.specs.declared.config.Config.{Config}
 use Rattle.ipc_policy.specs.declared.config.TheConstants.{DESCRIPTIONS_MAX}
 use Rattle.ipc_policy.specs.declared.config.Held.{Held}
 use Rattle.ipc_policy.specs.declared.asking.Described.{Described}
-use Rattle.ipc_policy.specs.History.{History, after_accepted, is_some_and}
-use Rattle.ipc_policy.specs.Names.{creations, bound}
-use Rattle.ipc_policy.specs.Objects.{object}
-use Rattle.ipc_policy.specs.Descriptions.{opens, held, if_of, holds, is_nonblock, ends_held}
-use Rattle.ipc_policy.specs.Queues.{Send, has_none, attributes}
-use Rattle.ipc_policy.specs.Timed.{now, is_past}
-use Rattle.ipc_policy.specs.Registrations.{registered}
-use Rattle.ipc_policy.specs.Bodies.{contents, is_full, is_empty, value, is_zero, is_greatest}
-use Rattle.ipc_policy.specs.Parking.{parked}
-use Rattle.ipc_policy.specs.Grow.{held_after}
-use Rattle.ipc_policy.specs.Rules.{is_of_family, not_held, attributes_held, described, reads_only, writes_only, is_interrupt, forbids, no_session, in_call, not_in_call, name_form, name_long, not_admin, no_user, bad_descr, not_for_write, not_for_read, dir_search, dir_read, absent, present, mode_denied, dir_write, sticky, not_owner, chown_denied, attr_range, value_range, queue_count, byte_limit, descr_limit, prio_range, message_long, buffer_short, notify_taken, would_block, overflow, bad_key, would_park, timed_out, plainly, no_taker}
-use Rattle.ipc_policy.specs.Verdict.{verdict}
-use Rattle.ipc_policy.specs.Rights.{SameObject, SameByDescription, taker_of, SameTaker}
+use Rattle.ipc_policy.specs.Decides.History.{History, after_accepted, is_some_and}
+use Rattle.ipc_policy.specs.Decides.Names.{creations, bound}
+use Rattle.ipc_policy.specs.Decides.Objects.{object}
+use Rattle.ipc_policy.specs.Decides.Descriptions.{opens, held, if_of, holds, is_nonblock, ends_held}
+use Rattle.ipc_policy.specs.Decides.Queues.{Send, has_none, attributes}
+use Rattle.ipc_policy.specs.Decides.Timed.{now, is_past}
+use Rattle.ipc_policy.specs.Decides.Registrations.{registered}
+use Rattle.ipc_policy.specs.Decides.Bodies.{contents, is_full, is_empty, value, is_zero, is_greatest}
+use Rattle.ipc_policy.specs.Decides.Parking.{parked}
+use Rattle.ipc_policy.specs.Follows.Grow.{held_after}
+use Rattle.ipc_policy.specs.Decides.Rules.{is_of_family, not_held, attributes_held, described, reads_only, writes_only, is_interrupt, forbids, no_session, in_call, not_in_call, name_form, name_long, not_admin, no_user, bad_descr, not_for_write, not_for_read, dir_search, dir_read, absent, present, mode_denied, dir_write, sticky, not_owner, chown_denied, attr_range, value_range, queue_count, byte_limit, descr_limit, prio_range, message_long, buffer_short, notify_taken, would_block, overflow, bad_key, would_park, timed_out, plainly, no_taker}
+use Rattle.ipc_policy.specs.Decides.Verdict.{verdict}
+use Rattle.ipc_policy.specs.Follows.Rights.{SameObject, SameByDescription, taker_of, SameTaker}
 use Rattle.ipc_policy.proofs.Holdings.Holding.{held_below, held_grows, given_held}
 use Rattle.ipc_policy.proofs.Directories.Creating.{holds_is_held}
 use Rattle.ipc_policy.proofs.Histories.Unforbidden.{described_plain}

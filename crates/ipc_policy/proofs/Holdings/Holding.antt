@@ -11,10 +11,10 @@ use Rattle.ipc_terms.specs.declared.record.Event.{Event}
 use Rattle.ipc_terms.specs.declared.record.Record.{Record}
 use Rattle.ipc_terms.specs.declared.record.Event.TheVariants.{Hello, Do, Hangup, Tick}
 use Rattle.ipc_policy.specs.declared.config.Held.{Held}
-use Rattle.ipc_policy.specs.History.{History, unless, unended_from, how_many_below}
-use Rattle.ipc_policy.specs.Names.{Opening, queue_opening, semaphore_opening, opening, bound, creations}
-use Rattle.ipc_policy.specs.Descriptions.{opens, opened, held_as, hands_over, gives, ends_held, held, if_of, holds, held_count}
-use Rattle.ipc_policy.specs.Grow.{held_after, count_moved, held_count_after}
+use Rattle.ipc_policy.specs.Decides.History.{History, unless, unended_from, how_many_below}
+use Rattle.ipc_policy.specs.Decides.Names.{Opening, queue_opening, semaphore_opening, opening, bound, creations}
+use Rattle.ipc_policy.specs.Decides.Descriptions.{opens, opened, held_as, hands_over, gives, ends_held, held, if_of, holds, held_count}
+use Rattle.ipc_policy.specs.Follows.Grow.{held_after, count_moved, held_count_after}
 
 pub kept_some : {A : Type 0} (p : A → Bool) (o : Option A) → is_some (unless p o) ≡ true → is_some o ≡ true
 kept_some p None e = e

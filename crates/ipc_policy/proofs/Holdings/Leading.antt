@@ -10,11 +10,11 @@ use Rattle.ipc_terms.specs.declared.record.Event.TheVariants.{Do}
 use Rattle.ipc_terms.specs.declared.call.Call.TheVariants.{MqGive}
 use Rattle.ipc_policy.specs.declared.config.Config.{Config}
 use Rattle.ipc_policy.specs.declared.config.Held.{Held}
-use Rattle.ipc_policy.specs.History.{History, record_at, before_at, after_accepted}
-use Rattle.ipc_policy.specs.Descriptions.{held, holds}
-use Rattle.ipc_policy.specs.Rules.{not_held}
-use Rattle.ipc_policy.specs.Verdict.{Legal, verdict}
-use Rattle.ipc_policy.specs.Confined.{IsAccepted, Give, HeldThroughout, EachLeadIsWhole}
+use Rattle.ipc_policy.specs.Decides.History.{History, record_at, before_at, after_accepted}
+use Rattle.ipc_policy.specs.Decides.Descriptions.{held, holds}
+use Rattle.ipc_policy.specs.Decides.Rules.{not_held}
+use Rattle.ipc_policy.specs.Decides.Verdict.{Legal, verdict}
+use Rattle.ipc_policy.specs.Follows.Confined.{IsAccepted, Give, HeldThroughout, EachLeadIsWhole}
 use Rattle.ipc_policy.proofs.Blocked.Holders.{one_holder}
 use Rattle.ipc_policy.proofs.Histories.Moments.{record_stays, before_stays, record_now, before_now, legal_at}
 use Rattle.ipc_policy.proofs.Histories.Unforbidden.{call_free, taker_there}

@@ -4,8 +4,8 @@ use Rattle.std.specs.Option.{option_to_list}
 use Rattle.std.specs.Prelude.{filter, nat_lt}
 use Rattle.std.proofs.lemmas.Bool.{eqb-true, eqb-false, eq-eqb, ne_eqb}
 use Rattle.ipc_terms.specs.Lists.{first}
-use Rattle.ipc_policy.specs.Queues.{Send, Act, Sends, Receives, Withdraws, NoAct, Queue, is_filled, has_none, next, others, tail, senders_after, contents_after}
-use Rattle.ipc_policy.specs.Parking.{stands_at}
+use Rattle.ipc_policy.specs.Decides.Queues.{Send, Act, Sends, Receives, Withdraws, NoAct, Queue, is_filled, has_none, next, others, tail, senders_after, contents_after}
+use Rattle.ipc_policy.specs.Decides.Parking.{stands_at}
 
 -- how many of the sends were made at this place
 abbrev pub count_at : ℕ → List Send → ℕ

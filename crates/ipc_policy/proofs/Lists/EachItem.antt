@@ -5,10 +5,10 @@ use Rattle.std.specs.Prelude.{filter}
 use Rattle.std.proofs.lemmas.Bool.{ne_eqb}
 use Rattle.ipc_terms.specs.Lists.{first, Each}
 use Rattle.ipc_terms.specs.Priorities.{first_of_greatest}
-use Rattle.ipc_policy.specs.Queues.{Send, Waiter, Act, Sends, Receives, Withdraws, NoAct, Queue, has_none, is_filled, tail, next, others, receivers_after, senders_after, contents_after}
-use Rattle.ipc_policy.specs.Parking.{stands_at}
-use Rattle.ipc_policy.specs.Semaphores.{SemaphoreAct, Posts, Waits, Tries, WithdrawsWait, NoSemaphoreAct, Semaphore, waiters_after}
-use Rattle.ipc_policy.specs.Readings.{Rising, ends_receive, ends_send, ends_wait}
+use Rattle.ipc_policy.specs.Decides.Queues.{Send, Waiter, Act, Sends, Receives, Withdraws, NoAct, Queue, has_none, is_filled, tail, next, others, receivers_after, senders_after, contents_after}
+use Rattle.ipc_policy.specs.Decides.Parking.{stands_at}
+use Rattle.ipc_policy.specs.Decides.Semaphores.{SemaphoreAct, Posts, Waits, Tries, WithdrawsWait, NoSemaphoreAct, Semaphore, waiters_after}
+use Rattle.ipc_policy.specs.Follows.Readings.{Rising, ends_receive, ends_send, ends_wait}
 
 pub each_map : {A : Type 0} (P Q : A → Type 0) (xs : List A) → ((x : A) → P x → Q x) → Each P xs → Each Q xs
 each_map P Q [] f h = tt

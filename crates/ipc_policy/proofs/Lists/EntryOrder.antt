@@ -7,10 +7,10 @@ use Rattle.ipc_terms.specs.Lists.{first, Each}
 use Rattle.ipc_terms.specs.declared.rule.Rule.{Rule}
 use Rattle.ipc_terms.specs.declared.record.Event.{Event}
 use Rattle.ipc_policy.specs.declared.config.Config.{Config}
-use Rattle.ipc_policy.specs.History.{History, newest}
-use Rattle.ipc_policy.specs.Queues.{Send, Act, Sends, Receives, Withdraws, NoAct, Queue, is_filled, has_none, next, others, contents_after, maxmsg}
-use Rattle.ipc_policy.specs.Bodies.{act, queue, contents}
-use Rattle.ipc_policy.specs.Readings.{Rising, enters, entering, entered, EachInsideInOrder, IsNext, EachNextIsGreatest}
+use Rattle.ipc_policy.specs.Decides.History.{History, newest}
+use Rattle.ipc_policy.specs.Decides.Queues.{Send, Act, Sends, Receives, Withdraws, NoAct, Queue, is_filled, has_none, next, others, contents_after, maxmsg}
+use Rattle.ipc_policy.specs.Decides.Bodies.{act, queue, contents}
+use Rattle.ipc_policy.specs.Follows.Readings.{Rising, enters, entering, entered, EachInsideInOrder, IsNext, EachNextIsGreatest}
 use Rattle.ipc_policy.proofs.Lists.PlaceLists.{rising_higher, rising_append, rising_filter}
 use Rattle.ipc_policy.proofs.Lists.EachItem.{each_map, each_append, each_filter}
 use Rattle.ipc_policy.proofs.Lists.Counting.{count_at}

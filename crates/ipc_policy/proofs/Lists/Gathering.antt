@@ -6,7 +6,7 @@ use Rattle.std.proofs.lemmas.Bool.{cases_eq, cases_lt, or_left, or_right}
 use Rattle.std.proofs.lemmas.List.Folds.{find-append, list_any-append}
 use Rattle.std.proofs.lemmas.List.Sums.{sum_by-append, sum_by-cons}
 use Rattle.std.proofs.lemmas.List.Elements.{filter-append}
-use Rattle.ipc_policy.specs.History.{any_below, how_many_below, sum_below, gathered_below}
+use Rattle.ipc_policy.specs.Decides.History.{any_below, how_many_below, sum_below, gathered_below}
 
 pub gathered_same : {A : Type 0} (f g : ℕ → Option A) (n : ℕ) → ((i : ℕ) → i < n → f i ≡ g i) → gathered_below f n ≡ gathered_below g n
 gathered_same f g zero same = refl

@@ -4,7 +4,7 @@ use Rattle.std.specs.Option.{option_to_list}
 use Rattle.std.proofs.lemmas.Bool.{ne_eqb}
 use Rattle.std.specs.Prelude.{filter}
 use Rattle.ipc_terms.specs.Lists.{first}
-use Rattle.ipc_policy.specs.Queues.{Send, has_none, tail, next, others}
+use Rattle.ipc_policy.specs.Decides.Queues.{Send, has_none, tail, next, others}
 use Rattle.ipc_policy.proofs.Lists.Counting.{count_at, next_in}
 use Rattle.ipc_policy.proofs.Lists.EntryOrder.{next_some}
 

@@ -4,10 +4,10 @@ use Rattle.std.specs.Prelude.{filter}
 use Rattle.std.specs.Option.{option_or}
 use Rattle.std.proofs.lemmas.Bool.{eqb-true, eqb-false, eq-eqb, ne_eqb}
 use Rattle.ipc_terms.specs.Lists.{first}
-use Rattle.ipc_policy.specs.History.{unless}
-use Rattle.ipc_policy.specs.Queues.{tail}
-use Rattle.ipc_policy.specs.Parking.{stands_at}
-use Rattle.ipc_policy.specs.Readings.{of_place, Rising}
+use Rattle.ipc_policy.specs.Decides.History.{unless}
+use Rattle.ipc_policy.specs.Decides.Queues.{tail}
+use Rattle.ipc_policy.specs.Decides.Parking.{stands_at}
+use Rattle.ipc_policy.specs.Follows.Readings.{of_place, Rising}
 
 pub rising_lower : {A : Type 0} (place : A → ℕ) (lo lo' : ℕ) (xs : List A) (hi : ℕ) → lo' ≤ lo → Rising place lo xs hi → Rising place lo' xs hi
 rising_lower place lo lo' [] hi le h = omega arith

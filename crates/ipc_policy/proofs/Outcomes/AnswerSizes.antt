@@ -18,15 +18,15 @@ use Rattle.ipc_policy.specs.declared.config.Config.{Config}
 use Rattle.ipc_policy.specs.declared.config.Held.{Held}
 use Rattle.ipc_policy.specs.declared.config.Registration.{Registration}
 use Rattle.ipc_policy.specs.declared.config.TheConstants.{HARD_MSGSIZE_MAX}
-use Rattle.ipc_policy.specs.History.{History}
-use Rattle.ipc_policy.specs.Sessions.{live}
-use Rattle.ipc_policy.specs.Descriptions.{holds}
-use Rattle.ipc_policy.specs.Life.{names}
-use Rattle.ipc_policy.specs.Queues.{Send, Waiter, attributes, next}
-use Rattle.ipc_policy.specs.Registrations.{is_idle, registered}
-use Rattle.ipc_policy.specs.Bodies.{due, queue, contents, senders, receivers, is_full, waiters, is_zero}
-use Rattle.ipc_policy.specs.Verdict.{verdict, Legal, answers, answers_at, tick_answers, accepted_answers, answers_of, receiver_answers, sender_answers, noticed, send_answers, received, receive_answers, attributes_told, waiter_answers, post_answers, wait_answers, value_told, stat_answers, facts_meant, for_session, outbox}
-use Rattle.ipc_policy.specs.Sizes.{LimitsMessages, EachAnswerIsSmall, EachOutboxIsSmall}
+use Rattle.ipc_policy.specs.Decides.History.{History}
+use Rattle.ipc_policy.specs.Decides.Sessions.{live}
+use Rattle.ipc_policy.specs.Decides.Descriptions.{holds}
+use Rattle.ipc_policy.specs.Decides.Life.{names}
+use Rattle.ipc_policy.specs.Decides.Queues.{Send, Waiter, attributes, next}
+use Rattle.ipc_policy.specs.Decides.Registrations.{is_idle, registered}
+use Rattle.ipc_policy.specs.Decides.Bodies.{due, queue, contents, senders, receivers, is_full, waiters, is_zero}
+use Rattle.ipc_policy.specs.Decides.Verdict.{verdict, Legal, answers, answers_at, tick_answers, accepted_answers, answers_of, receiver_answers, sender_answers, noticed, send_answers, received, receive_answers, attributes_told, waiter_answers, post_answers, wait_answers, value_told, stat_answers, facts_meant, for_session, outbox}
+use Rattle.ipc_policy.specs.Follows.Sizes.{LimitsMessages, EachAnswerIsSmall, EachOutboxIsSmall}
 use Rattle.ipc_policy.proofs.Histories.PlainForms.{plain_accepted}
 use Rattle.ipc_policy.proofs.Lists.EachItem.{each_append, each_filter, each_greatest}
 use Rattle.ipc_policy.proofs.Lists.Pages.{page_le, each_paged}

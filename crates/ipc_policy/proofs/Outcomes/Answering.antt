@@ -22,19 +22,19 @@ use Rattle.ipc_terms.specs.declared.record.Event.{Event}
 use Rattle.ipc_terms.specs.declared.record.Event.TheVariants.{Hello, Do, Hangup, Tick}
 use Rattle.ipc_policy.specs.declared.config.Config.{Config}
 use Rattle.ipc_policy.specs.declared.config.Held.{Held}
-use Rattle.ipc_policy.specs.History.{History, is_some_and}
-use Rattle.ipc_policy.specs.Names.{is_bound, bound}
-use Rattle.ipc_policy.specs.Objects.{object, facts}
-use Rattle.ipc_policy.specs.Descriptions.{holds}
-use Rattle.ipc_policy.specs.Queues.{Send, has_none, attributes, next}
-use Rattle.ipc_policy.specs.Registrations.{is_idle, registered}
-use Rattle.ipc_policy.specs.Bodies.{contents, senders, receivers, queue, is_full, is_empty, is_zero}
-use Rattle.ipc_policy.specs.Parking.{ParkedKind, Sending, Receiving, Waiting, Parked, parked_on, plain_parks, parks, seen}
-use Rattle.ipc_policy.specs.Readings.{IsNext}
-use Rattle.ipc_policy.specs.Rules.{would_park, not_held, is_of_family, forbids, no_session, in_call, not_in_call, name_form, name_long, not_admin, no_user, bad_descr, not_for_write, not_for_read, dir_search, dir_read, absent, present, mode_denied, dir_write, sticky, not_owner, chown_denied, attr_range, value_range, queue_count, byte_limit, descr_limit, prio_range, message_long, buffer_short, notify_taken, would_block, overflow, bad_key, timed_out, no_taker}
-use Rattle.ipc_policy.specs.Verdict.{verdict, caller, Legal, answers, answers_at, accepted_answers, answers_of, receiver_answers, noticed, send_answers, received, receive_answers, attributes_told, post_answers, wait_answers, value_told, stat_answers, facts_meant}
-use Rattle.ipc_policy.specs.Ticks.{EachCountsAsPlain, EachWouldPark}
-use Rattle.ipc_policy.specs.Answered.{is_uncalled, IsAnsweredFirst, EachCallIsAnswered, ParkingAnswersNobody, HelloAnswersItsSession, HangupAnswersNobody, RefusalAnswersItsCaller, EachTickIsAnswered}
+use Rattle.ipc_policy.specs.Decides.History.{History, is_some_and}
+use Rattle.ipc_policy.specs.Decides.Names.{is_bound, bound}
+use Rattle.ipc_policy.specs.Decides.Objects.{object, facts}
+use Rattle.ipc_policy.specs.Decides.Descriptions.{holds}
+use Rattle.ipc_policy.specs.Decides.Queues.{Send, has_none, attributes, next}
+use Rattle.ipc_policy.specs.Decides.Registrations.{is_idle, registered}
+use Rattle.ipc_policy.specs.Decides.Bodies.{contents, senders, receivers, queue, is_full, is_empty, is_zero}
+use Rattle.ipc_policy.specs.Decides.Parking.{ParkedKind, Sending, Receiving, Waiting, Parked, parked_on, plain_parks, parks, seen}
+use Rattle.ipc_policy.specs.Follows.Readings.{IsNext}
+use Rattle.ipc_policy.specs.Decides.Rules.{would_park, not_held, is_of_family, forbids, no_session, in_call, not_in_call, name_form, name_long, not_admin, no_user, bad_descr, not_for_write, not_for_read, dir_search, dir_read, absent, present, mode_denied, dir_write, sticky, not_owner, chown_denied, attr_range, value_range, queue_count, byte_limit, descr_limit, prio_range, message_long, buffer_short, notify_taken, would_block, overflow, bad_key, timed_out, no_taker}
+use Rattle.ipc_policy.specs.Decides.Verdict.{verdict, caller, Legal, answers, answers_at, accepted_answers, answers_of, receiver_answers, noticed, send_answers, received, receive_answers, attributes_told, post_answers, wait_answers, value_told, stat_answers, facts_meant}
+use Rattle.ipc_policy.specs.Follows.Ticks.{EachCountsAsPlain, EachWouldPark}
+use Rattle.ipc_policy.specs.Follows.Answered.{is_uncalled, IsAnsweredFirst, EachCallIsAnswered, ParkingAnswersNobody, HelloAnswersItsSession, HangupAnswersNobody, RefusalAnswersItsCaller, EachTickIsAnswered}
 use Rattle.ipc_policy.proofs.Queues.ActsOf.{queue_given}
 use Rattle.ipc_policy.proofs.Directories.Bindings.{bound_made}
 use Rattle.ipc_policy.proofs.Lists.EntryOrder.{next_is_greatest}

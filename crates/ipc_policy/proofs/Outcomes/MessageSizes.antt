@@ -18,15 +18,15 @@ use Rattle.ipc_terms.specs.declared.record.Event.TheVariants.{Do}
 use Rattle.ipc_policy.specs.declared.config.Config.{Config}
 use Rattle.ipc_policy.specs.declared.config.Held.{Held}
 use Rattle.ipc_policy.specs.declared.config.TheConstants.{HARD_MSGSIZE_MAX}
-use Rattle.ipc_policy.specs.History.{History, is_some_and}
-use Rattle.ipc_policy.specs.Objects.{object}
-use Rattle.ipc_policy.specs.Descriptions.{holds}
-use Rattle.ipc_policy.specs.Queues.{Send, Waiter, Act, Sends, Receives, Withdraws, NoAct, Queue, is_filled, next, contents_after, senders_after, attributes, maxmsg}
-use Rattle.ipc_policy.specs.Bodies.{act, queue}
-use Rattle.ipc_policy.specs.Rules.{forbids, message_long, attributes_held}
-use Rattle.ipc_policy.specs.Verdict.{verdict, Legal}
-use Rattle.ipc_policy.specs.Deliveries.{Delivery, delivers, object_asked, delivery}
-use Rattle.ipc_policy.specs.Sizes.{LimitsMessages, EachMessageFits, EachDeliveryFits, EachSizeIsInRange}
+use Rattle.ipc_policy.specs.Decides.History.{History, is_some_and}
+use Rattle.ipc_policy.specs.Decides.Objects.{object}
+use Rattle.ipc_policy.specs.Decides.Descriptions.{holds}
+use Rattle.ipc_policy.specs.Decides.Queues.{Send, Waiter, Act, Sends, Receives, Withdraws, NoAct, Queue, is_filled, next, contents_after, senders_after, attributes, maxmsg}
+use Rattle.ipc_policy.specs.Decides.Bodies.{act, queue}
+use Rattle.ipc_policy.specs.Decides.Rules.{forbids, message_long, attributes_held}
+use Rattle.ipc_policy.specs.Decides.Verdict.{verdict, Legal}
+use Rattle.ipc_policy.specs.Follows.Deliveries.{Delivery, delivers, object_asked, delivery}
+use Rattle.ipc_policy.specs.Follows.Sizes.{LimitsMessages, EachMessageFits, EachDeliveryFits, EachSizeIsInRange}
 use Rattle.ipc_policy.proofs.Lists.EachItem.{each_map, each_inside, each_sender, each_greatest}
 use Rattle.ipc_policy.proofs.Histories.Unforbidden.{unforbidden}
 use Rattle.ipc_policy.proofs.Histories.PlainForms.{plain_accepted}

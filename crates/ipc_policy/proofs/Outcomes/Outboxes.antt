@@ -3,9 +3,9 @@ use Rattle.std.proofs.Common.{◌≡◌, ℕ, ◌+◌, ◌≤◌, Bool, true, fa
 use Rattle.ipc_terms.specs.declared.record.Event.{Event}
 use Rattle.ipc_terms.specs.declared.record.Record.{Record}
 use Rattle.ipc_policy.specs.declared.config.Config.{Config}
-use Rattle.ipc_policy.specs.History.{History, is_accepted}
-use Rattle.ipc_policy.specs.Sessions.{hellos, is_hello, live}
-use Rattle.ipc_policy.specs.Verdict.{answers, for_session, outbox, after_event}
+use Rattle.ipc_policy.specs.Decides.History.{History, is_accepted}
+use Rattle.ipc_policy.specs.Decides.Sessions.{hellos, is_hello, live}
+use Rattle.ipc_policy.specs.Decides.Verdict.{answers, for_session, outbox, after_event}
 use Rattle.ipc_policy.proofs.Histories.Known.{live_below}
 
 -- one record more

@@ -17,14 +17,14 @@ use Rattle.ipc_policy.specs.declared.config.Held.{Held}
 use Rattle.ipc_terms.specs.declared.object.Object.{Object}
 use Rattle.ipc_terms.specs.declared.object.Kind.{Kind}
 use Rattle.ipc_terms.specs.declared.object.Kind.TheVariants.{Queue, Semaphore}
-use Rattle.ipc_policy.specs.History.{History, is_some_and}
-use Rattle.ipc_policy.specs.Objects.{object}
-use Rattle.ipc_policy.specs.Descriptions.{holds}
-use Rattle.ipc_policy.specs.Life.{gives_object}
-use Rattle.ipc_policy.specs.Queues.{Send, Waiter, Act, Sends, Receives, NoAct, withdrawal, plain_act, attributes}
-use Rattle.ipc_policy.specs.Bodies.{due, act}
-use Rattle.ipc_policy.specs.Rules.{forbids, bad_descr, not_held, is_of_family, described}
-use Rattle.ipc_policy.specs.Verdict.{verdict}
+use Rattle.ipc_policy.specs.Decides.History.{History, is_some_and}
+use Rattle.ipc_policy.specs.Decides.Objects.{object}
+use Rattle.ipc_policy.specs.Decides.Descriptions.{holds}
+use Rattle.ipc_policy.specs.Decides.Life.{gives_object}
+use Rattle.ipc_policy.specs.Decides.Queues.{Send, Waiter, Act, Sends, Receives, NoAct, withdrawal, plain_act, attributes}
+use Rattle.ipc_policy.specs.Decides.Bodies.{due, act}
+use Rattle.ipc_policy.specs.Decides.Rules.{forbids, bad_descr, not_held, is_of_family, described}
+use Rattle.ipc_policy.specs.Decides.Verdict.{verdict}
 use Rattle.ipc_policy.proofs.Histories.Unforbidden.{unforbidden, described_plain}
 use Rattle.ipc_policy.proofs.Fates.Sent.{not_sends, withdrawal_not_sends}
 

@@ -9,12 +9,12 @@ use Rattle.ipc_terms.specs.declared.record.Event.TheVariants.{Hello, Do, Hangup,
 use Rattle.ipc_access.specs.declared.class.Cred.{Cred}
 use Rattle.ipc_access.specs.Users.{cred_of}
 use Rattle.ipc_policy.specs.declared.config.Config.{Config}
-use Rattle.ipc_policy.specs.History.{History, newest, how_many_below, sum_below}
-use Rattle.ipc_policy.specs.Names.{is_bound, creations}
-use Rattle.ipc_policy.specs.Objects.{makes, object}
-use Rattle.ipc_policy.specs.Life.{alive}
-use Rattle.ipc_policy.specs.Charges.{is_queue_alive, charge, charge_of, charged, queues_alive, sets_limit, limit}
-use Rattle.ipc_policy.specs.Grow.{creations_after, alive_then, object_then, limit_after}
+use Rattle.ipc_policy.specs.Decides.History.{History, newest, how_many_below, sum_below}
+use Rattle.ipc_policy.specs.Decides.Names.{is_bound, creations}
+use Rattle.ipc_policy.specs.Decides.Objects.{makes, object}
+use Rattle.ipc_policy.specs.Decides.Life.{alive}
+use Rattle.ipc_policy.specs.Decides.Charges.{is_queue_alive, charge, charge_of, charged, queues_alive, sets_limit, limit}
+use Rattle.ipc_policy.specs.Follows.Grow.{creations_after, alive_then, object_then, limit_after}
 use Rattle.ipc_policy.proofs.Holdings.Holding.{how_many_below_same}
 use Rattle.ipc_policy.proofs.Histories.Growing.{creations_grow, made_grows}
 use Rattle.ipc_policy.proofs.Directories.Living.{alive_grows}

@@ -7,11 +7,11 @@ use Rattle.ipc_terms.specs.Lists.{first}
 use Rattle.ipc_terms.specs.declared.rule.Rule.{Rule}
 use Rattle.ipc_terms.specs.declared.record.Event.{Event}
 use Rattle.ipc_policy.specs.declared.config.Config.{Config}
-use Rattle.ipc_policy.specs.History.{History, unless, unended}
-use Rattle.ipc_policy.specs.Queues.{Send, Act, Sends, Receives, Withdraws, NoAct, Queue, is_filled, has_none, next, others, contents_after, maxmsg}
-use Rattle.ipc_policy.specs.Bodies.{act, queue, contents}
-use Rattle.ipc_policy.specs.Parking.{stands_at}
-use Rattle.ipc_policy.specs.Readings.{of_place, entering, takes, stays, EachInsideByPlace}
+use Rattle.ipc_policy.specs.Decides.History.{History, unless, unended}
+use Rattle.ipc_policy.specs.Decides.Queues.{Send, Act, Sends, Receives, Withdraws, NoAct, Queue, is_filled, has_none, next, others, contents_after, maxmsg}
+use Rattle.ipc_policy.specs.Decides.Bodies.{act, queue, contents}
+use Rattle.ipc_policy.specs.Decides.Parking.{stands_at}
+use Rattle.ipc_policy.specs.Follows.Readings.{of_place, entering, takes, stays, EachInsideByPlace}
 use Rattle.ipc_policy.proofs.Lists.PlaceLists.{found_append, found_place}
 use Rattle.ipc_policy.proofs.Lists.Counting.{count_at, next_in}
 use Rattle.ipc_policy.proofs.Queues.Keeping.{sent_once, sent_later}

@@ -7,11 +7,11 @@ use Rattle.ipc_terms.specs.declared.record.Event.{Event}
 use Rattle.ipc_terms.specs.declared.record.Event.TheVariants.{Hello, Do, Hangup, Tick}
 use Rattle.ipc_terms.specs.declared.call.Call.TheVariants.{MqSend, MqReceive}
 use Rattle.ipc_policy.specs.declared.config.Config.{Config}
-use Rattle.ipc_policy.specs.History.{History, how_many}
-use Rattle.ipc_policy.specs.Descriptions.{holds}
-use Rattle.ipc_policy.specs.Life.{gives_object}
-use Rattle.ipc_policy.specs.Queues.{Sends, Receives, NoAct, withdrawal, plain_act, maxmsg}
-use Rattle.ipc_policy.specs.Bodies.{due, act, queue, contents, senders}
+use Rattle.ipc_policy.specs.Decides.History.{History, how_many}
+use Rattle.ipc_policy.specs.Decides.Descriptions.{holds}
+use Rattle.ipc_policy.specs.Decides.Life.{gives_object}
+use Rattle.ipc_policy.specs.Decides.Queues.{Sends, Receives, NoAct, withdrawal, plain_act, maxmsg}
+use Rattle.ipc_policy.specs.Decides.Bodies.{due, act, queue, contents, senders}
 use Rattle.ipc_policy.proofs.Lists.Counting.{count_at, is_send_at, takes_at, withdraws_at, step_keeps}
 
 -- how many accepted events send at place i, take what was sent there, withdraw it

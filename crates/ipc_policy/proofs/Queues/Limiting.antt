@@ -26,17 +26,17 @@ use Rattle.ipc_access.specs.Users.{cred_of}
 use Rattle.ipc_policy.specs.declared.config.Config.{Config}
 use Rattle.ipc_policy.specs.declared.config.Held.{Held}
 use Rattle.ipc_terms.specs.declared.limits.TheConstants.{LIMIT_MAX}
-use Rattle.ipc_policy.specs.History.{History, newest, unless, gathered_below, any_below, sum_below, is_some_and}
-use Rattle.ipc_policy.specs.Sessions.{user, cred}
-use Rattle.ipc_policy.specs.Names.{Opening, queue_opening, semaphore_opening, unlinks, is_bound, creating, creations, bound}
-use Rattle.ipc_policy.specs.Objects.{kind_of, made_by, creation_of, makes, object}
-use Rattle.ipc_policy.specs.Descriptions.{opens, held, held_as, opened, hands_over, ends_held}
-use Rattle.ipc_policy.specs.Life.{named, binding_of, bindings, alive, gives_object}
-use Rattle.ipc_policy.specs.Charges.{bytes_of, charge, charge_of, charged, sets_limit, limit}
-use Rattle.ipc_policy.specs.Rules.{forbids, value_range, byte_limit, above_limit, queue_made}
-use Rattle.ipc_policy.specs.Verdict.{verdict, Legal}
-use Rattle.ipc_policy.specs.Grow.{is_new, alive_then, object_then, creations_after}
-use Rattle.ipc_policy.specs.Laws.{WithinLimit}
+use Rattle.ipc_policy.specs.Decides.History.{History, newest, unless, gathered_below, any_below, sum_below, is_some_and}
+use Rattle.ipc_policy.specs.Decides.Sessions.{user, cred}
+use Rattle.ipc_policy.specs.Decides.Names.{Opening, queue_opening, semaphore_opening, unlinks, is_bound, creating, creations, bound}
+use Rattle.ipc_policy.specs.Decides.Objects.{kind_of, made_by, creation_of, makes, object}
+use Rattle.ipc_policy.specs.Decides.Descriptions.{opens, held, held_as, opened, hands_over, ends_held}
+use Rattle.ipc_policy.specs.Decides.Life.{named, binding_of, bindings, alive, gives_object}
+use Rattle.ipc_policy.specs.Decides.Charges.{bytes_of, charge, charge_of, charged, sets_limit, limit}
+use Rattle.ipc_policy.specs.Decides.Rules.{forbids, value_range, byte_limit, above_limit, queue_made}
+use Rattle.ipc_policy.specs.Decides.Verdict.{verdict, Legal}
+use Rattle.ipc_policy.specs.Follows.Grow.{is_new, alive_then, object_then, creations_after}
+use Rattle.ipc_policy.specs.Follows.Laws.{WithinLimit}
 use Rattle.ipc_policy.proofs.Holdings.Holding.{kept_some, held_below, nothing_handed}
 use Rattle.ipc_policy.proofs.Lists.Gathering.{any_below_more, any_below_at}
 use Rattle.ipc_policy.proofs.Directories.Listing.{listed_is_bound}

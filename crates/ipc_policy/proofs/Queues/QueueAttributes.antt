@@ -13,14 +13,14 @@ use Rattle.ipc_terms.specs.declared.record.Event.{Event}
 use Rattle.ipc_terms.specs.declared.record.Event.TheVariants.{Hello, Do, Hangup, Tick}
 use Rattle.ipc_access.specs.declared.class.Cred.{Cred}
 use Rattle.ipc_policy.specs.declared.config.Config.{Config}
-use Rattle.ipc_policy.specs.History.{History}
-use Rattle.ipc_policy.specs.Sessions.{cred}
-use Rattle.ipc_policy.specs.Names.{queue_opening, semaphore_opening, is_bound, creations}
-use Rattle.ipc_policy.specs.Objects.{object, made_by, attributes_of}
-use Rattle.ipc_policy.specs.Queues.{attributes}
-use Rattle.ipc_policy.specs.Rules.{out_of_range}
-use Rattle.ipc_policy.specs.Grow.{is_new, object_then}
-use Rattle.ipc_policy.specs.Verdict.{verdict, Legal}
+use Rattle.ipc_policy.specs.Decides.History.{History}
+use Rattle.ipc_policy.specs.Decides.Sessions.{cred}
+use Rattle.ipc_policy.specs.Decides.Names.{queue_opening, semaphore_opening, is_bound, creations}
+use Rattle.ipc_policy.specs.Decides.Objects.{object, made_by, attributes_of}
+use Rattle.ipc_policy.specs.Decides.Queues.{attributes}
+use Rattle.ipc_policy.specs.Decides.Rules.{out_of_range}
+use Rattle.ipc_policy.specs.Follows.Grow.{is_new, object_then}
+use Rattle.ipc_policy.specs.Decides.Verdict.{verdict, Legal}
 use Rattle.ipc_policy.proofs.Histories.Grown.{grows}
 use Rattle.ipc_policy.proofs.Histories.Unforbidden.{open_in_range}
 

@@ -13,15 +13,15 @@ use Rattle.ipc_terms.specs.declared.record.Event.{Event}
 use Rattle.ipc_terms.specs.declared.record.Event.TheVariants.{Hello, Do, Hangup, Tick}
 use Rattle.ipc_policy.specs.declared.config.Config.{Config}
 use Rattle.ipc_terms.specs.declared.object.Object.{Object}
-use Rattle.ipc_policy.specs.History.{History}
-use Rattle.ipc_policy.specs.Sessions.{cred}
-use Rattle.ipc_policy.specs.Names.{queue_opening, semaphore_opening, is_bound, creations}
-use Rattle.ipc_policy.specs.Objects.{object, made_by}
-use Rattle.ipc_policy.specs.Queues.{Send, Waiter, Act, Sends, Receives, Withdraws, NoAct, Queue, empty_queue, has_none, is_filled, next, others, queue_after, maxmsg_of, attributes, maxmsg}
-use Rattle.ipc_policy.specs.Bodies.{act, queue}
-use Rattle.ipc_policy.specs.Grow.{made_after, is_new}
-use Rattle.ipc_policy.specs.Verdict.{verdict, Legal}
-use Rattle.ipc_policy.specs.Laws.{IsBounded, EachIsBounded}
+use Rattle.ipc_policy.specs.Decides.History.{History}
+use Rattle.ipc_policy.specs.Decides.Sessions.{cred}
+use Rattle.ipc_policy.specs.Decides.Names.{queue_opening, semaphore_opening, is_bound, creations}
+use Rattle.ipc_policy.specs.Decides.Objects.{object, made_by}
+use Rattle.ipc_policy.specs.Decides.Queues.{Send, Waiter, Act, Sends, Receives, Withdraws, NoAct, Queue, empty_queue, has_none, is_filled, next, others, queue_after, maxmsg_of, attributes, maxmsg}
+use Rattle.ipc_policy.specs.Decides.Bodies.{act, queue}
+use Rattle.ipc_policy.specs.Follows.Grow.{made_after, is_new}
+use Rattle.ipc_policy.specs.Decides.Verdict.{verdict, Legal}
+use Rattle.ipc_policy.specs.Follows.Laws.{IsBounded, EachIsBounded}
 use Rattle.ipc_policy.proofs.Histories.PlainForms.{plain_accepted}
 use Rattle.ipc_policy.proofs.Lists.Counting.{count_at}
 use Rattle.ipc_policy.proofs.Queues.Keeping.{sent_once}

@@ -7,18 +7,18 @@ use Rattle.ipc_terms.specs.declared.rule.Rule.{Rule}
 use Rattle.ipc_terms.specs.declared.call.Answer.TheVariants.{Refused}
 use Rattle.ipc_terms.specs.declared.record.Event.{Event}
 use Rattle.ipc_policy.specs.declared.config.Config.{Config}
-use Rattle.ipc_policy.specs.History.{History, newest}
-use Rattle.ipc_policy.specs.Sessions.{hellos, live}
-use Rattle.ipc_policy.specs.Descriptions.{holds}
-use Rattle.ipc_policy.specs.Queues.{act_by, queue_after, maxmsg_of, attributes}
-use Rattle.ipc_policy.specs.Names.{is_bound, creations}
-use Rattle.ipc_policy.specs.Timed.{told, now}
-use Rattle.ipc_policy.specs.Semaphores.{semaphore_act_by, gives_value, with_first, semaphore_after, given_value}
-use Rattle.ipc_policy.specs.Bodies.{due, queue, semaphore_act, semaphore, posts, passes, value}
-use Rattle.ipc_policy.specs.Registrations.{registered}
-use Rattle.ipc_policy.specs.Parking.{parked, seen}
-use Rattle.ipc_policy.specs.Grow.{live_after, first_value, given_value_after, posts_after, passes_after, registered_after, parked_after}
-use Rattle.ipc_policy.specs.Verdict.{verdict, caller, answers, answers_at, for_session, outbox}
+use Rattle.ipc_policy.specs.Decides.History.{History, newest}
+use Rattle.ipc_policy.specs.Decides.Sessions.{hellos, live}
+use Rattle.ipc_policy.specs.Decides.Descriptions.{holds}
+use Rattle.ipc_policy.specs.Decides.Queues.{act_by, queue_after, maxmsg_of, attributes}
+use Rattle.ipc_policy.specs.Decides.Names.{is_bound, creations}
+use Rattle.ipc_policy.specs.Decides.Timed.{told, now}
+use Rattle.ipc_policy.specs.Decides.Semaphores.{semaphore_act_by, gives_value, with_first, semaphore_after, given_value}
+use Rattle.ipc_policy.specs.Decides.Bodies.{due, queue, semaphore_act, semaphore, posts, passes, value}
+use Rattle.ipc_policy.specs.Decides.Registrations.{registered}
+use Rattle.ipc_policy.specs.Decides.Parking.{parked, seen}
+use Rattle.ipc_policy.specs.Follows.Grow.{live_after, first_value, given_value_after, posts_after, passes_after, registered_after, parked_after}
+use Rattle.ipc_policy.specs.Decides.Verdict.{verdict, caller, answers, answers_at, for_session, outbox}
 use Rattle.ipc_policy.proofs.Histories.Growing.{live_grows, made_grows}
 
 pub time_grows : (h : History) (e : Event) → now (record { event = e; rule = None } ∷ h) ≡ told e (now h)

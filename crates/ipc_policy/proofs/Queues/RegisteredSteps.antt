@@ -11,12 +11,12 @@ use Rattle.ipc_terms.specs.declared.record.Event.TheVariants.{Do, Hangup}
 use Rattle.ipc_policy.specs.declared.config.Config.{Config}
 use Rattle.ipc_policy.specs.declared.config.Held.{Held}
 use Rattle.ipc_policy.specs.declared.config.Registration.{Registration}
-use Rattle.ipc_policy.specs.History.{History, after_accepted, unless, any_below}
-use Rattle.ipc_policy.specs.Names.{creations}
-use Rattle.ipc_policy.specs.Descriptions.{opens, held, holds}
-use Rattle.ipc_policy.specs.Life.{named, alive, gives_object}
-use Rattle.ipc_policy.specs.Bodies.{act, queue}
-use Rattle.ipc_policy.specs.Registrations.{registers, is_idle, ends_registration, registered}
+use Rattle.ipc_policy.specs.Decides.History.{History, after_accepted, unless, any_below}
+use Rattle.ipc_policy.specs.Decides.Names.{creations}
+use Rattle.ipc_policy.specs.Decides.Descriptions.{opens, held, holds}
+use Rattle.ipc_policy.specs.Decides.Life.{named, alive, gives_object}
+use Rattle.ipc_policy.specs.Decides.Bodies.{act, queue}
+use Rattle.ipc_policy.specs.Decides.Registrations.{registers, is_idle, ends_registration, registered}
 use Rattle.ipc_policy.proofs.Lists.Gathering.{any_below_at}
 use Rattle.ipc_policy.proofs.Holdings.Holding.{held_below}
 use Rattle.ipc_policy.proofs.Directories.Creating.{held_created, holds_is_held}

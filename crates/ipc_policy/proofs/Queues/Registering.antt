@@ -9,12 +9,12 @@ use Rattle.ipc_terms.specs.declared.record.Event.TheVariants.{Hello, Do, Hangup,
 use Rattle.ipc_policy.specs.declared.config.Config.{Config}
 use Rattle.ipc_policy.specs.declared.config.Held.{Held}
 use Rattle.ipc_policy.specs.declared.config.Registration.{Registration}
-use Rattle.ipc_policy.specs.History.{History, unless}
-use Rattle.ipc_policy.specs.Descriptions.{held, holds, lets_go, ends_held}
-use Rattle.ipc_policy.specs.Life.{gives_object}
-use Rattle.ipc_policy.specs.Bodies.{act, queue}
-use Rattle.ipc_policy.specs.Registrations.{registers, turns_off, fires, ends_registration, registered}
-use Rattle.ipc_policy.specs.Rights.{RegisteredIsHeld}
+use Rattle.ipc_policy.specs.Decides.History.{History, unless}
+use Rattle.ipc_policy.specs.Decides.Descriptions.{held, holds, lets_go, ends_held}
+use Rattle.ipc_policy.specs.Decides.Life.{gives_object}
+use Rattle.ipc_policy.specs.Decides.Bodies.{act, queue}
+use Rattle.ipc_policy.specs.Decides.Registrations.{registers, turns_off, fires, ends_registration, registered}
+use Rattle.ipc_policy.specs.Follows.Rights.{RegisteredIsHeld}
 use Rattle.ipc_policy.proofs.Blocked.Waits.{or_left, or_right}
 use Rattle.ipc_policy.proofs.Blocked.ParkedSessions.{holds_on, if_of_is, session_is}
 

@@ -11,16 +11,16 @@ use Rattle.ipc_terms.specs.declared.record.Event.{Event}
 use Rattle.ipc_terms.specs.declared.record.Event.TheVariants.{Hello, Do, Hangup, Tick}
 use Rattle.ipc_policy.specs.declared.config.Config.{Config}
 use Rattle.ipc_policy.specs.declared.config.Held.{Held}
-use Rattle.ipc_policy.specs.History.{History, is_some_and}
-use Rattle.ipc_policy.specs.Names.{queue_opening, semaphore_opening, is_bound, creations}
-use Rattle.ipc_policy.specs.Descriptions.{holds}
-use Rattle.ipc_policy.specs.Queues.{Waiter, has_none}
-use Rattle.ipc_policy.specs.Semaphores.{SemaphoreAct, Posts, Waits, Tries, WithdrawsWait, NoSemaphoreAct, Semaphore, semaphore_after, with_first}
-use Rattle.ipc_policy.specs.Bodies.{queue, semaphore_act, semaphore, is_greatest}
-use Rattle.ipc_policy.specs.Parking.{ParkedKind}
-use Rattle.ipc_policy.specs.Grow.{first_value, is_new}
-use Rattle.ipc_policy.specs.Verdict.{verdict, Legal}
-use Rattle.ipc_policy.specs.Laws.{IsInRange, EachIsInRange, WaitsAtZero, place_listed}
+use Rattle.ipc_policy.specs.Decides.History.{History, is_some_and}
+use Rattle.ipc_policy.specs.Decides.Names.{queue_opening, semaphore_opening, is_bound, creations}
+use Rattle.ipc_policy.specs.Decides.Descriptions.{holds}
+use Rattle.ipc_policy.specs.Decides.Queues.{Waiter, has_none}
+use Rattle.ipc_policy.specs.Decides.Semaphores.{SemaphoreAct, Posts, Waits, Tries, WithdrawsWait, NoSemaphoreAct, Semaphore, semaphore_after, with_first}
+use Rattle.ipc_policy.specs.Decides.Bodies.{queue, semaphore_act, semaphore, is_greatest}
+use Rattle.ipc_policy.specs.Decides.Parking.{ParkedKind}
+use Rattle.ipc_policy.specs.Follows.Grow.{first_value, is_new}
+use Rattle.ipc_policy.specs.Decides.Verdict.{verdict, Legal}
+use Rattle.ipc_policy.specs.Follows.Laws.{IsInRange, EachIsInRange, WaitsAtZero, place_listed}
 use Rattle.ipc_policy.proofs.Histories.PlainForms.{plain_accepted}
 use Rattle.ipc_policy.proofs.Lists.Lengths.{behind_some, filter_some}
 use Rattle.ipc_policy.proofs.Queues.Queueing.{semaphore_grows}

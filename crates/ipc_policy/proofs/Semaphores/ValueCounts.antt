@@ -13,15 +13,15 @@ use Rattle.ipc_terms.specs.declared.record.Event.{Event}
 use Rattle.ipc_terms.specs.declared.record.Event.TheVariants.{Hello, Do, Hangup, Tick}
 use Rattle.ipc_policy.specs.declared.config.Config.{Config}
 use Rattle.ipc_policy.specs.declared.config.Held.{Held}
-use Rattle.ipc_policy.specs.History.{History, newest, is_some_and}
-use Rattle.ipc_policy.specs.Objects.{object}
-use Rattle.ipc_policy.specs.Descriptions.{holds}
-use Rattle.ipc_policy.specs.Names.{Opening, creation, creations}
-use Rattle.ipc_policy.specs.Queues.{has_none}
-use Rattle.ipc_policy.specs.Semaphores.{SemaphoreAct, Posts, Waits, Tries, WithdrawsWait, NoSemaphoreAct, wait_withdrawal, plain_semaphore_act, Semaphore, running_after, semaphore_after, with_first, gives_value, is_post, is_pass, given_value}
-use Rattle.ipc_policy.specs.Bodies.{due, semaphore_act, semaphore, posts, passes, value, is_zero, is_greatest}
-use Rattle.ipc_policy.specs.Verdict.{verdict, Legal}
-use Rattle.ipc_policy.specs.Laws.{EachValueIsCounted}
+use Rattle.ipc_policy.specs.Decides.History.{History, newest, is_some_and}
+use Rattle.ipc_policy.specs.Decides.Objects.{object}
+use Rattle.ipc_policy.specs.Decides.Descriptions.{holds}
+use Rattle.ipc_policy.specs.Decides.Names.{Opening, creation, creations}
+use Rattle.ipc_policy.specs.Decides.Queues.{has_none}
+use Rattle.ipc_policy.specs.Decides.Semaphores.{SemaphoreAct, Posts, Waits, Tries, WithdrawsWait, NoSemaphoreAct, wait_withdrawal, plain_semaphore_act, Semaphore, running_after, semaphore_after, with_first, gives_value, is_post, is_pass, given_value}
+use Rattle.ipc_policy.specs.Decides.Bodies.{due, semaphore_act, semaphore, posts, passes, value, is_zero, is_greatest}
+use Rattle.ipc_policy.specs.Decides.Verdict.{verdict, Legal}
+use Rattle.ipc_policy.specs.Follows.Laws.{EachValueIsCounted}
 use Rattle.ipc_policy.proofs.Histories.PlainForms.{plain_accepted}
 use Rattle.ipc_policy.proofs.Directories.Creating.{not_given, created_before}
 use Rattle.ipc_policy.proofs.Queues.ActsOf.{held_semaphore}

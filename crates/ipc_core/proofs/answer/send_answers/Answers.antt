@@ -2,8 +2,8 @@ use Rattle.std.proofs.Common.{◌≡◌, ◌∷◌, ◌∙◌, sym, subst}
 use Rattle.std.specs.Option.{option_to_list}
 use Rattle.ipc_terms.specs.declared.ids.Sid.{Sid}
 use Rattle.ipc_terms.specs.declared.call.Answer.TheVariants.{Sent}
-use Rattle.ipc_policy.specs.Descriptions.{holds}
-use Rattle.ipc_policy.specs.Verdict.{answers_of, send_answers}
+use Rattle.ipc_policy.specs.Decides.Descriptions.{holds}
+use Rattle.ipc_policy.specs.Decides.Verdict.{answers_of, send_answers}
 use Rattle.ipc_state.specs.Meetings.{by_description}
 use Rattle.ipc_core.proofs.ByDescription.{full_by, noticed_by}
 use Rattle.ipc_core.proofs.answer.send_answers.Goals as goal

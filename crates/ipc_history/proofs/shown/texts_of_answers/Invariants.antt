@@ -1,5 +1,5 @@
 use Rattle.std.proofs.Common.{◌≡◌, map, string_bytes, take}
-use Rattle.ipc_policy.specs.Verdict.{for_session}
+use Rattle.ipc_policy.specs.Decides.Verdict.{for_session}
 use Rattle.ipc_history.specs.Shown.{answer_text}
 use Rattle.ipc_history.proofs.shown.texts_of_answers.Given as goal
 

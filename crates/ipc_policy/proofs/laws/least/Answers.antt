@@ -3,10 +3,10 @@ use Rattle.ipc_terms.specs.Rules.{every_rule}
 use Rattle.ipc_terms.specs.declared.rule.Rule.{Rule}
 use Rattle.ipc_terms.specs.declared.record.Event.{Event}
 use Rattle.ipc_policy.specs.declared.config.Config.{Config}
-use Rattle.ipc_policy.specs.History.{History}
-use Rattle.ipc_policy.specs.Rules.{forbids}
-use Rattle.ipc_policy.specs.Verdict.{verdict}
-use Rattle.ipc_policy.specs.Laws.{IsLeastForbidding}
+use Rattle.ipc_policy.specs.Decides.History.{History}
+use Rattle.ipc_policy.specs.Decides.Rules.{forbids}
+use Rattle.ipc_policy.specs.Decides.Verdict.{verdict}
+use Rattle.ipc_policy.specs.Follows.Laws.{IsLeastForbidding}
 use Rattle.ipc_policy.proofs.Lists.FirstPassing.{first_is_least, numbered, has_place, place_of, NonePass, IsLeastPassing}
 use Rattle.ipc_policy.proofs.laws.least.Goals as goal
 

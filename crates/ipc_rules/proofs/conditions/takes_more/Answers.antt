@@ -1,6 +1,6 @@
 use Rattle.std.proofs.Common.{◌≡◌, ℕ, ◌+◌, ◌<◌, ◌≤◌, ◌^◌, Bool, true, false, cond, nat_lt, Some, None, refl, sym, ap, ◌∙◌, arith}
 use Rattle.std.proofs.lemmas.Bool.Decides.{nat_tests}
-use Rattle.ipc_policy.specs.Charges.{bytes_of}
+use Rattle.ipc_policy.specs.Decides.Charges.{bytes_of}
 use Rattle.ipc_rules.proofs.conditions.takes_more.Goals as goal
 
 -- bytes that are counted fit, and bytes that are not exceed every limit

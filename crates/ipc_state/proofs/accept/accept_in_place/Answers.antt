@@ -7,9 +7,9 @@ use Rattle.ipc_terms.specs.declared.call.Call.TheVariants.{MqNotify, SemPost, Se
 use Rattle.ipc_terms.specs.declared.record.Event.TheVariants.{Do}
 use Rattle.ipc_policy.specs.declared.config.Config.{Config}
 use Rattle.ipc_policy.specs.declared.config.Held.{Held}
-use Rattle.ipc_policy.specs.History.{History, after_accepted}
-use Rattle.ipc_policy.specs.Descriptions.{holds}
-use Rattle.ipc_policy.specs.Verdict.{verdict}
+use Rattle.ipc_policy.specs.Decides.History.{History, after_accepted}
+use Rattle.ipc_policy.specs.Decides.Descriptions.{holds}
+use Rattle.ipc_policy.specs.Decides.Verdict.{verdict}
 use Rattle.ipc_policy.proofs.Histories.Unforbidden.{call_free}
 use Rattle.ipc_tables.specs.TablesView.{TablesView}
 use Rattle.ipc_tables.specs.Steps.{after_notify}

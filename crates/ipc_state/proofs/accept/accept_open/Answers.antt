@@ -4,8 +4,8 @@ use Rattle.ipc_terms.specs.declared.ids.Sid.{Sid}
 use Rattle.ipc_terms.specs.declared.ids.Family.{Family}
 use Rattle.ipc_terms.specs.declared.object.Object.{Object}
 use Rattle.ipc_terms.specs.Objects.{family_of}
-use Rattle.ipc_policy.specs.Sessions.{live, cred, mask}
-use Rattle.ipc_policy.specs.Names.{Opening, opening, bound}
+use Rattle.ipc_policy.specs.Decides.Sessions.{live, cred, mask}
+use Rattle.ipc_policy.specs.Decides.Names.{Opening, opening, bound}
 use Rattle.ipc_policy.proofs.Histories.Known.{opens_le-length, creations_le-length, mask_lt, known_user}
 use Rattle.ipc_names.specs.Directory.{object_named}
 use Rattle.ipc_tables.specs.TablesView.{is_live_row, directory_kept}

@@ -1,7 +1,7 @@
 use Rattle.std.proofs.Common.{rules, ◌≡◌, true, false, is_none, sym, ◌∙◌}
 use Rattle.ipc_access.specs.Users.{user_of_key}
 use Rattle.ipc_terms.specs.declared.record.Event.TheVariants.{Hello}
-use Rattle.ipc_policy.specs.Verdict.{verdict}
+use Rattle.ipc_policy.specs.Decides.Verdict.{verdict}
 use Rattle.ipc_book.specs.Seats.{without_event}
 use Rattle.ipc_book.proofs.LastReceipts.{stale_across}
 use Rattle.ipc_book.proofs.Starting.{hello_told, sid_started, sid_stays, none_is}

@@ -1,5 +1,5 @@
 use Rattle.std.proofs.Common.{rules, ◌≡◌, Some, ap}
-use Rattle.ipc_policy.specs.Bodies.{due}
+use Rattle.ipc_policy.specs.Decides.Bodies.{due}
 use Rattle.ipc_book.specs.Seats.{SeatView}
 use Rattle.ipc_book.proofs.Collected.{ended_call}
 use Rattle.ipc_book.proofs.LastReceipts.{says_across}

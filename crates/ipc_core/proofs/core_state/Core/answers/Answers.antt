@@ -1,5 +1,5 @@
 use Rattle.std.proofs.Common.{◌∙◌, sym, ap}
-use Rattle.ipc_policy.specs.Sessions.{hellos}
+use Rattle.ipc_policy.specs.Decides.Sessions.{hellos}
 use Rattle.ipc_core.specs.Boxes.{box_at, untaken_by}
 use Rattle.ipc_core.specs.CoreView.{CoreView}
 use Rattle.ipc_core.proofs.BoxTables.{box_first}

@@ -1,5 +1,5 @@
 use Rattle.std.proofs.Common.{refl}
-use Rattle.ipc_policy.specs.Sessions.{hellos}
+use Rattle.ipc_policy.specs.Decides.Sessions.{hellos}
 use Rattle.ipc_core.specs.Boxes.{untaken_by, taken}
 use Rattle.ipc_core.proofs.BoxTables.{first_changed}
 use Rattle.ipc_core.proofs.BoxSteps.{stand_taken}

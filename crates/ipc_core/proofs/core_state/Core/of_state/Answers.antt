@@ -1,4 +1,4 @@
-use Rattle.ipc_policy.specs.Sessions.{hellos}
+use Rattle.ipc_policy.specs.Decides.Sessions.{hellos}
 use Rattle.ipc_core.proofs.BoxSteps.{stand_fresh, fresh_box}
 use Rattle.ipc_core.proofs.core_state.Core.of_state.Goals as goal
 

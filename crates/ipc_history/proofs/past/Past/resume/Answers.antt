@@ -1,5 +1,5 @@
 use Rattle.std.proofs.Common.{ap, ◌∙◌}
-use Rattle.ipc_policy.specs.Sessions.{live}
+use Rattle.ipc_policy.specs.Decides.Sessions.{live}
 use Rattle.ipc_state.specs.StateView.{StateView}
 use Rattle.ipc_history.proofs.past.Past.resume.Goals as goal
 

@@ -8,7 +8,7 @@ use Rattle.ipc_hub.specs.Sessions.{Stands}
 use Rattle.ipc_hub.proofs.HubMarks.{hub_view}
 use Rattle.ipc_hub.proofs.KeptLemmas.{kept_there, gone_there, away_at, kept_set}
 use Rattle.ipc_hub.proofs.hub.Hub.discard.Goals as goal
-use Rattle.ipc_policy.specs.Verdict.{Legal}
+use Rattle.ipc_policy.specs.Decides.Verdict.{Legal}
 use Rattle.ipc_state.specs.Ranges.{first_bad}
 use Rattle.ipc_core.specs.CoreView.{CoreView}
 use Rattle.ipc_core.specs.Outboxes.{BoxesAgree}

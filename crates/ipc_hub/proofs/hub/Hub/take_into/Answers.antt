@@ -6,7 +6,7 @@ use Rattle.ipc_hub.specs.Gone.{all_of, gone_at}
 use Rattle.ipc_hub.specs.Sessions.{Stands}
 use Rattle.ipc_hub.proofs.KeptLemmas.{kept_there, gone_there, away_at, kept_set, same_written, on_err}
 use Rattle.ipc_hub.proofs.hub.Hub.take_into.Goals as goal
-use Rattle.ipc_policy.specs.Verdict.{Legal}
+use Rattle.ipc_policy.specs.Decides.Verdict.{Legal}
 use Rattle.ipc_state.specs.Ranges.{first_bad}
 use Rattle.ipc_core.specs.CoreView.{CoreView}
 use Rattle.ipc_core.specs.Outboxes.{BoxesAgree}

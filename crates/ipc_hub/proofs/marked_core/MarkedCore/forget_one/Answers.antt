@@ -1,5 +1,5 @@
 use Rattle.std.proofs.Common.{◌≡◌, length, ap, ◌∙◌, arith}
-use Rattle.ipc_policy.specs.History.{History}
+use Rattle.ipc_policy.specs.Decides.History.{History}
 use Rattle.ipc_core.specs.CoreView.{CoreView}
 use Rattle.ipc_hub.specs.MarkedCore.{MarkedView}
 use Rattle.ipc_hub.proofs.marked_core.MarkedCore.forget_one.Goals as goal

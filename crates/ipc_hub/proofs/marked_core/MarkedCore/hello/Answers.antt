@@ -2,8 +2,8 @@ use Rattle.std.proofs.Common.{◌≡◌, Some, None, true, cond, is_some, refl, 
 use Rattle.ipc_terms.specs.declared.record.Event.TheVariants.{Hello}
 use Rattle.ipc_access.specs.Users.{user_of_key}
 use Rattle.ipc_policy.specs.declared.config.Config.{Config}
-use Rattle.ipc_policy.specs.Sessions.{hellos}
-use Rattle.ipc_policy.specs.Verdict.{verdict}
+use Rattle.ipc_policy.specs.Decides.Sessions.{hellos}
+use Rattle.ipc_policy.specs.Decides.Verdict.{verdict}
 use Rattle.ipc_hub.specs.Marking.{is_set, MarksView}
 use Rattle.ipc_hub.specs.MarkedCore.{MarkedView}
 use Rattle.ipc_hub.proofs.HubLemmas.{hello_stepped, hello_starts}

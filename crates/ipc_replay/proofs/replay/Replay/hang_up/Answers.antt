@@ -1,5 +1,5 @@
 use Rattle.std.proofs.Common.{ap, sym, ◌∙◌}
-use Rattle.ipc_policy.specs.History.{History}
+use Rattle.ipc_policy.specs.Decides.History.{History}
 use Rattle.ipc_replay.proofs.HangUpLemmas.{hangs_up}
 use Rattle.ipc_replay.proofs.replay.Replay.hang_up.Goals as goal
 

@@ -1,6 +1,6 @@
 use Rattle.std.proofs.Common.{◌≡◌, ap, refl, ◌∙◌, arith}
 use Rattle.ipc_state.specs.StateView.{StateView}
-use Rattle.ipc_policy.specs.Sessions.{hellos, live}
+use Rattle.ipc_policy.specs.Decides.Sessions.{hellos, live}
 use Rattle.ipc_replay.specs.HangingUp.{first_hung_up}
 use Rattle.ipc_replay.proofs.HangUpLemmas.{one_more, nobody_lives}
 use Rattle.ipc_replay.proofs.replay.Replay.hang_up_all.Goals as goal

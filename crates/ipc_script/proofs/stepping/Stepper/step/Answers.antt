@@ -1,6 +1,6 @@
 use Rattle.std.proofs.Common.{rules, ◌≡◌, ◌∙◌, ap}
 use Rattle.std.specs.Prelude.{None}
-use Rattle.ipc_policy.specs.Verdict.{answers}
+use Rattle.ipc_policy.specs.Decides.Verdict.{answers}
 use Rattle.ipc_core.specs.CoreView.{CoreView}
 use Rattle.ipc_script.proofs.SteppingLemmas.{after_answers, after_refusal}
 use Rattle.ipc_script.proofs.stepping.Stepper.step.Goals as goal

@@ -1,6 +1,6 @@
 use Rattle.std.proofs.Common.{ap, eqb, length, ◌∙◌}
 use Rattle.ipc_queue.specs.Tickets.{Tickets}
-use Rattle.ipc_policy.specs.Rules.{is_some_and}
+use Rattle.ipc_policy.specs.Decides.Rules.{is_some_and}
 use Rattle.ipc_state.proofs.Looked.{empty_meant}
 use Rattle.ipc_state.proofs.lookup.Lookup.is_empty.Goals as goal
 

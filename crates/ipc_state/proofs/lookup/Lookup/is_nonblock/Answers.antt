@@ -1,6 +1,6 @@
 use Rattle.std.proofs.Common.{ap, ◌∙◌}
 use Rattle.ipc_descr.specs.declared.row.Row.{Row}
-use Rattle.ipc_policy.specs.Rules.{is_some_and}
+use Rattle.ipc_policy.specs.Decides.Rules.{is_some_and}
 use Rattle.ipc_state.proofs.Looked.{nonblock_meant}
 use Rattle.ipc_state.proofs.lookup.Lookup.is_nonblock.Goals as goal
 

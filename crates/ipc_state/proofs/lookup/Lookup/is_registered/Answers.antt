@@ -4,7 +4,7 @@ use Rattle.ipc_queue.specs.Tickets.{Tickets}
 use Rattle.ipc_descr.specs.declared.row.Row.{Row}
 use Rattle.ipc_tables.specs.declared.rows.ObjectRow.{ObjectRow}
 use Rattle.ipc_tables.specs.Objects.{row_at, queue_in}
-use Rattle.ipc_policy.specs.Rules.{is_some_and}
+use Rattle.ipc_policy.specs.Decides.Rules.{is_some_and}
 use Rattle.ipc_state.proofs.Looked.{queue_given, registered_meant}
 use Rattle.ipc_state.proofs.lookup.Lookup.is_registered.Goals as goal
 

@@ -1,6 +1,6 @@
 use Rattle.std.proofs.Common.{◌≡◌, true, ◌∙◌, ap, sym}
 use Rattle.ipc_terms.specs.Events.{caller}
-use Rattle.ipc_policy.specs.Sessions.{live}
+use Rattle.ipc_policy.specs.Decides.Sessions.{live}
 use Rattle.ipc_tables.specs.TablesView.{is_live_row}
 use Rattle.ipc_state.specs.Meetings.{Meeting}
 use Rattle.ipc_state.proofs.LiveSessions.{live_same, there_stands}

@@ -32,17 +32,17 @@ use Rattle.ipc_terms.specs.declared.object.Object.{Object}
 use Rattle.ipc_terms.specs.declared.object.TheConstants.{SEM_VALUE_MAX}
 use Rattle.ipc_terms.specs.declared.limits.TheConstants.{LIMIT_MAX, MQ_PRIO_MAX}
 use Rattle.ipc_policy.specs.declared.config.TheConstants.{DESCRIPTIONS_MAX, HARD_MSG_MAX, HARD_MSGSIZE_MAX}
-use Rattle.ipc_policy.specs.History.{History}
-pub use Rattle.ipc_policy.specs.History.{is_some_and}
-use Rattle.ipc_policy.specs.Sessions.{live, cred}
-use Rattle.ipc_policy.specs.Names.{opening, unlinking, naming, is_bound, creating, Opening}
-use Rattle.ipc_policy.specs.Objects.{object, kind_of, directory, facts_meant}
-use Rattle.ipc_policy.specs.Descriptions.{holds, held_count, is_nonblock}
-pub use Rattle.ipc_policy.specs.Bodies.{is_full, is_empty, is_zero, is_greatest}
-use Rattle.ipc_policy.specs.Timed.{now, is_past}
-use Rattle.ipc_policy.specs.Registrations.{registered}
-use Rattle.ipc_policy.specs.Parking.{parked}
-pub use Rattle.ipc_policy.specs.Charges.{bytes_of, charged, queues_alive, limit}
+use Rattle.ipc_policy.specs.Decides.History.{History}
+pub use Rattle.ipc_policy.specs.Decides.History.{is_some_and}
+use Rattle.ipc_policy.specs.Decides.Sessions.{live, cred}
+use Rattle.ipc_policy.specs.Decides.Names.{opening, unlinking, naming, is_bound, creating, Opening}
+use Rattle.ipc_policy.specs.Decides.Objects.{object, kind_of, directory, facts_meant}
+use Rattle.ipc_policy.specs.Decides.Descriptions.{holds, held_count, is_nonblock}
+pub use Rattle.ipc_policy.specs.Decides.Bodies.{is_full, is_empty, is_zero, is_greatest}
+use Rattle.ipc_policy.specs.Decides.Timed.{now, is_past}
+use Rattle.ipc_policy.specs.Decides.Registrations.{registered}
+use Rattle.ipc_policy.specs.Decides.Parking.{parked}
+pub use Rattle.ipc_policy.specs.Decides.Charges.{bytes_of, charged, queues_alive, limit}
 
 -- there is a user, and what has these facts does not grant it what is wanted: read is 4, write 2, search 1;
 -- the caller of an accepted call is one (law `known`)

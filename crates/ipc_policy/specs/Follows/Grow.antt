@@ -20,22 +20,22 @@ use Rattle.ipc_access.specs.declared.class.Cred.{Cred}
 use Rattle.ipc_policy.specs.declared.config.Config.{Config}
 use Rattle.ipc_policy.specs.declared.config.Held.{Held}
 use Rattle.ipc_policy.specs.declared.config.Registration.{Registration}
-use Rattle.ipc_policy.specs.History.{History, after_accepted, unless, any_below, how_many_below, sum_below}
-use Rattle.ipc_policy.specs.Sessions.{hellos, user, live, cred, mask}
-use Rattle.ipc_policy.specs.Names.{Opening, Naming, opening, nonblock_asked, unlinking, unlinks, asks_name, is_bound, creations, bound}
-use Rattle.ipc_policy.specs.Objects.{without_mask, object, owner, group, mode, facts, together, directory, made_by, owner_given, group_given, mode_given, means_object, means_directory, object_bits, directory_bits}
-use Rattle.ipc_policy.specs.Descriptions.{opened_by, held_as, hands_over, opens, held, holds, held_count, is_nonblock, ends_held}
-use Rattle.ipc_policy.specs.Life.{named, bindings, names, alive, gives_object}
-use Rattle.ipc_policy.specs.Timed.{told, now, deadline_at}
-pub use Rattle.ipc_policy.specs.Queues.{act_by}
-use Rattle.ipc_policy.specs.Queues.{queue_after, maxmsg}
-pub use Rattle.ipc_policy.specs.Semaphores.{semaphore_act_by}
-use Rattle.ipc_policy.specs.Semaphores.{SemaphoreAct, Semaphore, semaphore_after, with_first, is_post, is_pass, given_value}
-use Rattle.ipc_policy.specs.Bodies.{due, act, semaphore_act, queue, semaphore, posts, passes, value}
-use Rattle.ipc_policy.specs.Registrations.{registers, ends_registration, registered}
-use Rattle.ipc_policy.specs.Parking.{Seen, seen, Parked, parks_by, is_posted, ends_call, parked}
-use Rattle.ipc_policy.specs.Charges.{is_queue_alive, charge, charge_of, charged, queues_alive, limit}
-use Rattle.ipc_policy.specs.Verdict.{answers, for_session, outbox}
+use Rattle.ipc_policy.specs.Decides.History.{History, after_accepted, unless, any_below, how_many_below, sum_below}
+use Rattle.ipc_policy.specs.Decides.Sessions.{hellos, user, live, cred, mask}
+use Rattle.ipc_policy.specs.Decides.Names.{Opening, Naming, opening, nonblock_asked, unlinking, unlinks, asks_name, is_bound, creations, bound}
+use Rattle.ipc_policy.specs.Decides.Objects.{without_mask, object, owner, group, mode, facts, together, directory, made_by, owner_given, group_given, mode_given, means_object, means_directory, object_bits, directory_bits}
+use Rattle.ipc_policy.specs.Decides.Descriptions.{opened_by, held_as, hands_over, opens, held, holds, held_count, is_nonblock, ends_held}
+use Rattle.ipc_policy.specs.Decides.Life.{named, bindings, names, alive, gives_object}
+use Rattle.ipc_policy.specs.Decides.Timed.{told, now, deadline_at}
+pub use Rattle.ipc_policy.specs.Decides.Queues.{act_by}
+use Rattle.ipc_policy.specs.Decides.Queues.{queue_after, maxmsg}
+pub use Rattle.ipc_policy.specs.Decides.Semaphores.{semaphore_act_by}
+use Rattle.ipc_policy.specs.Decides.Semaphores.{SemaphoreAct, Semaphore, semaphore_after, with_first, is_post, is_pass, given_value}
+use Rattle.ipc_policy.specs.Decides.Bodies.{due, act, semaphore_act, queue, semaphore, posts, passes, value}
+use Rattle.ipc_policy.specs.Decides.Registrations.{registers, ends_registration, registered}
+use Rattle.ipc_policy.specs.Decides.Parking.{Seen, seen, Parked, parks_by, is_posted, ends_call, parked}
+use Rattle.ipc_policy.specs.Decides.Charges.{is_queue_alive, charge, charge_of, charged, queues_alive, limit}
+use Rattle.ipc_policy.specs.Decides.Verdict.{answers, for_session, outbox}
 
 abbrev pub hellos_after : Event → ℕ → ℕ
 hellos_after (Hello found) hellos = hellos + 1

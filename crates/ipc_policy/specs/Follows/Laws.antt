@@ -15,22 +15,22 @@ use Rattle.ipc_terms.specs.declared.call.Call.{Call}
 use Rattle.ipc_terms.specs.declared.call.Answer.TheVariants.{Refused}
 use Rattle.ipc_policy.specs.declared.config.Config.{Config}
 use Rattle.ipc_policy.specs.declared.config.Held.{Held}
-use Rattle.ipc_policy.specs.History.{History, after_refused, newest, is_some_and}
-use Rattle.ipc_policy.specs.Sessions.{hellos, user, live, cred, mask}
-use Rattle.ipc_policy.specs.Names.{asks_name, is_bound, creations, bound}
-use Rattle.ipc_policy.specs.Objects.{object, owner, group, mode, facts, directory}
-use Rattle.ipc_policy.specs.Descriptions.{opens, held, holds, held_count, is_nonblock}
-use Rattle.ipc_policy.specs.Life.{named, bindings, names, alive}
-use Rattle.ipc_policy.specs.Timed.{now, deadline_at}
-use Rattle.ipc_policy.specs.Queues.{Queue, has_none, maxmsg}
-use Rattle.ipc_policy.specs.Registrations.{registered}
-use Rattle.ipc_policy.specs.Semaphores.{Semaphore, given_value}
-use Rattle.ipc_policy.specs.Bodies.{due, queue, senders, receivers, semaphore, posts, passes, value, waiters}
-use Rattle.ipc_policy.specs.Parking.{ParkedKind, Sending, Receiving, Waiting, Parked, parked}
-use Rattle.ipc_policy.specs.Charges.{charge_of, charged, queues_alive, sets_limit, limit}
+use Rattle.ipc_policy.specs.Decides.History.{History, after_refused, newest, is_some_and}
+use Rattle.ipc_policy.specs.Decides.Sessions.{hellos, user, live, cred, mask}
+use Rattle.ipc_policy.specs.Decides.Names.{asks_name, is_bound, creations, bound}
+use Rattle.ipc_policy.specs.Decides.Objects.{object, owner, group, mode, facts, directory}
+use Rattle.ipc_policy.specs.Decides.Descriptions.{opens, held, holds, held_count, is_nonblock}
+use Rattle.ipc_policy.specs.Decides.Life.{named, bindings, names, alive}
+use Rattle.ipc_policy.specs.Decides.Timed.{now, deadline_at}
+use Rattle.ipc_policy.specs.Decides.Queues.{Queue, has_none, maxmsg}
+use Rattle.ipc_policy.specs.Decides.Registrations.{registered}
+use Rattle.ipc_policy.specs.Decides.Semaphores.{Semaphore, given_value}
+use Rattle.ipc_policy.specs.Decides.Bodies.{due, queue, senders, receivers, semaphore, posts, passes, value, waiters}
+use Rattle.ipc_policy.specs.Decides.Parking.{ParkedKind, Sending, Receiving, Waiting, Parked, parked}
+use Rattle.ipc_policy.specs.Decides.Charges.{charge_of, charged, queues_alive, sets_limit, limit}
 use Rattle.ipc_terms.specs.Lists.{Each}
-use Rattle.ipc_policy.specs.Rules.{forbids}
-use Rattle.ipc_policy.specs.Verdict.{verdict, caller, Legal, for_session, outbox}
+use Rattle.ipc_policy.specs.Decides.Rules.{forbids}
+use Rattle.ipc_policy.specs.Decides.Verdict.{verdict, caller, Legal, for_session, outbox}
 
 -- the rule forbids the event, and no rule of a lower number does
 pub record IsLeastForbidding (c : Config) (h : History) (e : Event) (least : Rule) : Type 0 where

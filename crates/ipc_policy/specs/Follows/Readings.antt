@@ -5,11 +5,11 @@ use Rattle.std.specs.Prelude.{◌≡◌, Bool, false, ℕ, ◌+◌, ◌<◌, ◌
 use Rattle.ipc_terms.specs.Lists.{first, Each}
 use Rattle.ipc_terms.specs.declared.record.Event.{Event}
 use Rattle.ipc_policy.specs.declared.config.Config.{Config}
-use Rattle.ipc_policy.specs.History.{History, newest, unless, unended}
-use Rattle.ipc_policy.specs.Queues.{Send, Waiter, Act, Sends, Receives, Withdraws, Queue, is_filled, has_none, next, maxmsg}
-use Rattle.ipc_policy.specs.Semaphores.{SemaphoreAct, Posts, Waits, WithdrawsWait, Semaphore}
-use Rattle.ipc_policy.specs.Bodies.{act, queue, contents, senders, receivers, semaphore_act, semaphore, waiters}
-use Rattle.ipc_policy.specs.Parking.{stands_at}
+use Rattle.ipc_policy.specs.Decides.History.{History, newest, unless, unended}
+use Rattle.ipc_policy.specs.Decides.Queues.{Send, Waiter, Act, Sends, Receives, Withdraws, Queue, is_filled, has_none, next, maxmsg}
+use Rattle.ipc_policy.specs.Decides.Semaphores.{SemaphoreAct, Posts, Waits, WithdrawsWait, Semaphore}
+use Rattle.ipc_policy.specs.Decides.Bodies.{act, queue, contents, senders, receivers, semaphore_act, semaphore, waiters}
+use Rattle.ipc_policy.specs.Decides.Parking.{stands_at}
 
 -- the send of place i to a full queue parks
 abbrev pub parks_send : ℕ → ℕ → Act → Queue → Option Send

@@ -15,18 +15,18 @@ use Rattle.ipc_terms.specs.declared.call.Call.TheVariants.{Umask, MqOpen, MqClos
 use Rattle.ipc_terms.specs.declared.record.Event.{Event}
 use Rattle.ipc_terms.specs.declared.record.Event.TheVariants.{Hello, Do, Hangup, Tick}
 use Rattle.ipc_policy.specs.declared.config.Config.{Config}
-use Rattle.ipc_policy.specs.History.{History}
-use Rattle.ipc_policy.specs.Sessions.{hellos, live, mask}
+use Rattle.ipc_policy.specs.Decides.History.{History}
+use Rattle.ipc_policy.specs.Decides.Sessions.{hellos, live, mask}
 use Rattle.ipc_policy.specs.declared.config.Held.{Held}
 use Rattle.ipc_policy.specs.declared.config.Registration.{Registration}
 use Rattle.ipc_terms.specs.declared.call.Attributes.{Attributes}
-pub use Rattle.ipc_policy.specs.Objects.{facts_meant}
-use Rattle.ipc_policy.specs.Descriptions.{opens, holds, is_nonblock}
-use Rattle.ipc_policy.specs.Queues.{Send, Waiter, attributes, next}
-use Rattle.ipc_policy.specs.Bodies.{due, queue, contents, senders, receivers, is_full, value, waiters, is_zero}
-use Rattle.ipc_policy.specs.Registrations.{is_idle, registered}
-use Rattle.ipc_policy.specs.Life.{names}
-use Rattle.ipc_policy.specs.Rules.{forbids}
+pub use Rattle.ipc_policy.specs.Decides.Objects.{facts_meant}
+use Rattle.ipc_policy.specs.Decides.Descriptions.{opens, holds, is_nonblock}
+use Rattle.ipc_policy.specs.Decides.Queues.{Send, Waiter, attributes, next}
+use Rattle.ipc_policy.specs.Decides.Bodies.{due, queue, contents, senders, receivers, is_full, value, waiters, is_zero}
+use Rattle.ipc_policy.specs.Decides.Registrations.{is_idle, registered}
+use Rattle.ipc_policy.specs.Decides.Life.{names}
+use Rattle.ipc_policy.specs.Decides.Rules.{forbids}
 
 -- the first rule that forbids, in the order of the rules' numbers, or that none does
 unfoldable pub verdict : Config → History → Event → Option Rule

@@ -13,18 +13,18 @@ use Rattle.ipc_policy.specs.declared.asking.Described.{Described}
 use Rattle.ipc_policy.specs.declared.config.Config.{Config}
 use Rattle.ipc_policy.specs.declared.config.Held.{Held}
 use Rattle.ipc_policy.specs.declared.config.Registration.{Registration}
-use Rattle.ipc_policy.specs.History.{History, after_accepted}
-use Rattle.ipc_policy.specs.Sessions.{live}
-use Rattle.ipc_policy.specs.Objects.{object}
-use Rattle.ipc_policy.specs.Descriptions.{holds, held_count, is_nonblock, ends_held}
-use Rattle.ipc_policy.specs.Life.{gives_object}
-use Rattle.ipc_policy.specs.Timed.{now}
-use Rattle.ipc_policy.specs.Queues.{attributes}
-use Rattle.ipc_policy.specs.Bodies.{contents, value}
-use Rattle.ipc_policy.specs.Registrations.{registered}
-use Rattle.ipc_policy.specs.Parking.{parked}
-use Rattle.ipc_policy.specs.Rules.{described}
-use Rattle.ipc_policy.specs.Verdict.{verdict}
+use Rattle.ipc_policy.specs.Decides.History.{History, after_accepted}
+use Rattle.ipc_policy.specs.Decides.Sessions.{live}
+use Rattle.ipc_policy.specs.Decides.Objects.{object}
+use Rattle.ipc_policy.specs.Decides.Descriptions.{holds, held_count, is_nonblock, ends_held}
+use Rattle.ipc_policy.specs.Decides.Life.{gives_object}
+use Rattle.ipc_policy.specs.Decides.Timed.{now}
+use Rattle.ipc_policy.specs.Decides.Queues.{attributes}
+use Rattle.ipc_policy.specs.Decides.Bodies.{contents, value}
+use Rattle.ipc_policy.specs.Decides.Registrations.{registered}
+use Rattle.ipc_policy.specs.Decides.Parking.{parked}
+use Rattle.ipc_policy.specs.Decides.Rules.{described}
+use Rattle.ipc_policy.specs.Decides.Verdict.{verdict}
 
 -- what session s holds by description d stays what it is over every accepted event, but the session's close of it, its give
 -- of it, and its hang-up

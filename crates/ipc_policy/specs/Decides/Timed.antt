@@ -3,7 +3,7 @@ use Rattle.std.specs.Prelude.{Bool, ℕ, ◌==◌, max, nat_le, length, [], ◌�
 use Rattle.ipc_terms.specs.Timed.{deadline}
 use Rattle.ipc_terms.specs.declared.record.Event.{Event}
 use Rattle.ipc_terms.specs.declared.record.Event.TheVariants.{Tick}
-use Rattle.ipc_policy.specs.History.{History, is_accepted, newest, is_some_and}
+use Rattle.ipc_policy.specs.Decides.History.{History, is_accepted, newest, is_some_and}
 
 -- a tick tells the time; a moment that is past changes nothing, so the time never goes back
 abbrev pub told : Event → ℕ → ℕ

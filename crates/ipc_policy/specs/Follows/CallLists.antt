@@ -2,10 +2,10 @@
 use Rattle.std.specs.Prelude.{◌≡◌, ◌⊎◌, ℕ, ◌==◌, not, List, [], ◌∷◌, ◌++◌, filter, length, Option, Some, None}
 use Rattle.ipc_terms.specs.Lists.{Each}
 use Rattle.ipc_policy.specs.declared.config.Config.{Config}
-use Rattle.ipc_policy.specs.History.{History}
-use Rattle.ipc_policy.specs.Timed.{deadline_at}
-use Rattle.ipc_policy.specs.Parking.{Parked, parked}
-use Rattle.ipc_policy.specs.Readings.{Rising}
+use Rattle.ipc_policy.specs.Decides.History.{History}
+use Rattle.ipc_policy.specs.Decides.Timed.{deadline_at}
+use Rattle.ipc_policy.specs.Decides.Parking.{Parked, parked}
+use Rattle.ipc_policy.specs.Follows.Readings.{Rising}
 
 -- the item stands in the list
 abbrev pub In : {A : Type 0} → A → List A → Type 0

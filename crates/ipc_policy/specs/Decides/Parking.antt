@@ -8,11 +8,11 @@ use Rattle.ipc_terms.specs.declared.record.Event.{Event}
 use Rattle.ipc_terms.specs.declared.record.Event.TheVariants.{Do}
 use Rattle.ipc_policy.specs.declared.config.Config.{Config}
 use Rattle.ipc_policy.specs.declared.config.Held.{Held}
-use Rattle.ipc_policy.specs.History.{History, unended, is_some_and}
-use Rattle.ipc_policy.specs.Descriptions.{holds}
-use Rattle.ipc_policy.specs.Semaphores.{SemaphoreAct, Posts, Semaphore}
-use Rattle.ipc_policy.specs.Queues.{Act, Sends, Receives, Withdraws, Queue}
-use Rattle.ipc_policy.specs.Bodies.{due, semaphore_act, semaphore, is_zero, act, queue, is_full, is_empty}
+use Rattle.ipc_policy.specs.Decides.History.{History, unended, is_some_and}
+use Rattle.ipc_policy.specs.Decides.Descriptions.{holds}
+use Rattle.ipc_policy.specs.Decides.Semaphores.{SemaphoreAct, Posts, Semaphore}
+use Rattle.ipc_policy.specs.Decides.Queues.{Act, Sends, Receives, Withdraws, Queue}
+use Rattle.ipc_policy.specs.Decides.Bodies.{due, semaphore_act, semaphore, is_zero, act, queue, is_full, is_empty}
 
 -- what a parked call waits for: a send for room in a full queue, a receive for a message in an empty one, a wait for a
 -- post

@@ -8,7 +8,7 @@ use Rattle.ipc_terms.specs.declared.record.Event.TheVariants.{Hello, Do, Hangup}
 use Rattle.ipc_access.specs.declared.class.Cred.{Cred}
 use Rattle.ipc_access.specs.Users.{cred_of}
 use Rattle.ipc_policy.specs.declared.config.Config.{Config}
-use Rattle.ipc_policy.specs.History.{History, newest, unended, how_many}
+use Rattle.ipc_policy.specs.Decides.History.{History, newest, unended, how_many}
 
 abbrev pub is_hello : Event → History → Bool
 is_hello (Hello found) before = true

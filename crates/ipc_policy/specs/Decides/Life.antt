@@ -4,10 +4,10 @@ use Rattle.ipc_terms.specs.Names.{same_family}
 use Rattle.ipc_terms.specs.declared.ids.Family.{Family}
 use Rattle.ipc_terms.specs.declared.binding.Binding.{Binding}
 use Rattle.ipc_policy.specs.declared.config.Held.{Held}
-use Rattle.ipc_policy.specs.History.{History, unended, any_below, gathered_below}
-use Rattle.ipc_policy.specs.Names.{Opening, unlinks, creations}
-use Rattle.ipc_policy.specs.Objects.{creation_of}
-use Rattle.ipc_policy.specs.Descriptions.{opens, held}
+use Rattle.ipc_policy.specs.Decides.History.{History, unended, any_below, gathered_below}
+use Rattle.ipc_policy.specs.Decides.Names.{Opening, unlinks, creations}
+use Rattle.ipc_policy.specs.Decides.Objects.{creation_of}
+use Rattle.ipc_policy.specs.Decides.Descriptions.{opens, held}
 
 -- the open that created object o, until the name that it bound is unlinked
 unfoldable pub named : History → ℕ → Option Opening

@@ -9,11 +9,11 @@ use Rattle.ipc_terms.specs.declared.call.Answer.TheVariants.{Started, Notice, Ta
 use Rattle.ipc_terms.specs.declared.record.Event.{Event}
 use Rattle.ipc_terms.specs.declared.record.Event.TheVariants.{Hello, Do, Hangup, Tick}
 use Rattle.ipc_policy.specs.declared.config.Config.{Config}
-use Rattle.ipc_policy.specs.History.{History}
-use Rattle.ipc_policy.specs.Sessions.{hellos}
-use Rattle.ipc_policy.specs.Bodies.{due}
-use Rattle.ipc_policy.specs.Parking.{Parked, parks}
-use Rattle.ipc_policy.specs.Verdict.{verdict, caller, Legal, answers, tick_answers}
+use Rattle.ipc_policy.specs.Decides.History.{History}
+use Rattle.ipc_policy.specs.Decides.Sessions.{hellos}
+use Rattle.ipc_policy.specs.Decides.Bodies.{due}
+use Rattle.ipc_policy.specs.Decides.Parking.{Parked, parks}
+use Rattle.ipc_policy.specs.Decides.Verdict.{verdict, caller, Legal, answers, tick_answers}
 
 -- the answer is a notice, or tells of a description that another session gave, which nobody calls for
 abbrev pub is_uncalled : Answer → Bool

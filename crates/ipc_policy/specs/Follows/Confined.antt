@@ -14,15 +14,15 @@ use Rattle.ipc_access.specs.declared.class.Cred.{Cred}
 use Rattle.ipc_access.specs.Class.{granted}
 use Rattle.ipc_policy.specs.declared.config.Config.{Config}
 use Rattle.ipc_policy.specs.declared.config.Held.{Held}
-use Rattle.ipc_policy.specs.History.{History, after_accepted, record_at, before_at}
-use Rattle.ipc_policy.specs.Sessions.{cred}
-use Rattle.ipc_policy.specs.Names.{Opening, opening, creating}
-use Rattle.ipc_policy.specs.Objects.{facts}
-use Rattle.ipc_policy.specs.Descriptions.{opens, opened, held_as, holds}
-use Rattle.ipc_policy.specs.Queues.{Send, Waiter}
-use Rattle.ipc_policy.specs.Rules.{bits_wanted, reads_only, writes_only}
-use Rattle.ipc_policy.specs.Verdict.{Legal, verdict, answers}
-use Rattle.ipc_policy.specs.Deliveries.{Delivery, delivery, deliveries}
+use Rattle.ipc_policy.specs.Decides.History.{History, after_accepted, record_at, before_at}
+use Rattle.ipc_policy.specs.Decides.Sessions.{cred}
+use Rattle.ipc_policy.specs.Decides.Names.{Opening, opening, creating}
+use Rattle.ipc_policy.specs.Decides.Objects.{facts}
+use Rattle.ipc_policy.specs.Decides.Descriptions.{opens, opened, held_as, holds}
+use Rattle.ipc_policy.specs.Decides.Queues.{Send, Waiter}
+use Rattle.ipc_policy.specs.Decides.Rules.{bits_wanted, reads_only, writes_only}
+use Rattle.ipc_policy.specs.Decides.Verdict.{Legal, verdict, answers}
+use Rattle.ipc_policy.specs.Follows.Deliveries.{Delivery, delivery, deliveries}
 
 -- the record of the place is of this event, which was accepted
 abbrev pub IsAccepted : History → ℕ → Event → Type 0

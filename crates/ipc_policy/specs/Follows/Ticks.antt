@@ -8,13 +8,13 @@ use Rattle.ipc_terms.specs.declared.call.Call.{Call}
 use Rattle.ipc_terms.specs.declared.record.Event.{Event}
 use Rattle.ipc_terms.specs.declared.record.Event.TheVariants.{Do, Tick}
 use Rattle.ipc_policy.specs.declared.config.Config.{Config}
-use Rattle.ipc_policy.specs.History.{History, after_accepted, is_some_and}
-use Rattle.ipc_policy.specs.Timed.{now, deadline_at, is_past}
-use Rattle.ipc_policy.specs.Sessions.{live}
-use Rattle.ipc_policy.specs.Bodies.{due}
-use Rattle.ipc_policy.specs.Parking.{Parked, parks, parked}
-use Rattle.ipc_policy.specs.Rules.{would_park}
-use Rattle.ipc_policy.specs.Verdict.{Legal, verdict, answers}
+use Rattle.ipc_policy.specs.Decides.History.{History, after_accepted, is_some_and}
+use Rattle.ipc_policy.specs.Decides.Timed.{now, deadline_at, is_past}
+use Rattle.ipc_policy.specs.Decides.Sessions.{live}
+use Rattle.ipc_policy.specs.Decides.Bodies.{due}
+use Rattle.ipc_policy.specs.Decides.Parking.{Parked, parks, parked}
+use Rattle.ipc_policy.specs.Decides.Rules.{would_park}
+use Rattle.ipc_policy.specs.Decides.Verdict.{Legal, verdict, answers}
 
 -- session s is parked in this call, and its deadline is past at a tick of this moment
 pub record IsDue (c : Config) (h : History) (moment s : ℕ) (p : Parked) : Type 0 where

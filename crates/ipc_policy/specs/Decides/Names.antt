@@ -17,7 +17,7 @@ use Rattle.ipc_terms.specs.declared.object.Asked.{Asked}
 use Rattle.ipc_terms.specs.declared.object.Asked.TheVariants.{Queue, Semaphore}
 use Rattle.ipc_terms.specs.declared.record.Event.{Event}
 use Rattle.ipc_terms.specs.declared.record.Event.TheVariants.{Do}
-use Rattle.ipc_policy.specs.History.{History, newest, unended, how_many}
+use Rattle.ipc_policy.specs.Decides.History.{History, newest, unended, how_many}
 
 -- what an open asks for, and what of the object that it may create
 pub record Opening : Type 0 where

@@ -6,13 +6,13 @@ use Rattle.ipc_terms.specs.Objects.{as_semaphore}
 use Rattle.ipc_terms.specs.declared.object.TheConstants.{SEM_VALUE_MAX}
 use Rattle.ipc_terms.specs.declared.record.Event.{Event}
 use Rattle.ipc_policy.specs.declared.config.Config.{Config}
-use Rattle.ipc_policy.specs.History.{History, is_accepted, how_many, is_some_and, first_below}
-use Rattle.ipc_policy.specs.Timed.{now, deadline_at, is_past}
-use Rattle.ipc_policy.specs.Names.{creations}
-use Rattle.ipc_policy.specs.Objects.{object}
-use Rattle.ipc_policy.specs.Descriptions.{holds}
-use Rattle.ipc_policy.specs.Queues.{Send, Waiter, Act, act_by, Queue, empty_queue, has_none, is_filled, queue_after, attributes, maxmsg}
-use Rattle.ipc_policy.specs.Semaphores.{SemaphoreAct, semaphore_act_by, Semaphore, no_semaphore, semaphore_after, with_first, gives_value, given_value, is_post, is_pass}
+use Rattle.ipc_policy.specs.Decides.History.{History, is_accepted, how_many, is_some_and, first_below}
+use Rattle.ipc_policy.specs.Decides.Timed.{now, deadline_at, is_past}
+use Rattle.ipc_policy.specs.Decides.Names.{creations}
+use Rattle.ipc_policy.specs.Decides.Objects.{object}
+use Rattle.ipc_policy.specs.Decides.Descriptions.{holds}
+use Rattle.ipc_policy.specs.Decides.Queues.{Send, Waiter, Act, act_by, Queue, empty_queue, has_none, is_filled, queue_after, attributes, maxmsg}
+use Rattle.ipc_policy.specs.Decides.Semaphores.{SemaphoreAct, semaphore_act_by, Semaphore, no_semaphore, semaphore_after, with_first, gives_value, given_value, is_post, is_pass}
 
 -- whose call of place i is parked on an object that keeps this
 abbrev pub parked_there : ℕ → Queue → Semaphore → Option ℕ

@@ -21,9 +21,9 @@ use Rattle.ipc_terms.specs.declared.record.Event.TheVariants.{Do}
 use Rattle.ipc_access.specs.declared.class.Cred.{Cred}
 use Rattle.ipc_policy.specs.declared.config.Config.{Config}
 use Rattle.ipc_terms.specs.declared.facts.Facts.{Facts}
-use Rattle.ipc_policy.specs.History.{History, newest, is_some_and}
-use Rattle.ipc_policy.specs.Sessions.{cred, mask}
-use Rattle.ipc_policy.specs.Names.{Opening, creation, creations, bound}
+use Rattle.ipc_policy.specs.Decides.History.{History, newest, is_some_and}
+use Rattle.ipc_policy.specs.Decides.Sessions.{cred, mask}
+use Rattle.ipc_policy.specs.Decides.Names.{Opening, creation, creations, bound}
 
 -- the open that creates object o
 abbrev pub creation_of : ℕ → Event → History → Option Opening

@@ -6,10 +6,10 @@ use Rattle.ipc_terms.specs.declared.call.Call.TheVariants.{SemPost, SemWait, Sem
 use Rattle.ipc_terms.specs.declared.record.Event.{Event}
 use Rattle.ipc_terms.specs.declared.record.Event.TheVariants.{Do, Hangup, Tick}
 use Rattle.ipc_policy.specs.declared.config.Held.{Held}
-use Rattle.ipc_policy.specs.History.{History, newest}
-use Rattle.ipc_policy.specs.Objects.{creation_of}
-use Rattle.ipc_policy.specs.Life.{gives_object}
-use Rattle.ipc_policy.specs.Queues.{Waiter, tail, has_none}
+use Rattle.ipc_policy.specs.Decides.History.{History, newest}
+use Rattle.ipc_policy.specs.Decides.Objects.{creation_of}
+use Rattle.ipc_policy.specs.Decides.Life.{gives_object}
+use Rattle.ipc_policy.specs.Decides.Queues.{Waiter, tail, has_none}
 
 -- what an event does to one semaphore
 pub data SemaphoreAct : Type 0 where

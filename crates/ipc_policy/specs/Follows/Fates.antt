@@ -4,14 +4,14 @@ use Rattle.std.specs.List.{list_any}
 use Rattle.ipc_terms.specs.declared.call.Call.TheVariants.{MqReceive}
 use Rattle.ipc_terms.specs.declared.record.Event.TheVariants.{Do}
 use Rattle.ipc_policy.specs.declared.config.Config.{Config}
-use Rattle.ipc_policy.specs.History.{History, how_many, before_at}
-use Rattle.ipc_policy.specs.Descriptions.{holds}
-use Rattle.ipc_policy.specs.Life.{alive, gives_object}
-use Rattle.ipc_policy.specs.Queues.{Send, Waiter, Act, Withdraws, Queue}
-use Rattle.ipc_policy.specs.Bodies.{act, queue, contents, senders}
-use Rattle.ipc_policy.specs.Verdict.{Legal}
-use Rattle.ipc_policy.specs.Deliveries.{receive_that_took, deliveries}
-use Rattle.ipc_policy.specs.Confined.{IsMade, IsSend}
+use Rattle.ipc_policy.specs.Decides.History.{History, how_many, before_at}
+use Rattle.ipc_policy.specs.Decides.Descriptions.{holds}
+use Rattle.ipc_policy.specs.Decides.Life.{alive, gives_object}
+use Rattle.ipc_policy.specs.Decides.Queues.{Send, Waiter, Act, Withdraws, Queue}
+use Rattle.ipc_policy.specs.Decides.Bodies.{act, queue, contents, senders}
+use Rattle.ipc_policy.specs.Decides.Verdict.{Legal}
+use Rattle.ipc_policy.specs.Follows.Deliveries.{receive_that_took, deliveries}
+use Rattle.ipc_policy.specs.Follows.Confined.{IsMade, IsSend}
 
 -- the send of place i is in the list
 abbrev pub has_send : ℕ → List Send → Bool

@@ -6,11 +6,11 @@ use Rattle.ipc_terms.specs.Timed.{plain}
 use Rattle.ipc_terms.specs.declared.record.Event.{Event}
 use Rattle.ipc_terms.specs.declared.record.Event.TheVariants.{Do}
 use Rattle.ipc_policy.specs.declared.config.Config.{Config}
-use Rattle.ipc_policy.specs.History.{History, newest, how_many}
-use Rattle.ipc_policy.specs.Descriptions.{holds}
-use Rattle.ipc_policy.specs.Queues.{Send, Waiter, Act, Sends, Receives, Queue, is_filled, next, maxmsg}
-use Rattle.ipc_policy.specs.Bodies.{act, queue}
-use Rattle.ipc_policy.specs.Rules.{described}
+use Rattle.ipc_policy.specs.Decides.History.{History, newest, how_many}
+use Rattle.ipc_policy.specs.Decides.Descriptions.{holds}
+use Rattle.ipc_policy.specs.Decides.Queues.{Send, Waiter, Act, Sends, Receives, Queue, is_filled, next, maxmsg}
+use Rattle.ipc_policy.specs.Decides.Bodies.{act, queue}
+use Rattle.ipc_policy.specs.Decides.Rules.{described}
 
 -- a message of a queue, and the receive that gets it
 pub record Delivery : Type 0 where

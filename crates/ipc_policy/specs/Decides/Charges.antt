@@ -10,10 +10,10 @@ use Rattle.ipc_terms.specs.declared.record.Event.{Event}
 use Rattle.ipc_terms.specs.declared.record.Event.TheVariants.{Do}
 use Rattle.ipc_access.specs.Users.{cred_of}
 use Rattle.ipc_policy.specs.declared.config.Config.{Config}
-use Rattle.ipc_policy.specs.History.{History, newest, how_many_below, sum_below, is_some_and}
-use Rattle.ipc_policy.specs.Names.{creations}
-use Rattle.ipc_policy.specs.Objects.{object}
-use Rattle.ipc_policy.specs.Life.{alive}
+use Rattle.ipc_policy.specs.Decides.History.{History, newest, how_many_below, sum_below, is_some_and}
+use Rattle.ipc_policy.specs.Decides.Names.{creations}
+use Rattle.ipc_policy.specs.Decides.Objects.{object}
+use Rattle.ipc_policy.specs.Decides.Life.{alive}
 
 -- what a queue of these attributes takes
 unfoldable pub bytes_of : Attributes → ℕ

@@ -7,8 +7,8 @@ use Rattle.ipc_terms.specs.declared.call.Call.TheVariants.{MqClose, MqSetattr, M
 use Rattle.ipc_terms.specs.declared.record.Event.{Event}
 use Rattle.ipc_terms.specs.declared.record.Event.TheVariants.{Do, Hangup}
 use Rattle.ipc_policy.specs.declared.config.Held.{Held}
-use Rattle.ipc_policy.specs.History.{History, newest, unended_from, how_many, how_many_below}
-use Rattle.ipc_policy.specs.Names.{Opening, opening, nonblock_asked, bound, creations}
+use Rattle.ipc_policy.specs.Decides.History.{History, newest, unended_from, how_many, how_many_below}
+use Rattle.ipc_policy.specs.Decides.Names.{Opening, opening, nonblock_asked, bound, creations}
 
 -- how many opens were accepted
 unfoldable pub opens : History → ℕ

@@ -7,11 +7,11 @@ use Rattle.ipc_terms.specs.declared.record.Event.TheVariants.{Do}
 use Rattle.ipc_policy.specs.declared.config.Config.{Config}
 use Rattle.ipc_policy.specs.declared.config.Held.{Held}
 use Rattle.ipc_policy.specs.declared.config.Registration.{Registration}
-use Rattle.ipc_policy.specs.History.{History, unended}
-use Rattle.ipc_policy.specs.Descriptions.{holds, lets_go}
-use Rattle.ipc_policy.specs.Life.{gives_object}
-use Rattle.ipc_policy.specs.Queues.{Act, Sends, Queue, has_none}
-use Rattle.ipc_policy.specs.Bodies.{act, queue}
+use Rattle.ipc_policy.specs.Decides.History.{History, unended}
+use Rattle.ipc_policy.specs.Decides.Descriptions.{holds, lets_go}
+use Rattle.ipc_policy.specs.Decides.Life.{gives_object}
+use Rattle.ipc_policy.specs.Decides.Queues.{Act, Sends, Queue, has_none}
+use Rattle.ipc_policy.specs.Decides.Bodies.{act, queue}
 
 -- a notify on by a description that gives queue o registers it, by what each session holds
 abbrev pub registers : (ℕ → ℕ → Option Held) → ℕ → Event → Option Registration

@@ -11,9 +11,9 @@ use Rattle.ipc_terms.specs.declared.record.Event.{Event}
 use Rattle.ipc_terms.specs.declared.record.Event.TheVariants.{Do, Hangup, Tick}
 use Rattle.ipc_policy.specs.declared.config.Config.{Config}
 use Rattle.ipc_policy.specs.declared.config.Held.{Held}
-use Rattle.ipc_policy.specs.History.{History}
-use Rattle.ipc_policy.specs.Objects.{object}
-use Rattle.ipc_policy.specs.Life.{gives_object}
+use Rattle.ipc_policy.specs.Decides.History.{History}
+use Rattle.ipc_policy.specs.Decides.Objects.{object}
+use Rattle.ipc_policy.specs.Decides.Life.{gives_object}
 
 -- a message that was sent: the place of its send, who sent it by which description, and what
 pub record Send : Type 0 where

@@ -8,12 +8,12 @@ use Rattle.ipc_terms.specs.declared.call.Attributes.{Attributes}
 use Rattle.ipc_terms.specs.declared.record.Event.{Event}
 use Rattle.ipc_policy.specs.declared.config.Config.{Config}
 use Rattle.ipc_policy.specs.declared.config.TheConstants.{HARD_MSGSIZE_MAX}
-use Rattle.ipc_policy.specs.History.{History}
-use Rattle.ipc_policy.specs.Names.{is_bound}
-use Rattle.ipc_policy.specs.Queues.{Queue, attributes}
-use Rattle.ipc_policy.specs.Bodies.{queue}
-use Rattle.ipc_policy.specs.Deliveries.{Delivery, delivery}
-use Rattle.ipc_policy.specs.Verdict.{Legal, verdict, answers, outbox}
+use Rattle.ipc_policy.specs.Decides.History.{History}
+use Rattle.ipc_policy.specs.Decides.Names.{is_bound}
+use Rattle.ipc_policy.specs.Decides.Queues.{Queue, attributes}
+use Rattle.ipc_policy.specs.Decides.Bodies.{queue}
+use Rattle.ipc_policy.specs.Follows.Deliveries.{Delivery, delivery}
+use Rattle.ipc_policy.specs.Decides.Verdict.{Legal, verdict, answers, outbox}
 
 -- in a legal history a bound name has at most the bytes that its family allows
 abbrev pub EachNameIsShort : Type 0
