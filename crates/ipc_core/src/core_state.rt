@@ -248,10 +248,10 @@ impl Core {
         Ok(given)
     }
 
-    /// The same, and what is answered to sessions that are live stands in their untaken answers alone:
-    /// the result says who was answered, and whether the event was refused. A refusal of an event that
-    /// no live session made stands nowhere. An `Err` changes nothing, records nothing, and drops the
-    /// event.
+    /// Steps the event as `step` does, and makes no second copy of the answers: those to live sessions
+    /// stand in their untaken answers alone. The result says who was answered, and whether the event was
+    /// refused. A refusal of an event that no live session made stands nowhere. An `Err` changes nothing,
+    /// records nothing, and drops the event.
     pub fn post(&mut self, alloc: Global, event: Event) -> Result<Posted, NoMemory>
         ensures verdict { IfOk result (λ posted. posted.verdict ≡ verdict self.old.config self.old.history event) }
         ensures caller { IfOk result (λ posted. posted.caller ≡ session_at 0 (answers self.old.config self.old.history event)) }

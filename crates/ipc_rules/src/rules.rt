@@ -74,7 +74,7 @@ fn of_messages(lookup: &Lookup<'_>) -> Option<Rule>
     )
 }
 
-/// The same of a post or a wait.
+/// Which of the rules that speak of a post or a wait is the first that forbids it.
 #[tactic(auto, unfolding(ipc_policy::specs::Decides::Rules::forbids))]
 fn of_values(lookup: &Lookup<'_>) -> Option<Rule>
     ensures { result ≡ first_of of_values lookup.now.config lookup.now.history lookup.now.event }
@@ -89,7 +89,8 @@ fn of_values(lookup: &Lookup<'_>) -> Option<Rule>
     )
 }
 
-/// The same of a call that asks or sets something of a description alone, or of its session.
+/// Which of the rules that speak of a call that asks or sets something of a description alone, or of its session, is the first
+/// that forbids it.
 #[tactic(auto, unfolding(ipc_policy::specs::Decides::Rules::forbids))]
 fn of_descriptions(lookup: &Lookup<'_>) -> Option<Rule>
     ensures { result ≡ first_of of_descriptions lookup.now.config lookup.now.history lookup.now.event }

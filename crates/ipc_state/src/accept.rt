@@ -93,7 +93,7 @@ pub fn accept(
     }
 }
 
-/// Does the same for a send, with a deadline or without.
+/// Brings the tables up to date with a send that is accepted, with a deadline or without.
 fn accept_send(
     tables: &mut Tables,
     config: &Config,
@@ -117,7 +117,7 @@ fn accept_send(
     Ok(())
 }
 
-/// Does the same for a receive, with a deadline or without.
+/// The same with a receive.
 fn accept_receive(
     tables: &mut Tables,
     config: &Config,
@@ -137,7 +137,7 @@ fn accept_receive(
     Ok(())
 }
 
-/// Does the same for a wait, with a deadline or without.
+/// The same with a wait for a semaphore.
 fn accept_wait(
     tables: &mut Tables,
     config: &Config,
@@ -157,7 +157,7 @@ fn accept_wait(
     Ok(())
 }
 
-/// Does the same for the calls that never take memory.
+/// The same with a call that never takes memory.
 fn accept_in_place(
     tables: &mut Tables,
     config: &Config,

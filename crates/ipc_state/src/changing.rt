@@ -8,7 +8,7 @@ ghost use Rattle.ipc_state.specs.Agrees.{Agrees, IsCore};
 ghost use Rattle.ipc_state.specs.Meetings.{by_name, object_bound};
 ghost use Rattle.ipc_state.specs.Changes.{changing, bits_of, changed_by};
 
-use crate::looking::facts_in;
+use crate::rows::facts_in;
 use ipc_policy::Config;
 use ipc_tables::{Owned, Tables};
 use ipc_terms::{Call, Facts, Mode, Sid, Target};

@@ -6,9 +6,9 @@ mod accept;
 mod changing;
 mod clock;
 mod limits;
-mod looking;
 mod lookup;
 mod questions;
+mod rows;
 mod states;
 
 pub use limits::{Field, first_bad};

@@ -19,7 +19,7 @@ ghost use Rattle.ipc_state.specs.OnTime.{ended_call};
 ghost use Rattle.ipc_state.specs.Meetings.{description, by_description, by_name, object_by, object_bound, queue_held, semaphore_held, facts_asked};
 
 use crate::clock::{Clock, deadline_in, due_at};
-use crate::looking::{
+use crate::rows::{
     facts_in, given_by, has_registration, has_value, held_in, is_empty_queue, is_full_queue,
     is_live_in, is_nonblock_in, is_parked_in, number_in, number_meant, object_at, object_in,
     queue_in, receiver_in, row_meant, semaphore_in, sender_in, user_in, waiter_in,
@@ -285,28 +285,28 @@ impl<'a> Lookup<'a> {
         semaphore_in(self.given)
     }
 
-    /// Whether that queue has as many messages as it may.
+    /// Whether the description's queue has as many messages as it may.
     pub fn is_full(&self) -> bool
         ensures { result ≡ is_some_and (λ x. is_full self.now.config self.now.history x.object) (by_description (holds self.now.history) self.now.event) }
     {
         is_full_queue(self.queue())
     }
 
-    /// Whether that queue has no messages.
+    /// Whether the description's queue has no messages.
     pub fn is_empty(&self) -> bool
         ensures { result ≡ is_some_and (λ x. is_empty self.now.config self.now.history x.object) (by_description (holds self.now.history) self.now.event) }
     {
         is_empty_queue(self.queue())
     }
 
-    /// Whether one is registered for the notice of that queue.
+    /// Whether one is registered for the notice of the description's queue.
     pub fn is_registered(&self) -> bool
         ensures { result ≡ is_some_and (λ x. is_some (registered self.now.config self.now.history x.object)) (by_description (holds self.now.history) self.now.event) }
     {
         has_registration(queue_in(self.given))
     }
 
-    /// Which session, by which description, is registered for the notice of that queue.
+    /// Which session, by which description, is registered for the notice of the queue that the event's description gives.
     pub fn registration(&self) -> Option<Registration>
         ensures { result ≡ option_and_then (λ x. registered self.now.config self.now.history x.object) (by_description (holds self.now.history) self.now.event) }
     {
@@ -315,14 +315,14 @@ impl<'a> Lookup<'a> {
         Some(Registration { session, desc })
     }
 
-    /// Whether the value of that semaphore is 0.
+    /// Whether the value of the description's semaphore is 0.
     pub fn is_zero(&self) -> bool
         ensures { result ≡ is_some_and (λ x. is_zero self.now.config self.now.history x.object) (by_description (holds self.now.history) self.now.event) }
     {
         has_value(semaphore_in(self.given), 0)
     }
 
-    /// Whether the value of that semaphore is the greatest.
+    /// Whether the value of the description's semaphore is the greatest.
     pub fn is_greatest(&self) -> bool
         ensures { result ≡ is_some_and (λ x. is_greatest self.now.config self.now.history x.object) (by_description (holds self.now.history) self.now.event) }
     {

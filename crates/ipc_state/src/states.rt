@@ -16,8 +16,8 @@ ghost use Rattle.ipc_state.specs.OnTime.{ended_call, IsOnTime, IsState};
 
 use crate::accept::accept;
 use crate::clock::{Clock, due_at, leave, push, session_in, tell, timed_call};
-use crate::looking::is_live_in;
 use crate::lookup::Meant;
+use crate::rows::is_live_in;
 use ipc_containers::TimedCalls;
 use ipc_policy::Config;
 use ipc_tables::Tables;

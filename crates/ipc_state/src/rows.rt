@@ -1,4 +1,4 @@
-//! What is looked up in the tables.
+//! What rows of the tables say.
 
 ghost use Rattle.std.specs.Prelude.{◌≡◌, ◌==◌, length, is_some, option_and_then};
 ghost use Rattle.std.specs.Option.{option_map, option_copied};
