@@ -591,9 +591,9 @@ fn would_block(lookup: &Lookup<'_>) -> bool
         return false;
     };
     match call {
-        Call::MqSend { .. } | Call::MqTimedSend { .. } => lookup.is_full() && lookup.is_nonblock(),
+        Call::MqSend { .. } | Call::MqTimedSend { .. } => lookup.is_nonblock() && lookup.is_full(),
         Call::MqReceive { .. } | Call::MqTimedReceive { .. } => {
-            lookup.is_empty() && lookup.is_nonblock()
+            lookup.is_nonblock() && lookup.is_empty()
         }
         Call::SemTryWait(_) => lookup.is_zero(),
         _ => false,
