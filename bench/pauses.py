@@ -3,7 +3,8 @@
 
 `bench/pauses.py [--calls N]` starts the built server at a Unix socket with `--keep-all`, and then with `--keep-records 1000`, of
 which each call forgets one. One session sends and receives messages of 64 bytes and of 64 KiB, a call at a time. Prints the
-microseconds of a call from its client: the median, of one in a thousand, and the longest.
+microseconds of a call from its client, and those for which the server itself ran (`/proc/PID/schedstat`), without those in which it waited for a
+processor: the median, of one in a thousand, and the most.
 """
 
 import argparse
@@ -20,21 +21,28 @@ SIZES = (64, 65_536)
 SETTINGS = (["--keep-all"], ["--keep-records", "1000"])
 
 
-def timed(client, request, opcode):
-    """The nanoseconds of a call."""
+def ran(server):
+    """The nanoseconds for which the server ran so far."""
+    return int(server.read_bytes().split()[0])
+
+
+def timed(client, server, request, opcode):
+    """The nanoseconds of a call, and for how many of them the server ran."""
+    before = ran(server)
     start = time.perf_counter_ns()
     client.call(request, opcode)
-    return time.perf_counter_ns() - start
+    return time.perf_counter_ns() - start, ran(server) - before
 
 
-def times(path, size, calls):
-    """The nanoseconds of so many calls, the least first."""
+def times(path, server, size, calls):
+    """The nanoseconds of so many calls and of the server in each, the least first."""
     client = Client(path)
     client.call(frame(MQ_OPEN, text(b"/q") + struct.pack(">BBHBII", BOTH, CREATE, 0o600, 1, 8, size)), OPENED)
     send = frame(MQ_SEND, struct.pack(">QI", 0, 1) + bytes(size))
     receive = frame(MQ_RECEIVE, struct.pack(">QI", 0, size))
-    pairs = ((timed(client, send, SENT), timed(client, receive, RECEIVED)) for _ in range(calls // 2))
-    return sorted(one for pair in pairs for one in pair)
+    kinds = ((send, SENT), (receive, RECEIVED))
+    found = [timed(client, server, *kind) for _ in range(calls // 2) for kind in kinds]
+    return [sorted(side) for side in zip(*found)]
 
 
 def measured(words, size, calls):
@@ -45,7 +53,7 @@ def measured(words, size, calls):
         with subprocess.Popen(command, stdout=subprocess.PIPE) as server:
             try:
                 server.stdout.readline()
-                return times(path, size, calls)
+                return times(path, pathlib.Path(f"/proc/{server.pid}/schedstat"), size, calls)
             finally:
                 server.kill()
 
@@ -54,11 +62,12 @@ def main():
     parser = argparse.ArgumentParser(description=__doc__)
     parser.add_argument("--calls", type=int, default=200_000)
     given = parser.parse_args()
-    print("| records | message | median | one in a thousand | longest |\n|---|--:|--:|--:|--:|")
+    print("| records | message | a call: median | one in a thousand | the longest | the server: median | one in a thousand | the most |")
+    print("|---|--:|--:|--:|--:|--:|--:|--:|")
     for size in SIZES:
         for words in SETTINGS:
-            found = [one / 1000 for one in measured(words, size, given.calls)]
-            shown = (found[len(found) // 2], found[-(len(found) // 1000) - 1], found[-1])
+            sides = measured(words, size, given.calls)
+            shown = [side[place] / 1000 for side in sides for place in (len(side) // 2, -(len(side) // 1000) - 1, -1)]
             print(f"| `{' '.join(words)}` | {size:,} | {' | '.join(f'{one:,.1f}' for one in shown)} |", flush=True)
 
 
