@@ -157,7 +157,7 @@ int mqs_chown(struct mqs *c, int family, const char *name, int64_t owner, int64_
 
 /* One page of at most 1,000 names, in the order of creation, from position `start`. Returns how many there were; 0 is the end.
  * `each` gets each name (no zero byte behind it) until it answers other than 0. It must make no call on this connection.
- * Errors: EINVAL (family), rules 11 and 12. */
+ * Errors: EINVAL (family), rule 12. */
 int mqs_list(struct mqs *c, int family, uint32_t start, int (*each)(const char *name, size_t size, void *arg), void *arg);
 
 /* The bytes that a user's queues may take. Rules 6, 7, 21. */

@@ -420,8 +420,8 @@ def arguments(words: Optional[Sequence[str]]) -> argparse.Namespace:
         "most how many or a semaphore's value, and by how much that changes a second; - is what the user may not see. q or Ctrl-C ends it.")
     top.add_argument("address", nargs="?", help="HOST:PORT or unix:PATH; by default that of MQSERVE")
     top.add_argument("--key-file", metavar="FILE", help="its first line is the key")
-    top.add_argument("--interval", metavar="SECONDS", type=seconds, default=2.0, help="from look to look; 2 by default. The server keeps "
-                     "some two records for each object and look until it ends")
+    top.add_argument("--interval", metavar="SECONDS", type=seconds, default=2.0, help="from look to look; 2 by default. The server records "
+                     "some two calls for each object and look")
     top.add_argument("--once", action="store_true", help="prints the table once")
     top.add_argument("--sort", choices=_SORTS, default="created", help="greatest length or change first; by default the oldest object")
     return parser.parse_args(words)
