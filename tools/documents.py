@@ -194,6 +194,14 @@ def enumerated(enum):
     return found
 
 
+def opcodes_in_python(first):
+    """The opcodes that the module in Python names, from `first` to 63 further on, by their names in lower case."""
+    [lines] = re.findall(r"(?s)# Requests and answers.*?\n(.*?)_SIZES", text("clients/python/mqserve.py"))
+    named = {}
+    exec(lines, {"range": range}, named)     # lines of names and numbers alone
+    return {name.replace("_", "").lower(): number for name, number in named.items() if first <= number < first + 64}
+
+
 def compare_clients(it):
     """The rules and opcodes that the libraries in C and Python have."""
     number, error, name = variants("Rule", "crates/ipc_terms/src/rule.rt"), arms("errno"), arms("name")
@@ -205,6 +213,8 @@ def compare_clients(it):
         code = {word.lower(): value for word, value in variants(op, "crates/ipc_terms/src/op.rt").items()}
         for word, value in enumerated(enum).items():
             it.same(f"opcode {word} of clients/c/connection.h", value, 1 if word == "hello" else code.get(word))
+        for word, value in opcodes_in_python(1 if op == "CallOp" else 65).items():
+            it.same(f"opcode {word} of clients/python/mqserve.py", value, 1 if word == "hello" else code.get("names" if word == "page" else word))
 
 
 def ordered(arguments):
