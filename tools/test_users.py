@@ -164,6 +164,12 @@ class Written(unittest.TestCase):
             self.assertIn(b"File exists", done.stderr)
         self.assertEqual((self.path.read_text(), link.exists()), ("theirs\n", False))
 
+    def test_file_without_a_name(self):
+        """As of a variable that isn't set: the keys don't go elsewhere."""
+        done = run("--output", "", "root")
+        self.assertEqual((done.returncode, done.stdout), (1, b""))
+        self.assertIn(b"No such file", done.stderr)
+
     def test_nothing_is_made_where_one_is_refused(self):
         done = run("--output", str(self.path), "root", "no-such-user-here")
         self.assertEqual((done.returncode, done.stdout), (1, b""))
