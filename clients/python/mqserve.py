@@ -10,10 +10,11 @@
 Python 3.8 or later, the standard library alone. Threads may share everything: a call that blocks has a connection of its own for
 as long as it blocks. A child of fork connects anew, and opens by name what it uses.
 
-Other than in posix_ipc: there is no shared memory. SignalError is never raised: a signal's handler runs while a call blocks, and if it
-raises, the call is withdrawn first. `mqd` is the server's number, and no file: select doesn't know it. An exception's `rule` is the
-number of the server's rule that refused the call, or 0; it is 0 after a timeout. ConnectionLost is raised where the connection ends; what
-was open stays lost.
+Other than in posix_ipc: there is no shared memory. SignalError is never raised: a signal's handler runs while a call blocks, may make
+calls of its own, and if it raises, the call is withdrawn first. Where it raises in the moment in which a call is answered at once, that
+call's connection is lost. `mqd` is the server's number, and no file: select doesn't know it. An exception's `rule` is the number of the
+server's rule that refused the call, or 0; it is 0 after a timeout. ConnectionLost is raised where the connection ends; what was open
+stays lost.
 
 A timeout is measured by time.monotonic(). Where the server shares this machine's clock it gets the moment along with the call and ends it:
 a poll that finds nothing is one request then. No call ends before its timeout. See `use`.
@@ -204,6 +205,7 @@ class _Connection:
         self.notices: List[int] = []
         self.stale = 0          # 2: a late refusal of an interrupt stands behind the next answer; 1: it comes next
         self.lost = False
+        self.amid = False       # a call is being answered at once: a signal's handler that asks here would take its answer
         self.room = 0           # the bytes of a message that may come
         self.opened: "weakref.WeakKeyDictionary[_Thing, int]" = weakref.WeakKeyDictionary()
         self.bound = seconds
@@ -231,16 +233,25 @@ class _Connection:
         error.__cause__ = cause
         return error
 
-    def write(self, opcode: int, fields: bytes = b"") -> None:
+    def frame(self, opcode: int, fields: bytes) -> bytes:
         if self.lost:
             raise ConnectionLost("the connection was lost")
         if len(fields) >= _BODY_MAX:
             raise ValueError("the message is too long")
+        return struct.pack(">IB", len(fields) + 1, opcode) + fields
+
+    def write(self, opcode: int, fields: bytes = b"") -> None:
+        self.write_frame(self.frame(opcode, fields))
+
+    def write_frame(self, frame: bytes) -> None:
         try:
             self.socket.settimeout(self.bound)
-            self.socket.sendall(struct.pack(">IB", len(fields) + 1, opcode) + fields)
+            self.socket.sendall(frame)
         except OSError as error:
             raise self.lose(str(error)) from error
+        except BaseException:   # a signal's handler raised, and a part of the frame may have left
+            self.close()
+            raise
 
     def read_some(self, end: Optional[float]) -> bool:
         """Reads what comes until a moment of time.monotonic(). False if nothing came."""
@@ -317,7 +328,10 @@ class _Connection:
 
     def take(self, wanted: int) -> bytes:
         """The fields of the answer in front; a refusal is raised."""
-        opcode, fields = self.pop()
+        return self.fields_of(self.pop(), wanted)
+
+    def fields_of(self, answer: Tuple[int, bytes], wanted: int) -> bytes:
+        opcode, fields = answer
         if opcode == _REFUSED:
             rule = int.from_bytes(fields, "big")
             if not 1 <= rule <= len(_NAMES):
@@ -329,9 +343,27 @@ class _Connection:
 
     def ask(self, opcode: int, fields: bytes, wanted: int) -> bytes:
         """A call that is answered at once."""
-        self.write(opcode, fields)
-        self.await_answer()
-        return self.take(wanted)
+        if self.amid:
+            raise BusyError("a signal's handler came amid a call of another one")
+        frame, answer = self.frame(opcode, fields), None
+        try:
+            self.amid = True
+            self.write_frame(frame)
+            self.await_answer()
+            answer = self.pop()
+        finally:
+            self.amid = False
+            if answer is None:      # a signal's handler raised: what comes later would be taken for another call's answer
+                self.close()
+        return self.fields_of(answer, wanted)
+
+    def put_aside(self) -> None:
+        """Puts aside the notices that came behind an answer."""
+        try:
+            self.amid = True
+            self.has_answer()
+        finally:
+            self.amid = False
 
     def ask_until(self, call: _Call, description: bytes, until: Optional[float]) -> Optional[bytes]:
         """A call that may block, until a moment of time.monotonic(), or None. None if the moment came first."""
@@ -386,14 +418,17 @@ class _Connection:
 
 
 class _Server:
-    """The connections of this process: home for what doesn't block, and sides for what does."""
+    """The connections of this process: home for what doesn't block, one aside for a signal's handler that comes amid a call there, and
+    sides for what blocks."""
 
     def __init__(self, address: str, key: Optional[str], spares: int, shared_clock: Optional[bool]) -> None:
         self.address, self.key, self.spares, self.shared_clock = address, key, spares, shared_clock
         self.lock = threading.RLock()
         self.home: Optional[_Connection] = None
+        self.aside: Optional[_Connection] = None
         self.sides: List[_Connection] = []
         self.busy: Set[_Connection] = set()
+        self.leaving: List[Tuple[_Connection, _Thing]] = []     # what was closed, but there not yet
         self.watched: Dict[int, Union[int, Callable[[], None]]] = {}
         self.listener: Optional[threading.Thread] = None
         self.things: "weakref.WeakSet[_Thing]" = weakref.WeakSet()
@@ -401,7 +436,7 @@ class _Server:
 
     def forget(self) -> None:
         """In a child of fork: the connections are the parent's, and its threads aren't here."""
-        for c in ([self.home] if self.home else []) + self.sides:
+        for c in self.homes() + self.sides:
             c.close()
         things = self.things
         self.__init__(self.address, self.key, self.spares, self.shared_clock)  # type: ignore[misc]
@@ -410,14 +445,23 @@ class _Server:
     def connect(self, seconds: float) -> _Connection:
         return _Connection(self.address, self.key, seconds, self.shared_clock)
 
+    def homes(self) -> List[_Connection]:
+        return [c for c in (self.home, self.aside) if c is not None]
+
     def at_home(self) -> _Connection:
+        """Where to ask what doesn't block."""
         if self.home is not None and self.home.lost:
-            for thing in self.home.opened:
+            for thing, description in self.home.opened.items():
                 thing.lost = True
-            self.home, self.watched = None, {}
+                self.watched.pop(description, None)
+            self.home = None
         if self.home is None:
             self.home = self.connect(_HELLO_S)
-        return self.home
+        if not self.home.amid:
+            return self.home
+        if self.aside is None or self.aside.lost:
+            self.aside = self.connect(_HELLO_S)
+        return self.aside
 
     def widen(self) -> Optional[_Connection]:
         """A new side, unless there are too many or the server had no worker a moment ago."""
@@ -465,6 +509,7 @@ class _Server:
                 return home.ask(opcode, thing.open_on(home) + fields, answer)
             finally:
                 self.tell(home)
+                self.leave()
 
     def attempt(self, thing: "_Thing", call: _Call) -> Optional[bytes]:
         """Asks home. None where the call would block."""
@@ -508,6 +553,7 @@ class _Server:
         finally:
             with self.lock:
                 self.busy.discard(side)
+                self.leave()
 
     def ask_again(self, thing: "_Thing", call: _Call, until: Optional[float]) -> Optional[bytes]:
         """Where no side can be had: asks home more and more slowly."""
@@ -521,7 +567,10 @@ class _Server:
     def tell(self, home: _Connection) -> None:
         """Does what was asked for on notices that came."""
         if not home.lost:
-            home.has_answer()
+            home.put_aside()
+        self.act(home)
+
+    def act(self, home: _Connection) -> None:
         while home.notices:
             action = self.watched.pop(home.notices.pop(0), None)
             if callable(action):
@@ -533,19 +582,20 @@ class _Server:
         """Waits for notices that come between calls, until home is lost."""
         while True:
             with self.lock:
-                home = self.home
-                if home is None or home.lost:
+                homes = [c for c in self.homes() if not c.lost]
+                if not homes:
                     self.listener = None
                     return
                 try:
-                    while home.read_some(0.0):
-                        pass
-                    self.tell(home)
+                    for home in homes:
+                        while home.read_some(0.0):
+                            pass
+                        self.tell(home)
                 except ConnectionLost:
                     continue
-                source = home.socket
+                sources = [home.socket for home in homes]
             try:
-                select.select([source], [], [], 0.5)
+                select.select(sources, [], [], 0.5)
             except (OSError, ValueError):
                 pass   # closed meanwhile
 
@@ -555,12 +605,24 @@ class _Server:
             self.listener = threading.Thread(target=self.listen, daemon=True)
             self.listener.start()
 
-    def close(self, thing: "_Thing", opcode: int) -> None:
+    def close(self, thing: "_Thing") -> None:
         with self.lock:
-            for c in ([self.home] if self.home else []) + self.free_sides():
-                if thing in c.opened and not c.lost:
-                    c.ask(opcode, struct.pack(">Q", c.opened.pop(thing)), _DONE)
+            self.leaving += [(c, thing) for c in self.homes() + self.sides if thing in c.opened]
             self.things.discard(thing)
+            thing.closed = True
+            self.leave()
+
+    def leave(self) -> None:
+        """Closes what was closed, but where a call goes on: there it is closed behind that."""
+        for entry in self.leaving[:]:
+            c, thing = entry
+            if not c.amid and c not in self.busy:
+                self.leaving.remove(entry)
+                if not c.lost:
+                    description = c.opened.pop(thing)
+                    c.ask(thing._CLOSE, struct.pack(">Q", description), _DONE)
+                    self.act(c)
+                    self.watched.pop(description, None)
 
     def unlink(self, family: Type["_Thing"], name: str) -> None:
         with self.lock:
@@ -639,12 +701,12 @@ class _Thing:
             raise ExistentialError("it is closed")
         if self.lost:
             raise ConnectionLost("it was open on a connection that was lost")
-        if c not in (self.server.home, *self.server.sides):
+        if c not in self.server.homes() + self.server.sides:
             raise ConnectionLost("the connection was lost")
         if self not in c.opened:
             if self.gone:
                 raise ExistentialError("its name was unlinked, and this connection doesn't have it open")
-            opcode, fields = self._opening(flags | (_NONBLOCK if c is self.server.home else 0), mode)
+            opcode, fields = self._opening(flags | (0 if c in self.server.sides else _NONBLOCK), mode)
             c.opened[self] = struct.unpack(">Q", c.ask(opcode, fields, _OPENED))[0]
         return struct.pack(">Q", c.opened[self])
 
@@ -657,8 +719,7 @@ class _Thing:
         """Closes it in this process."""
         if self.closed:
             raise ExistentialError("it is closed")
-        self.server.close(self, self._CLOSE)
-        self.closed = True
+        self.server.close(self)
 
     def unlink(self) -> None:
         """Removes the name. What is open stays usable."""
@@ -766,17 +827,35 @@ class MessageQueue(_Thing):
     def request_notification(self, notification: Union[None, int, Tuple[Callable[[Any], Any], Any]] = None) -> None:
         """Asks for one notice of a message that comes to the empty queue: a signal's number, or a function, which a thread of its own
         calls, and its argument. None takes that back."""
-        server = self.server
-        with server.lock:
-            server.ask(self, _MQ_NOTIFY, struct.pack(">B", notification is not None), _DONE)
-            description = server.at_home().opened[self]
-            if notification is None:
-                server.watched.pop(description, None)
-            elif isinstance(notification, int):
-                server.watch(description, int(notification))
-            else:
-                function, argument = notification
-                server.watch(description, lambda: function(argument))
+        if notification is None:
+            self._unregister()
+        elif isinstance(notification, int):
+            self._register(int(notification))
+        else:
+            function, argument = notification
+            self._register(lambda: function(argument))
+
+    def _register(self, action: Union[int, Callable[[], None]]) -> None:
+        with self.server.lock:
+            home = self.server.at_home()
+            self._ask_for_notice(home, b"\1")
+            self.server.watch(home.opened[self], action)
+            self.server.tell(home)
+
+    def _unregister(self) -> None:
+        with self.server.lock:
+            self.open_on(self.server.at_home())
+            for home in self.server.homes():
+                if self in home.opened and not home.lost:
+                    self._ask_for_notice(home, b"\0")
+                    self.server.watched.pop(home.opened[self], None)
+
+    def _ask_for_notice(self, home: _Connection, wanted: bytes) -> None:
+        fields = self.open_on(home) + wanted
+        try:
+            home.ask(_MQ_NOTIFY, fields, _DONE)
+        finally:
+            self.server.act(home)   # on a notice that came before the answer; behind it may stand the one that is asked for
 
 
 def unlink_message_queue(name: str) -> None:

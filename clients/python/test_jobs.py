@@ -309,12 +309,12 @@ class Calls(Pooled):
     def test_handler_that_raises_amid_calls(self):
         """A request whose answer nobody read ends the session, so no later call takes that answer for its own."""
         name = self.jobs.put("one")
-        session, take = self.jobs._session, self.jobs._session.take
+        session, fields_of = self.jobs._session, self.jobs._session.fields_of
 
-        def interrupted(wanted):
-            session.take = take
+        def interrupted(*_):
+            session.fields_of = fields_of
             raise KeyboardInterrupt
-        session.take = interrupted
+        session.fields_of = interrupted
         self.assertRaises(KeyboardInterrupt, self.jobs.take, 0)
         self.assertTrue(session.lost)
         self.assertEqual(self.jobs.take(5).name, name)

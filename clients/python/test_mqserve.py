@@ -260,8 +260,8 @@ class Queues(Thing):
         self.assertEqual(ipc.O_CREX, os.O_CREAT | os.O_EXCL)
 
 
-class Moments(Thing):
-    """What calls with a timeout ask of the server, as a relay in between sees it, and that none ends before its timeout."""
+class Relayed(Thing):
+    """Beside a relay, which sees what is asked of the server."""
 
     def begin(self, shared_clock=None, **how):
         relay, before = Relay(os.environ["MQSERVE"], **how), ipc._server
@@ -276,6 +276,76 @@ class Moments(Thing):
         ipc._server.forget()
         ipc._server = before
         relay.close()
+
+
+class Handlers(Relayed):
+    """What becomes of a call that is answered at once, and of its connection, where a signal's handler comes amid it."""
+
+    def setUp(self):
+        self.begin()
+        self.relay.requests.clear()
+
+    def amid(self, call, handler, *words):
+        """Makes the call, and runs the handler in it."""
+        signal.signal(signal.SIGALRM, lambda *_: handler())
+        self.relay.late = 0.2
+        signal.setitimer(signal.ITIMER_REAL, 0.1)
+        try:
+            return call(*words)
+        finally:
+            self.relay.late = 0.0
+
+    def test_raises(self):
+        def stop():
+            raise TimeoutError
+        self.assertRaises(TimeoutError, self.amid, self.sem.release, stop)
+        for _ in range(2):
+            self.assertRaises(ipc.ConnectionLost, self.sem.acquire, 0)
+        again = self.keep(ipc.Semaphore(self.sem.name))
+        self.assertEqual(again.value, 1)
+
+    def test_asks(self):
+        """Each gets its own answer."""
+        self.assertRaises(ipc.BusyError, self.amid, self.sem.acquire, self.sem.release, 0)
+        self.assertEqual(self.sem.value, 1)
+        self.q.send("one")
+        got = []
+        self.assertEqual(self.amid(self.q.receive, lambda: got.append(self.sem.value), 0), (b"one", 0))
+        self.assertEqual(got, [1])
+        self.assertEqual(self.relay.requests.count(1), 1)   # one more connection serves all handlers
+
+    def test_asks_for_notices(self):
+        came = threading.Event()
+        self.amid(self.sem.release, lambda: self.q.request_notification((lambda event: event.set(), came)))
+        self.assertEqual(in_child(lambda: self.q.send("one")), 0)
+        self.assertTrue(came.wait(5))
+        self.q.receive(0)
+        self.amid(self.sem.release, lambda: self.q.request_notification(int(signal.SIGUSR1)))
+        self.q.request_notification()
+        self.q.request_notification(int(signal.SIGUSR1))    # the first one is gone: of two the second is refused
+
+    def test_closes(self):
+        other = ipc.Semaphore(None, ipc.O_CREX)
+        other.unlink()
+        self.relay.requests.clear()
+        self.amid(self.sem.release, other.close)
+        self.assertEqual(self.relay.requests.count(12), 2)  # at home and on the spare side
+        self.assertRaises(ipc.ExistentialError, other.release)
+
+    def test_within_a_handler(self):
+        """A handler amid a call of a handler amid a call has no connection left."""
+        def once_more():
+            signal.signal(signal.SIGALRM, lambda *_: got.append(rule_of(self, self.sem.release)))
+            signal.setitimer(signal.ITIMER_REAL, 0.1)
+            self.sem.release()
+        got = []
+        self.amid(self.sem.release, self.sem.release)       # the further connection is there
+        self.amid(self.sem.release, once_more)
+        self.assertEqual((got, self.sem.value), ([0], 4))
+
+
+class Moments(Relayed):
+    """What calls with a timeout ask of the server, as a relay in between sees it, and that none ends before its timeout."""
 
     def poll(self, requests, call, *words, timeout=0.1):
         """The call finds nothing, and asks this."""
@@ -359,6 +429,23 @@ class Moments(Thing):
         self.assertEqual(in_child(lambda: self.assertRaises(ipc.BusyError, self.q.receive, 0.1)), 0)
         self.poll([27], self.q.receive)
 
+    def test_closed_amid_a_call(self):
+        """What is closed while a thread blocks on it is closed there too, once it doesn't."""
+        self.begin()
+        got = []
+        waiter = threading.Thread(target=lambda: got.append(self.q.receive()), daemon=True)
+        waiter.start()
+        while self.relay.requests.count(7) < 2:     # at home, and then where it blocks
+            time.sleep(0.01)
+        name = self.q.name
+        self.q.close()
+        self.assertEqual(self.relay.requests.count(4), 1)
+        other = self.keep(ipc.MessageQueue(name))
+        other.send("one")
+        waiter.join(5)
+        self.assertEqual(got, [(b"one", 0)])
+        self.assertEqual(self.relay.requests.count(4), 2)
+
     def test_own_clock(self):
         self.begin(shared_clock=False)
         self.old_way()
@@ -417,16 +504,16 @@ class Moments(Thing):
 
 
 class Liar:
-    """A server that answers a hello and a mask, and then each call with the bytes that it was given; None is silence."""
+    """A server that answers a hello and a mask, and then calls with the bytes that it was given, one after the other; None is silence."""
 
-    def __init__(self, answer):
-        self.answer, self.listener = answer, socket.create_server(("127.0.0.1", 0))
+    def __init__(self, *answers):
+        self.answers, self.listener = answers, socket.create_server(("127.0.0.1", 0))
         self.address = "127.0.0.1:%d" % self.listener.getsockname()[1]
         threading.Thread(target=self.serve, daemon=True).start()
 
     def serve(self):
         connection = self.listener.accept()[0]
-        for answer in (b"\0\0\0\x09A" + bytes(8), b"\0\0\0\x03D\0\x12", self.answer):
+        for answer in (b"\0\0\0\x09A" + bytes(8), b"\0\0\0\x03D\0\x12", *self.answers):
             connection.recv(65536)
             if answer is None:
                 time.sleep(2)
@@ -458,6 +545,24 @@ class Connections(unittest.TestCase):
 
     def test_notices_without_end(self):
         self.ends((b"\0\0\0\x09N" + bytes(8)) * 1000)
+
+    def test_notice_with_an_answer(self):
+        """A notice behind the registration's answer is the new one's, and one before it that of an earlier one."""
+        opened, attributes = b"\0\0\0\x09C" + bytes(8), b"\0\0\0\x0eE" + bytes(13)
+        done, notice = b"\0\0\0\x01B", b"\0\0\0\x09N" + bytes(8)
+        liar, before, told = Liar(opened, attributes, done, notice + done, done + notice), ipc._server, []
+        came = threading.Event()
+        try:
+            ipc.use(liar.address, "key", spares=0)
+            queue = ipc.MessageQueue("/queue")
+            for which in ("first", "second", "third"):
+                queue.request_notification((lambda which: (told.append(which), which == "third" and came.set()), which))
+            self.assertTrue(came.wait(5))
+            self.assertEqual(sorted(told), ["first", "third"])
+        finally:
+            ipc._server.forget()
+            ipc._server = before
+            liar.listener.close()
 
     def test_wrong_key(self):
         self.assertEqual(rule_of(self, ipc._Connection, os.environ["MQSERVE"], "nobody", 5.0), 31)

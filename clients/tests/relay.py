@@ -2,6 +2,7 @@
 import contextlib
 import socket
 import threading
+import time
 
 DEADLINE_AT = {26: 13, 27: 13, 28: 9}   # in the bodies of requests that have one
 
@@ -29,10 +30,11 @@ def own_address():
 
 
 class Relay:
-    """Passes on what comes to `address`, which is of `host`. `ahead`: by how many milliseconds the server's clock seems to be ahead."""
+    """Passes on what comes to `address`, which is of `host`. `ahead`: by how many milliseconds the server's clock seems to be ahead. `late`:
+    by how many seconds answers come later, which may be changed meanwhile."""
 
     def __init__(self, server, host="127.0.0.1", ahead=0):
-        self.server, self.ahead, self.requests, self.ends = server, ahead, [], []
+        self.server, self.ahead, self.late, self.requests, self.ends = server, ahead, 0.0, [], []
         self.listener = socket.create_server((host, 0), backlog=128)
         self.address = "%s:%d" % self.listener.getsockname()
         threading.Thread(target=self.accept, daemon=True).start()
@@ -71,10 +73,11 @@ class Relay:
         deadline = int.from_bytes(body[at:at + 8], "big") - self.ahead
         return body[:at] + min(max(deadline, 0), (1 << 64) - 1).to_bytes(8, "big") + body[at + 8:]
 
-    @staticmethod
-    def pass_answers(source, target):
+    def pass_answers(self, source, target):
         piece = source.recv(65536)
         while piece:
+            if self.late:
+                time.sleep(self.late)
             target.sendall(piece)
             piece = source.recv(65536)
 
