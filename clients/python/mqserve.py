@@ -151,9 +151,13 @@ def _dial(address: str, seconds: float) -> socket.socket:
 def _dial_path(path: str, seconds: float) -> socket.socket:
     """Where many connections wait already, a connect to a path waits as long as a send may."""
     dialled = socket.socket(socket.AF_UNIX)
+    end = time.monotonic() + seconds
     try:
+        dialled.settimeout(None)    # whatever socket.setdefaulttimeout says
         dialled.setsockopt(socket.SOL_SOCKET, socket.SO_SNDTIMEO, struct.pack("ll", int(seconds), int(seconds % 1 * 1e6)))
-        dialled.connect(path)
+        while not _is_connected(dialled, path):
+            if time.monotonic() >= end:
+                raise BlockingIOError
         dialled.setsockopt(socket.SOL_SOCKET, socket.SO_SNDTIMEO, bytes(struct.calcsize("ll")))
     except BlockingIOError:
         dialled.close()
@@ -162,6 +166,24 @@ def _dial_path(path: str, seconds: float) -> socket.socket:
         dialled.close()
         raise
     return dialled
+
+
+def _is_connected(dialled: socket.socket, path: str) -> bool:
+    """Connects. False where a signal's handler ran meanwhile, since Python takes the connect for made then."""
+    dialled.connect(path)
+    try:
+        dialled.getpeername()
+    except OSError:
+        return False
+    return True
+
+
+def _is_readable(connected: List[socket.socket], seconds: Optional[float]) -> bool:
+    """Whether something comes at one of them in time. By poll, since select knows no file from number 1,024 on."""
+    poll = select.poll()
+    for one in connected:
+        poll.register(one, select.POLLIN)
+    return bool(poll.poll(None if seconds is None else math.ceil(seconds * 1000)))
 
 
 def _is_here(connected: socket.socket) -> bool:
@@ -256,7 +278,7 @@ class _Connection:
     def read_some(self, end: Optional[float]) -> bool:
         """Reads what comes until a moment of time.monotonic(). False if nothing came."""
         left = None if end is None else min(max(0.0, end - time.monotonic()), _LONGEST_S)
-        if not select.select([self.socket], [], [], left)[0]:
+        if not _is_readable([self.socket], left):
             return False
         try:
             piece = self.socket.recv(65536)
@@ -595,7 +617,7 @@ class _Server:
                     continue
                 sources = [home.socket for home in homes]
             try:
-                select.select(sources, [], [], 0.5)
+                _is_readable(sources, 0.5)
             except (OSError, ValueError):
                 pass   # closed meanwhile
 

@@ -1,6 +1,7 @@
 """The tests of mqserve.py, beside a server: MQSERVE and MQSERVE_KEY, as tests/with_server sets them. What posix_ipc's documentation promises,
 and what becomes of a server that lies or falls silent."""
 import os
+import resource
 import signal
 import socket
 import sys
@@ -564,6 +565,24 @@ class Connections(unittest.TestCase):
             ipc._server = before
             liar.listener.close()
 
+    def test_many_files(self):
+        """A connection may be a file with a number that select doesn't know."""
+        limits = resource.getrlimit(resource.RLIMIT_NOFILE)
+        if limits[1] != resource.RLIM_INFINITY and limits[1] < 1100:
+            self.skipTest("so many files may not be open here")
+        resource.setrlimit(resource.RLIMIT_NOFILE, (1100, limits[1]))
+        files = []
+        try:
+            while not files or files[-1] < 1024:
+                files.append(os.open(os.devnull, os.O_RDONLY))
+            c = ipc._Connection(os.environ["MQSERVE"], os.environ["MQSERVE_KEY"], 5.0)
+            self.assertGreater(c.socket.fileno(), 1023)
+            c.close()
+        finally:
+            for file in files:
+                os.close(file)
+            resource.setrlimit(resource.RLIMIT_NOFILE, limits)
+
     def test_wrong_key(self):
         self.assertEqual(rule_of(self, ipc._Connection, os.environ["MQSERVE"], "nobody", 5.0), 31)
 
@@ -583,7 +602,14 @@ class Connections(unittest.TestCase):
             listener.listen(0)
             with socket.socket(socket.AF_UNIX) as waiting:
                 waiting.connect(address[5:])
-                self.assertRaises(ipc.BusyError, ipc._Connection, address, "ka1", 0.2)
+                signal.signal(signal.SIGALRM, lambda *_: None)
+                for default, alarm in ((None, 0), (None, 0.1), (5.0, 0)):
+                    socket.setdefaulttimeout(default)
+                    signal.setitimer(signal.ITIMER_REAL, alarm)
+                    start = time.monotonic()
+                    self.assertRaises(ipc.BusyError, ipc._Connection, address, "ka1", 0.2)
+                    self.assertGreater(time.monotonic() - start, 0.19)
+                socket.setdefaulttimeout(None)
         self.assertRaises(OSError, ipc._Connection, "unix:" + 200 * "x", "ka1", 1.0)
 
     def test_lost_home(self):
