@@ -485,12 +485,13 @@ class _Server:
             self.aside = self.connect(_HELLO_S)
         return self.aside
 
-    def widen(self) -> Optional[_Connection]:
-        """A new side, unless there are too many or the server had no worker a moment ago."""
-        if len(self.sides) >= _SIDES or time.monotonic() < self.widen_after:
+    def widen(self, until: Optional[float] = None) -> Optional[_Connection]:
+        """A new side, unless there are too many or the server had no worker a moment ago, or has none until that moment."""
+        left = _SIDE_S if until is None else min(_SIDE_S, until - time.monotonic())
+        if len(self.sides) >= _SIDES or time.monotonic() < self.widen_after or left <= 0:
             return None
         try:
-            side = self.connect(_SIDE_S)
+            side = self.connect(left)
         except (Error, OSError):
             self.widen_after = time.monotonic() + 5
             return None
@@ -515,13 +516,13 @@ class _Server:
         except (Error, OSError):
             return False
 
-    def side_for(self, thing: "_Thing") -> Optional[_Connection]:
+    def side_for(self, thing: "_Thing", until: Optional[float]) -> Optional[_Connection]:
         """A side that isn't busy and has the thing open."""
         free = self.free_sides()
         for c in free:
             if thing in c.opened:
                 return c
-        side = free[0] if free else None if thing.gone else self.widen()
+        side = free[0] if free else None if thing.gone else self.widen(until)
         return side if side is not None and self.try_open(thing, side) else None
 
     def ask(self, thing: "_Thing", opcode: int, fields: bytes, answer: int) -> bytes:
@@ -564,7 +565,7 @@ class _Server:
                 answer = self.attempt(thing, call)
                 if answer is not None or not blocks or until is not None and until <= time.monotonic():
                     return answer
-                side = self.side_for(thing)
+                side = self.side_for(thing, until)
             if side is not None:
                 self.busy.add(side)
         if side is None:

@@ -193,10 +193,11 @@ class Jobs:
         self._lock, self._waiting = threading.RLock(), threading.Lock()
         self._found: List[bytes] = []               # candidates of the last look, the next one last
         self._look_at, self._has_more = 0.0, False
+        self._wait_after = 0.0                      # when to look for a worker for the second session again
 
-    def _connect(self, access: int, flags: int) -> Tuple[_Session, int]:
+    def _connect(self, access: int, flags: int, seconds: float = mqserve._HELLO_S) -> Tuple[_Session, int]:
         """A session, and the pool's queue in it."""
-        session = self._session_type(self._server.address, self._server.key, mqserve._HELLO_S, self._server.shared_clock)
+        session = self._session_type(self._server.address, self._server.key, seconds, self._server.shared_clock)
         try:
             longest = len(self._pool) + len(".job-") + 16
             return session, session.open(self._pool, access, _CREATE | flags, _READY, (self.tries + _SPARE, longest))
@@ -216,12 +217,15 @@ class Jobs:
             self._session = session
         return self._session
 
-    def _connected_waiter(self) -> Optional[_Session]:
-        """The session that waits for tokens, or None where the server has no worker for it."""
+    def _connected_waiter(self, seconds: float) -> Optional[_Session]:
+        """The session that waits for tokens, or None where the server has no worker for it in time, or had none a moment ago."""
         if self._waiter is None or self._waiter.lost:
+            if seconds <= 0 or time.monotonic() < self._wait_after:
+                return None
             try:
-                self._waiter, self._waiter_queue = self._connect(_READ, 0)
+                self._waiter, self._waiter_queue = self._connect(_READ, 0, min(seconds, mqserve._SIDE_S))
             except (mqserve.Error, OSError):
+                self._wait_after = time.monotonic() + 5
                 return None                         # where the server is gone the other session tells it
             self._waiter.room = _ANY_SIZE
         return self._waiter
@@ -380,9 +384,9 @@ class Jobs:
         if not self._waiting.acquire(timeout=seconds):
             return None
         try:
-            waiter = self._connected_waiter()
+            waiter = self._connected_waiter(end - time.monotonic())
             if waiter is None:
-                time.sleep(min(seconds, _NO_WAITER_S))
+                time.sleep(max(0.0, min(end - time.monotonic(), _NO_WAITER_S)))
                 return None
             answer = waiter.ask_until(_TOKEN, struct.pack(">Q", self._waiter_queue), end)
             return None if answer is None else answer[4:]

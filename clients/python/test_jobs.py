@@ -366,9 +366,17 @@ class Sessions(Pooled):
         self.jobs.take(30).done()
 
     def test_no_second_connection(self):
-        self.jobs._connected_waiter = lambda: None
+        self.jobs._connected_waiter = lambda seconds: None
         threading.Timer(0.3, self.pool().put, ("late",)).start()
         self.jobs.take(30).done()
+
+    def test_no_free_worker(self):
+        """A wait for the second connection ends with the call's own."""
+        with socket.create_server(("127.0.0.1", 0)) as nobody:
+            self.jobs._server = ipc._Server("127.0.0.1:%d" % nobody.getsockname()[1], "key", 0, None)
+            start = time.monotonic()
+            self.assertRaises(ipc.BusyError, self.jobs.take, 0.3)
+            self.assertLess(time.monotonic() - start, 1)
 
     def test_fork(self):
         self.jobs.put("one")

@@ -430,6 +430,16 @@ class Moments(Relayed):
         self.assertEqual(in_child(lambda: self.assertRaises(ipc.BusyError, self.q.receive, 0.1)), 0)
         self.poll([27], self.q.receive)
 
+    def test_no_free_worker(self):
+        """A wait for a further connection ends with the call's own."""
+        self.begin()
+        ipc._server.busy.update(ipc._server.sides)
+        with socket.create_server(("127.0.0.1", 0)) as nobody:
+            ipc._server.address = "127.0.0.1:%d" % nobody.getsockname()[1]
+            start = time.monotonic()
+            self.assertRaises(ipc.BusyError, self.sem.acquire, 0.1)
+            self.assertLess(time.monotonic() - start, 0.5)
+
     def test_closed_amid_a_call(self):
         """What is closed while a thread blocks on it is closed there too, once it doesn't."""
         self.begin()
