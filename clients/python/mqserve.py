@@ -455,6 +455,7 @@ class _Server:
         self.listener: Optional[threading.Thread] = None
         self.things: "weakref.WeakSet[_Thing]" = weakref.WeakSet()
         self.widen_after = 0.0
+        _servers.add(self)
 
     def forget(self) -> None:
         """In a child of fork: the connections are the parent's, and its threads aren't here."""
@@ -656,6 +657,7 @@ class _Server:
 
 
 _server: Optional[_Server] = None
+_servers: "weakref.WeakSet[_Server]" = weakref.WeakSet()     # of earlier calls of use too
 
 
 def use(address: str, key: Optional[str] = None, spares: int = 1, shared_clock: Optional[bool] = None) -> None:
@@ -892,8 +894,8 @@ def unlink_semaphore(name: str) -> None:
 
 
 def _in_child() -> None:
-    if _server is not None:
-        _server.forget()
+    for server in list(_servers):
+        server.forget()
 
 
 if hasattr(os, "register_at_fork"):

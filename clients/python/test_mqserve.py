@@ -430,6 +430,19 @@ class Moments(Relayed):
         self.assertEqual(in_child(lambda: self.assertRaises(ipc.BusyError, self.q.receive, 0.1)), 0)
         self.poll([27], self.q.receive)
 
+    def test_child_of_an_earlier_server(self):
+        """A child connects anew too for what was opened before the last call of use."""
+        self.begin()
+        first = ipc._server
+        try:
+            ipc.use(self.relay.address, os.environ["MQSERVE_KEY"])
+            self.relay.requests.clear()
+            self.assertEqual(in_child(self.sem.release), 0)
+            self.assertEqual(self.relay.requests[0], 1)
+            self.sem.acquire(0)
+        finally:
+            ipc._server = first
+
     def test_no_free_worker(self):
         """A wait for a further connection ends with the call's own."""
         self.begin()
