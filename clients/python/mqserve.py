@@ -122,6 +122,11 @@ def _text(name: Union[str, bytes]) -> bytes:
     return struct.pack(">H", len(data)) + data
 
 
+def _data(message: Union[str, bytes]) -> bytes:
+    """The bytes of a message. TypeError for what has none, as a number."""
+    return message.encode() if isinstance(message, str) else message if isinstance(message, bytes) else memoryview(message).tobytes()
+
+
 _OWN = "unix-user:"
 
 
@@ -834,7 +839,7 @@ class MessageQueue(_Thing):
 
     def send(self, message: Union[str, bytes], timeout: Optional[float] = None, priority: int = 0) -> None:
         """Sends; a str goes as UTF-8. Waits while the queue is full, at most `timeout` seconds."""
-        data = message.encode() if isinstance(message, str) else bytes(message)
+        data = _data(message)
         if not 0 <= priority <= QUEUE_PRIORITY_MAX:
             raise ValueError("the priority is out of range")
         call = _Call((_MQ_SEND, _MQ_SEND, _MQ_TIMED_SEND), struct.pack(">I", priority), data, _SENT)
@@ -854,11 +859,13 @@ class MessageQueue(_Thing):
         calls, and its argument. None takes that back."""
         if notification is None:
             self._unregister()
-        elif isinstance(notification, int):
-            self._register(int(notification))
-        else:
+        elif not isinstance(notification, int):
             function, argument = notification
             self._register(lambda: function(argument))
+        elif 0 < notification < signal.NSIG:
+            self._register(int(notification))
+        else:
+            raise ValueError("there is no such signal")
 
     def _register(self, action: Union[int, Callable[[], None]]) -> None:
         with self.server.lock:

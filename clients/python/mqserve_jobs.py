@@ -260,7 +260,7 @@ class Jobs:
     def put(self, data: Union[str, bytes]) -> str:
         """Puts a job, and returns its name; a str goes as UTF-8. Once it has returned, the job is done at least once, or waits as a dead
         one. Refused, it left nothing. After ConnectionLost, or where the process was killed, the job may be there."""
-        message = data.encode() if isinstance(data, str) else bytes(data)
+        message = mqserve._data(data)
         with self._calls() as session:
             return self._add(session, max(1, len(message)), lambda: message)
 

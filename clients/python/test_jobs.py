@@ -289,6 +289,12 @@ class Calls(Pooled):
         self.jobs.take(0).done()
         self.jobs.put(bytes(8192))
 
+    def test_what_is_no_data(self):
+        for data in (3, [1, 2], None):
+            self.assertRaises(TypeError, self.jobs.put, data)
+        self.jobs.put(bytearray(b"bytes"))
+        self.assertEqual(self.jobs.take(0).data, b"bytes")
+
     def test_sweep_of_nothing(self):
         self.jobs.put("one")
         job = self.jobs.take(0)

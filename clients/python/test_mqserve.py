@@ -256,6 +256,19 @@ class Queues(Thing):
         self.assertRaises(ipc.ExistentialError, reader.receive)
         self.assertGreaterEqual(self.q.mqd, 0)
 
+    def test_what_is_no_message(self):
+        for message in (3, [1, 2], None, 1.5):
+            self.assertRaises(TypeError, self.q.send, message)
+        for message in (bytearray(b"bytes"), memoryview(b"bytes")):
+            self.q.send(message)
+            self.assertEqual(self.q.receive(), (b"bytes", 0))
+
+    def test_no_such_signal(self):
+        for number in (-1, 0, signal.NSIG, 9999):
+            self.assertRaises(ValueError, self.q.request_notification, number)
+        self.q.request_notification(int(signal.SIGUSR1))
+        self.q.request_notification()
+
     def test_texts(self):
         self.assertIn(self.q.name, repr(self.q))
         self.assertEqual(ipc.O_CREX, os.O_CREAT | os.O_EXCL)
