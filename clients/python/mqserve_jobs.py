@@ -269,11 +269,14 @@ class Jobs:
         data = None
         while True:
             name, queue = self._create(session, size)
+            is_there = False
             with self._letting_go(session, queue):
-                data = read() if data is None else data
-                is_there = self._fill(session, name, queue, data)
-                if not is_there:
-                    session.unlink(name)
+                try:
+                    data = read() if data is None else data
+                    is_there = self._fill(session, name, queue, data)
+                finally:
+                    if not is_there and not session.lost:
+                        session.unlink(name)
             session.let_go(queue)
             if is_there:
                 self._wake(session, name)           # now that it may be claimed

@@ -289,6 +289,15 @@ class Calls(Pooled):
         self.jobs.take(0).done()
         self.jobs.put(bytes(8192))
 
+    def test_put_is_refused_late(self):
+        """Behind the create: nothing is left of it."""
+        def refused(*_):
+            raise ipc._refusal(18)
+        with self.jobs._calls() as session:
+            session.chmod = refused
+        self.assertEqual(rule_of(self, self.jobs.put, "one"), 18)
+        self.assertEqual(self.jobs.pending(), 0)
+
     def test_what_is_no_data(self):
         for data in (3, [1, 2], None):
             self.assertRaises(TypeError, self.jobs.put, data)
