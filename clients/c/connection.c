@@ -278,6 +278,14 @@ int mqsi_ask_done(struct mqs *c, struct request *r)
     return mqsi_ask(c, r, &a, DONE);
 }
 
+int mqsi_kept(const struct mqs *c) { return (int)c->count; }
+
+int mqsi_look(struct mqs *c)
+{
+    if (!c->lost) mqsi_front(c);
+    return mqsi_kept(c);
+}
+
 int mqs_next_unasked(struct mqs *c, int *what, uint64_t *description)
 {
     if (c->count == 0 && !c->lost) {

@@ -1,4 +1,5 @@
-/* timed.h: calls with a moment, in parts. For the library itself, and for libmqserve-preload, which is linked from the same objects. */
+/* timed.h: calls with a moment, in parts, and what came unasked. For the library itself, and for libmqserve-preload, which is linked from
+ * the same objects. */
 #ifndef TIMED_H
 #define TIMED_H
 
@@ -20,5 +21,9 @@ int mqsi_wait_timed(struct mqs *c, const struct timespec *until);
 /* Whether the call that just failed was ended by rule 32 before its moment. Then the server's clock isn't this machine's, which is noted:
  * the call is to be made again, and this side keeps its moment. */
 int mqsi_was_early(struct mqs *c, const struct timespec *until);
+
+/* How many things came unasked before the answer that was taken last, and how many have been read: neither reads the socket. */
+int mqsi_kept(const struct mqs *c);
+int mqsi_look(struct mqs *c);
 
 #endif

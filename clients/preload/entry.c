@@ -14,7 +14,12 @@ int fail(int error)
 }
 
 void lock_home(void) { pthread_mutex_lock(&lock); }
-void unlock_home(void) { pthread_mutex_unlock(&lock); }
+
+void unlock_home(void)
+{
+    pass_on_notices();
+    pthread_mutex_unlock(&lock);
+}
 
 /* In a new process whose parent's threads may have had it. */
 void renew_lock(void) { pthread_mutex_init(&lock, NULL); }

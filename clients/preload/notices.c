@@ -1,5 +1,6 @@
-/* notices.c: registrations of mq_notify, which are home's. Who has the lock takes the notices that came among answers. While there
- * are registrations a thread of the library's own waits for those that come at other times. */
+/* notices.c: registrations of mq_notify, which are home's. While there are any, a thread of the library's own waits for notices, the
+ * listener. Those that came among the answers to other calls are its too: who lets the lock go wakes it for them. A send and mq_notify
+ * take them themselves. */
 #include "preload.h"
 
 #include <errno.h>
@@ -59,17 +60,31 @@ static void deliver(struct object *o)
     end_registration(o);
 }
 
+static void hand_on(int what, uint64_t description)
+{
+    for (int i = 0; what == MQS_NOTICE && i < queues_top; i++)
+        if (queues[i] && queues[i]->registered && queues[i]->at[HOME] == description) {
+            deliver(queues[i]);
+            return;
+        }
+}
+
 void take_notices(void)
 {
     int what, error = errno;
     uint64_t description;
     while (registrations && sides[HOME].connection && mqs_next_unasked(sides[HOME].connection, &what, &description) == 1)
-        for (int i = 0; what == MQS_NOTICE && i < queues_top; i++)
-            if (queues[i] && queues[i]->registered && queues[i]->at[HOME] == description) {
-                deliver(queues[i]);
-                break;
-            }
+        hand_on(what, description);
     errno = error;
+}
+
+/* Those that stood before the answer that was taken last, and none that came behind it. */
+void take_earlier_notices(void)
+{
+    int what;
+    uint64_t description;
+    struct mqs *c = sides[HOME].connection;
+    while (mqsi_kept(c) > 0 && mqs_next_unasked(c, &what, &description) == 1) hand_on(what, description);
 }
 
 /* ---- Registrations ---- */
@@ -134,6 +149,15 @@ static void *listen_on(void *arg)
         poll(p, 2, -1);
         if (p[0].revents && read(wake, &count, sizeof count) < 0) return NULL;
     }
+}
+
+/* Wakes the listener for what was read and isn't taken: the socket doesn't wake it any more. Nothing is delivered here, since a
+ * handler of a signal may be in sem_post. */
+void pass_on_notices(void)
+{
+    uint64_t one = 1;
+    struct mqs *c = sides[HOME].connection;
+    if (registrations && listening && c && mqsi_look(c) > 0 && write(wake, &one, sizeof one) < 0) return;
 }
 
 /* Starts the listener, or has it look at home again. It inherits the mask, in which all signals are blocked. */

@@ -158,6 +158,8 @@ void forget_deadlines(void);
 extern int registrations;
 
 void take_notices(void);
+void take_earlier_notices(void);
+void pass_on_notices(void);
 int start_listening(void);
 void forget_listener(void);
 void end_registration(struct object *o);

@@ -108,6 +108,14 @@ PUBLIC mqd_t mq_open(const char *name, int oflag, ...)
 PUBLIC mqd_t __mq_open_2(const char *name, int oflag);
 PUBLIC mqd_t __mq_open_2(const char *name, int oflag) { return mq_open(name, oflag & ~O_CREAT); }
 
+/* A notice that was sent before is delivered. */
+static void withdraw(struct object *o)
+{
+    if (!o->registered || mqs_mq_notify(sides[HOME].connection, o->at[HOME], 0) < 0) return;
+    take_earlier_notices();
+    end_registration(o);
+}
+
 PUBLIC int mq_close(mqd_t fd)
 {
     struct entry e;
@@ -116,6 +124,7 @@ PUBLIC int mq_close(mqd_t fd)
     struct object *o = queue_of(fd);
     int r = o ? 0 : fail(EBADF);
     if (o) {
+        withdraw(o);   /* now, also where a call that blocks still has the object */
         queues[fd] = NULL;
         close(fd);
         drop(o);
@@ -236,6 +245,7 @@ static int register_for(struct object *o, const struct sigevent *event)
 {
     struct mqs *c = sides[HOME].connection;
     if (start_listening() < 0 || mqs_mq_notify(c, o->at[HOME], 1) < 0) return -1;
+    take_earlier_notices();   /* of the registration before */
     if (keep_event(o, event) == 0) return start_listening();
     int error = errno;
     mqs_mq_notify(c, o->at[HOME], 0);
@@ -243,10 +253,9 @@ static int register_for(struct object *o, const struct sigevent *event)
 }
 
 /* An object whose name this process has unlinked isn't the one that has it now. */
-static void withdraw(struct object *o, void *like)
+static void withdraw_like(struct object *o, void *like)
 {
-    if (o->unlinked != ((struct object *)like)->unlinked) return;
-    if (o->registered && mqs_mq_notify(sides[HOME].connection, o->at[HOME], 0) == 0) end_registration(o);
+    if (o->unlinked == ((struct object *)like)->unlinked) withdraw(o);
 }
 
 PUBLIC int mq_notify(mqd_t fd, const struct sigevent *event)
@@ -259,7 +268,7 @@ PUBLIC int mq_notify(mqd_t fd, const struct sigevent *event)
     int r = o ? bring(o, HOME) : fail(EBADF);
     if (r == 0 && event) r = register_for(o, event);
     /* Linux ends the process's registration, whichever of its descriptors made it. */
-    else if (r == 0) for_each_named(MQS_QUEUES, o->name, withdraw, o);
+    else if (r == 0) for_each_named(MQS_QUEUES, o->name, withdraw_like, o);
     if (registrations) take_notices();
     leave(&e);
     return r;

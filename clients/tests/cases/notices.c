@@ -197,6 +197,113 @@ static void registrations_of_children(mqd_t q)
     SHOW(mq_notify(q, NULL));
 }
 
+enum { ROUNDS = 20 };
+
+/* A child that sends a message for each byte that comes by a pipe, whose other end this gives. */
+static int begin_sends(mqd_t q)
+{
+    int ends[2];
+    char byte;
+    if (pipe(ends) < 0) exit(2);
+    fflush(stdout);
+    if (fork() == 0) {
+        close(ends[1]);
+        while (read(ends[0], &byte, 1) == 1)
+            if (mq_send(q, "x", 1, 0) < 0) _exit(1);
+        _exit(0);
+    }
+    close(ends[0]);
+    return ends[1];
+}
+
+static void end_sends(int order)
+{
+    close(order);
+    say("the sender", end_of_child());
+}
+
+static void let_send(int order)
+{
+    if (write(order, "", 1) != 1) exit(2);
+}
+
+/* Notices that come while the process asks for something else, as one does that takes all messages before it sleeps. */
+static void among_answers(mqd_t q)
+{
+    struct sigevent event = by_signal(51);
+    mqd_t now = mq_open("/notices", O_RDONLY | O_NONBLOCK);
+    int order = begin_sends(q), came = 0;
+    for (int i = 0; i < ROUNDS; i++) {
+        mq_notify(q, &event);
+        let_send(order);
+        while (mq_receive(now, data, 16, NULL) < 0);
+        for (int k = 0; k < 200 && !hits; k++) pause_ms(10);
+        came += hits == 1;
+        hits = value = 0;
+    }
+    say("notices while the queue was asked", came);
+    end_sends(order);
+    SHOW(mq_close(now));
+}
+
+/* Registers, lets a message be sent, and asks until it is there: the notice comes among the answers. */
+static void register_and_look(int order, mqd_t q, mqd_t by, int given)
+{
+    struct sigevent event = by_signal(given);
+    struct mq_attr a = { 0 };
+    mq_notify(by, &event);
+    let_send(order);
+    while (mq_getattr(q, &a) == 0 && a.mq_curmsgs == 0);
+}
+
+/* Whether the notice of a registration has come by now. The message is taken. */
+static int has_come(mqd_t q, int given)
+{
+    int came = hits == 1 && value == given;
+    hits = value = 0;
+    mq_receive(q, data, 16, NULL);
+    return came;
+}
+
+/* A registration is made anew, withdrawn, or ended by a close, when the message of the one before has been sent. */
+static void behind_a_notice(mqd_t q)
+{
+    struct sigevent none = { .sigev_notify = SIGEV_NONE };
+    int order = begin_sends(q), anew = 0, withdrawn = 0, closed = 0;
+    for (int i = 0; i < ROUNDS; i++) {
+        register_and_look(order, q, q, 61);
+        anew += mq_notify(q, &none) == 0 && has_come(q, 61) && mq_notify(q, NULL) == 0;
+        register_and_look(order, q, q, 62);
+        withdrawn += mq_notify(q, NULL) == 0 && has_come(q, 62);
+        mqd_t other = mq_open("/notices", O_RDONLY);
+        register_and_look(order, q, other, 63);
+        closed += mq_close(other) == 0 && has_come(q, 63);
+    }
+    say("notices before a further registration", anew);
+    say("notices before a withdrawal", withdrawn);
+    say("notices before a close", closed);
+    end_sends(order);
+}
+
+/* A close ends the registration also where a thread waits at the queue. */
+static void close_under_a_receiver(mqd_t q)
+{
+    struct sigevent event = by_signal(71), none = { .sigev_notify = SIGEV_NONE };
+    mqd_t other = mq_open("/notices", O_RDONLY);
+    pthread_t thread;
+    void *size;
+    SHOW(mq_notify(other, &event));
+    pthread_create(&thread, NULL, receive_once, &other);
+    pause_ms(200);
+    SHOW(mq_close(other));
+    SHOW(mq_notify(q, &none));
+    SHOW(mq_notify(q, NULL));
+    SHOW(mq_send(q, "xyz", 3, 0));
+    pthread_join(thread, &size);
+    say("received", (long)size);
+    show_hits("closed", 0);
+}
+
 /* A queue that has lost its name isn't the one that has it now. */
 static void another_of_the_name(mqd_t q)
 {
@@ -220,6 +327,9 @@ int main(void)
     blocked_receiver_first(q);
     by_thread(q);
     registrations_of_children(q);
+    among_answers(q);
+    behind_a_notice(q);
+    close_under_a_receiver(q);
     another_of_the_name(q);
     SHOW(mq_close(q) | mq_unlink("/notices"));
     return 0;
