@@ -186,8 +186,6 @@ static ssize_t ask_again(struct job *j, const struct timespec *until, const stru
 
 /* ---- All of it ---- */
 
-static int is_nonblock(const struct object *o) { return o->nonblock && atomic_load(o->nonblock); }
-
 static int is_open_at_home(const struct object *o)
 {
     struct mqs *c = sides[HOME].connection;

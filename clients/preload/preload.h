@@ -94,7 +94,7 @@ struct object {
     int lost;                   /* it was open on a home that was lost */
     unsigned references;        /* opens, and calls that block */
     uint64_t at[SIDES];         /* its description in each session */
-    atomic_uchar *nonblock;     /* a queue's; in memory that children share, as they share an open file description */
+    int fd;                     /* a queue's number */
     int registered;
     struct sigevent event;
     pthread_attr_t attributes;  /* of the thread that SIGEV_THREAD starts */
@@ -139,6 +139,10 @@ void end_kept(int family, const char *name);
 void end_all_kept(void);
 unsigned mode_under_umask(unsigned mode);
 int open_flags(int oflag);
+
+/* ---- queues.c ---- */
+
+int is_nonblock(const struct object *o);
 
 /* ---- blocking.c: sends, receives and waits ---- */
 

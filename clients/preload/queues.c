@@ -1,4 +1,5 @@
-/* queues.c: <mqueue.h>. */
+/* queues.c: <mqueue.h>. An mqd_t is the number of a file that is opened for it: no other file gets that number, it is closed on exec as an
+ * mqd_t is, and its open file description has the queue's O_NONBLOCK, which the process's children share. */
 #include "preload.h"
 
 #include <errno.h>
@@ -6,32 +7,26 @@
 #include <stdarg.h>
 #include <stdlib.h>
 #include <string.h>
-#include <sys/eventfd.h>
-#include <sys/mman.h>
+#include <sys/epoll.h>
 #include <unistd.h>
 
-enum { CELLS = 1 << 20, PRIORITIES = 32768 };
+enum { PRIORITIES = 32768 };
 
 static struct object *queue_of(mqd_t fd) { return fd >= 0 && fd < QUEUES_MAX ? queues[fd] : NULL; }
 
-/* ---- O_NONBLOCK, in memory that children share ---- */
+/* ---- O_NONBLOCK ---- */
 
-static struct { atomic_uint next; atomic_uchar cell[CELLS]; } *shared;
-
-static int make_cells(void)
+/* Of a file that the program has closed by itself it isn't known. */
+int is_nonblock(const struct object *o)
 {
-    if (shared) return 0;
-    void *memory = mmap(NULL, sizeof *shared, PROT_READ | PROT_WRITE, MAP_SHARED | MAP_ANONYMOUS, -1, 0);
-    if (memory == MAP_FAILED) return -1;
-    shared = memory;
-    return 0;
+    int flags = o->family == MQS_QUEUES ? fcntl(o->fd, F_GETFL) : 0;
+    return flags >= 0 && (flags & O_NONBLOCK);
 }
 
-static atomic_uchar *new_cell(int is_nonblock)
+static int set_nonblock(int fd, int is_on)
 {
-    atomic_uchar *cell = &shared->cell[atomic_fetch_add(&shared->next, 1) % CELLS];
-    atomic_store(cell, is_nonblock != 0);
-    return cell;
+    int flags = fcntl(fd, F_GETFL);
+    return flags < 0 ? -1 : fcntl(fd, F_SETFL, is_on ? flags | O_NONBLOCK : flags & ~O_NONBLOCK);
 }
 
 /* ---- Opening and closing ---- */
@@ -55,28 +50,35 @@ static int open_on_home(struct object *o, const char *name, int oflag, unsigned 
     if (is_creating) end_kept(MQS_QUEUES, name);
     else if (is_kept(MQS_QUEUES, name)) return fail(ENOENT);
     if (attr) given = (struct mqs_attributes){ limited(attr->mq_maxmsg), limited(attr->mq_msgsize) };
-    if (make_cells() < 0) return -1;
     if (mqs_mq_open(c, name, access, open_flags(oflag) | MQS_NONBLOCK, is_creating ? mode_under_umask(mode) : 0,
                     is_creating && attr ? &given : NULL, &description) < 0)
         return -1;
     set_up(o, MQS_QUEUES, name, access, description);
-    o->nonblock = new_cell(oflag & O_NONBLOCK);
     spread(o);
     return 0;
 }
 
-/* An eventfd is opened for its number alone: no other file gets it, and it is closed on exec as an mqd_t is. */
+/* An epoll file that looks at nothing is never ready, and a read of it never waits, with O_NONBLOCK or without. */
+static int new_number(int oflag)
+{
+    int fd = epoll_create1(EPOLL_CLOEXEC);
+    if (fd < 0 || set_nonblock(fd, oflag & O_NONBLOCK) == 0) return fd;
+    close(fd);
+    return -1;
+}
+
 static mqd_t open_queue(const char *name, int oflag, unsigned mode, const struct mq_attr *attr)
 {
     struct entry e;
     if ((oflag & O_ACCMODE) == O_ACCMODE) return fail(EINVAL);
-    int fd = eventfd(0, EFD_CLOEXEC | EFD_NONBLOCK);
+    int fd = new_number(oflag);
     if (fd < 0) return -1;
     enter(&e);
     struct object *o = fd < QUEUES_MAX ? malloc(sizeof *o) : NULL;
     int r = o ? open_on_home(o, name, oflag, mode, attr) : fail(fd < QUEUES_MAX ? ENOMEM : EMFILE);
     if (r == 0) {
         struct object *stale = queues[fd];   /* its number was closed by close, and is free again */
+        o->fd = fd;
         queues[fd] = o;
         if (fd >= queues_top) queues_top = fd + 1;
         if (stale) drop(stale);
@@ -213,12 +215,12 @@ static int change_state(mqd_t fd, const struct mq_attr *new, struct mq_attr *old
     int r = read_state(fd, &o, &state);
     if (r == 0 && old) {
         memset(old, 0, sizeof *old);
-        old->mq_flags = atomic_load(o->nonblock) ? O_NONBLOCK : 0;
+        old->mq_flags = is_nonblock(o) ? O_NONBLOCK : 0;
         old->mq_maxmsg = state.messages;
         old->mq_msgsize = state.message_size;
         old->mq_curmsgs = state.messages_now;
     }
-    if (r == 0 && new) atomic_store(o->nonblock, (new->mq_flags & O_NONBLOCK) != 0);
+    if (r == 0 && new) r = set_nonblock(fd, (new->mq_flags & O_NONBLOCK) != 0);
     leave(&e);
     return r;
 }

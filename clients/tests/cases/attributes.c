@@ -36,6 +36,24 @@ static void flags(void)
     SHOW(mq_close(q) | mq_unlink("/attributes"));
 }
 
+/* The flag is the open file description's, as that of any file. */
+static void flag_of_the_file(void)
+{
+    char data[16];
+    struct mq_attr block = { 0 };
+    struct timespec until = in_ms(300);
+    mqd_t q = new_queue("/attributes", 3, 16), other = mq_open("/attributes", O_RDONLY | O_NONBLOCK);
+    say("flag of the file", fcntl(q, F_GETFL) & O_NONBLOCK);
+    say("flag of the other's", fcntl(other, F_GETFL) & O_NONBLOCK);
+    SHOW(fcntl(q, F_SETFL, O_NONBLOCK));
+    show_attributes(q);
+    SHOW(mq_timedreceive(q, data, 16, NULL, &until));
+    SHOW(mq_setattr(other, &block, NULL));
+    say("flag of the other's", fcntl(other, F_GETFL) & O_NONBLOCK);
+    say("flag of the file", fcntl(q, F_GETFL) & O_NONBLOCK);
+    SHOW(mq_close(other) | mq_close(q) | mq_unlink("/attributes"));
+}
+
 /* Modes that refuse the owner; user 0 is refused nothing. */
 static void modes(void)
 {
@@ -72,6 +90,7 @@ static void numbers(void)
 int main(void)
 {
     flags();
+    flag_of_the_file();
     modes();
     numbers();
     return 0;
