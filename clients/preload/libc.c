@@ -3,12 +3,12 @@
 
 #include <dlfcn.h>
 
-struct libc libc;
+static struct libc found;
 
 /* POSIX lets the result of dlsym be a function; ISO C has no cast for it. */
-#define FIND(name) (*(void **)&libc.name = dlsym(RTLD_NEXT, #name))
+#define FIND(name) (*(void **)&found.name = dlsym(RTLD_NEXT, #name))
 
-void find_libc(void)
+static void find(void)
 {
     FIND(mq_open);
     FIND(mq_close);
@@ -29,4 +29,12 @@ void find_libc(void)
     FIND(sem_timedwait);
     FIND(sem_clockwait);
     FIND(sem_getvalue);
+}
+
+/* They are found at the first call: a constructor of one of the program's libraries may call before this library's own runs. */
+const struct libc *libc(void)
+{
+    static pthread_once_t once = PTHREAD_ONCE_INIT;
+    pthread_once(&once, find);
+    return &found;
 }

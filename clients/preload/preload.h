@@ -14,7 +14,6 @@
 #include <pthread.h>
 #include <semaphore.h>
 #include <signal.h>
-#include <stdatomic.h>
 #include <stddef.h>
 #include <stdint.h>
 #include <sys/types.h>
@@ -41,6 +40,7 @@ struct settings {
 };
 extern struct settings settings;
 
+int is_served(void);            /* whether the program's calls go to a server; reads the environment the first time */
 void say(const char *what, const char *why);
 
 /* ---- libc.c: the C library's own calls ---- */
@@ -66,9 +66,7 @@ struct libc {
     int (*sem_clockwait)(sem_t *, clockid_t, const struct timespec *);
     int (*sem_getvalue)(sem_t *, int *);
 };
-extern struct libc libc;
-
-void find_libc(void);
+const struct libc *libc(void);
 
 /* ---- entry.c: the lock, signals and cancellation ---- */
 

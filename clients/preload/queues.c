@@ -103,7 +103,7 @@ PUBLIC mqd_t mq_open(const char *name, int oflag, ...)
         attr = va_arg(rest, struct mq_attr *);
         va_end(rest);
     }
-    return settings.address ? open_queue(name, oflag, mode, attr) : libc.mq_open(name, oflag, mode, attr);
+    return is_served() ? open_queue(name, oflag, mode, attr) : libc()->mq_open(name, oflag, mode, attr);
 }
 
 /* What glibc's headers make of an mq_open of two arguments where they check more. */
@@ -121,7 +121,7 @@ static void withdraw(struct object *o)
 PUBLIC int mq_close(mqd_t fd)
 {
     struct entry e;
-    if (!settings.address) return libc.mq_close(fd);
+    if (!is_served()) return libc()->mq_close(fd);
     enter(&e);
     struct object *o = queue_of(fd);
     int r = o ? 0 : fail(EBADF);
@@ -137,7 +137,7 @@ PUBLIC int mq_close(mqd_t fd)
 
 PUBLIC int mq_unlink(const char *name)
 {
-    return settings.address ? unlink_name(MQS_QUEUES, name) : libc.mq_unlink(name);
+    return is_served() ? unlink_name(MQS_QUEUES, name) : libc()->mq_unlink(name);
 }
 
 /* ---- Messages ---- */
@@ -176,24 +176,24 @@ static ssize_t receive_message(mqd_t fd, char *data, size_t size, unsigned *prio
 
 PUBLIC int mq_timedsend(mqd_t fd, const char *data, size_t size, unsigned priority, const struct timespec *until)
 {
-    if (!settings.address) return libc.mq_timedsend(fd, data, size, priority, until);
+    if (!is_served()) return libc()->mq_timedsend(fd, data, size, priority, until);
     return send_message(fd, data, size, priority, until);
 }
 
 PUBLIC int mq_send(mqd_t fd, const char *data, size_t size, unsigned priority)
 {
-    return settings.address ? send_message(fd, data, size, priority, NULL) : libc.mq_send(fd, data, size, priority);
+    return is_served() ? send_message(fd, data, size, priority, NULL) : libc()->mq_send(fd, data, size, priority);
 }
 
 PUBLIC ssize_t mq_timedreceive(mqd_t fd, char *data, size_t size, unsigned *priority, const struct timespec *until)
 {
-    if (!settings.address) return libc.mq_timedreceive(fd, data, size, priority, until);
+    if (!is_served()) return libc()->mq_timedreceive(fd, data, size, priority, until);
     return receive_message(fd, data, size, priority, until);
 }
 
 PUBLIC ssize_t mq_receive(mqd_t fd, char *data, size_t size, unsigned *priority)
 {
-    return settings.address ? receive_message(fd, data, size, priority, NULL) : libc.mq_receive(fd, data, size, priority);
+    return is_served() ? receive_message(fd, data, size, priority, NULL) : libc()->mq_receive(fd, data, size, priority);
 }
 
 /* ---- Attributes ---- */
@@ -227,12 +227,12 @@ static int change_state(mqd_t fd, const struct mq_attr *new, struct mq_attr *old
 
 PUBLIC int mq_setattr(mqd_t fd, const struct mq_attr *new, struct mq_attr *old)
 {
-    return settings.address ? change_state(fd, new, old) : libc.mq_setattr(fd, new, old);
+    return is_served() ? change_state(fd, new, old) : libc()->mq_setattr(fd, new, old);
 }
 
 PUBLIC int mq_getattr(mqd_t fd, struct mq_attr *attr)
 {
-    return settings.address ? change_state(fd, NULL, attr) : libc.mq_getattr(fd, attr);
+    return is_served() ? change_state(fd, NULL, attr) : libc()->mq_getattr(fd, attr);
 }
 
 /* ---- Notices ---- */
@@ -263,7 +263,7 @@ static void withdraw_like(struct object *o, void *like)
 PUBLIC int mq_notify(mqd_t fd, const struct sigevent *event)
 {
     struct entry e;
-    if (!settings.address) return libc.mq_notify(fd, event);
+    if (!is_served()) return libc()->mq_notify(fd, event);
     if (!is_event(event)) return fail(EINVAL);
     enter(&e);
     struct object *o = queue_of(fd);

@@ -92,7 +92,7 @@ PUBLIC sem_t *sem_open(const char *given, int oflag, ...)
         value = va_arg(rest, unsigned);
         va_end(rest);
     }
-    if (!settings.address) return libc.sem_open(given, oflag, mode, value);
+    if (!is_served()) return libc()->sem_open(given, oflag, mode, value);
     struct entry e;
     char room[SHORT_NAME];
     const char *name = one_slash(given, room);
@@ -105,7 +105,7 @@ PUBLIC sem_t *sem_open(const char *given, int oflag, ...)
 PUBLIC int sem_unlink(const char *given)
 {
     char room[SHORT_NAME];
-    return settings.address ? unlink_name(MQS_SEMAPHORES, one_slash(given, room)) : libc.sem_unlink(given);
+    return is_served() ? unlink_name(MQS_SEMAPHORES, one_slash(given, room)) : libc()->sem_unlink(given);
 }
 
 /* ---- What is done with one semaphore ---- */
@@ -129,7 +129,7 @@ PUBLIC int sem_close(sem_t *s)
 {
     struct object *o = named(s);
     struct entry e;
-    if (!o) return libc.sem_close(s);
+    if (!o) return libc()->sem_close(s);
     enter(&e);
     int r = o->references ? 0 : fail(EINVAL);
     if (r == 0) drop(o);
@@ -140,7 +140,7 @@ PUBLIC int sem_post(sem_t *s)
 {
     struct object *o = named(s);
     struct entry e;
-    if (!o) return libc.sem_post(s);
+    if (!o) return libc()->sem_post(s);
     int r = begin(o, &e);
     if (r == 0) r = mqs_sem_post(sides[HOME].connection, o->at[HOME]);
     return end(r, &e);
@@ -150,7 +150,7 @@ PUBLIC int sem_trywait(sem_t *s)
 {
     struct object *o = named(s);
     struct entry e;
-    if (!o) return libc.sem_trywait(s);
+    if (!o) return libc()->sem_trywait(s);
     int r = begin(o, &e);
     if (r == 0) r = mqs_sem_trywait(sides[HOME].connection, o->at[HOME]);
     return end(r, &e);
@@ -161,7 +161,7 @@ PUBLIC int sem_getvalue(sem_t *s, int *value)
     struct object *o = named(s);
     struct entry e;
     uint32_t got;
-    if (!o) return libc.sem_getvalue(s, value);
+    if (!o) return libc()->sem_getvalue(s, value);
     int r = begin(o, &e);
     if (r == 0) r = mqs_sem_getvalue(sides[HOME].connection, o->at[HOME], &got);
     if (r == 0) *value = (int)got;
@@ -185,13 +185,13 @@ static int has_nanoseconds(const struct timespec *until) { return until->tv_nsec
 PUBLIC int sem_wait(sem_t *s)
 {
     struct object *o = named(s);
-    return o ? wait_until(o, NULL) : libc.sem_wait(s);
+    return o ? wait_until(o, NULL) : libc()->sem_wait(s);
 }
 
 PUBLIC int sem_timedwait(sem_t *s, const struct timespec *until)
 {
     struct object *o = named(s);
-    if (!o) return libc.sem_timedwait(s, until);
+    if (!o) return libc()->sem_timedwait(s, until);
     return has_nanoseconds(until) ? wait_until(o, until) : fail(EINVAL);
 }
 
@@ -216,7 +216,7 @@ static struct timespec on_wall_clock(const struct timespec *until)
 PUBLIC int sem_clockwait(sem_t *s, clockid_t clock, const struct timespec *until)
 {
     struct object *o = named(s);
-    if (!o) return libc.sem_clockwait(s, clock, until);
+    if (!o) return libc()->sem_clockwait(s, clock, until);
     if ((clock != CLOCK_REALTIME && clock != CLOCK_MONOTONIC) || !has_nanoseconds(until)) return fail(EINVAL);
     struct timespec moment = clock == CLOCK_MONOTONIC ? on_wall_clock(until) : *until;
     return wait_until(o, &moment);

@@ -1,4 +1,4 @@
-/* settings.c: reads the environment when the library is loaded, and ends what must end with the process. */
+/* settings.c: reads the environment, and ends what must end with the process. */
 #include "preload.h"
 
 #include <errno.h>
@@ -62,9 +62,8 @@ static const char *find_key(const char *address)
     return line;
 }
 
-__attribute__((constructor)) static void begin(void)
+static void begin(void)
 {
-    find_libc();
     const char *address = getenv("MQSERVE");
     if (!address || !*address) return;
     settings.debug = getenv("MQSERVE_DEBUG") != NULL;
@@ -77,6 +76,20 @@ __attribute__((constructor)) static void begin(void)
     owner = getpid();
     if (watch_forks() == 0) settings.address = strdup(address);
     if (!settings.address) say("start", "no memory; the system's own calls stay");
+}
+
+int is_served(void)
+{
+    static pthread_once_t once = PTHREAD_ONCE_INIT;
+    pthread_once(&once, begin);
+    return settings.address != NULL;
+}
+
+/* By now at the latest, so that the first call may be made by the handler of a signal. */
+__attribute__((constructor)) static void begin_early(void)
+{
+    libc();
+    is_served();
 }
 
 __attribute__((destructor)) static void end(void)
