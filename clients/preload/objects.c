@@ -36,12 +36,20 @@ void for_each_named(int family, const char *name, void (*f)(struct object *o, vo
         if (semaphores[i].references && !strcmp(semaphores[i].name, name)) f(&semaphores[i], arg);
 }
 
-/* Has the object open in this session: opens it by its name where it isn't. */
+/* Whether it was open on a home that was lost. That home is let go by the next open: this may be asked in the handler of a signal. */
+static int is_lost(struct object *o)
+{
+    struct mqs *c = sides[HOME].connection;
+    o->lost |= c && mqs_lost(c) && o->at[HOME] != NO_DESCRIPTION;
+    return o->lost;
+}
+
+/* Has the object open in this session: opens it by its name where it isn't. One that was lost connects nothing anew. */
 int bring(struct object *o, int side)
 {
+    if (is_lost(o)) return fail(ECONNRESET);
     struct mqs *c = side == HOME ? home() : sides[side].connection;
     if (!c) return -1;
-    if (o->lost) return fail(ECONNRESET);
     if (o->at[side] != NO_DESCRIPTION) return 0;
     if (o->gone) return fail(EBADF);
     if (o->family == MQS_SEMAPHORES) return mqs_sem_open(c, o->name, 0, 0, 0, &o->at[side]);
