@@ -6,7 +6,7 @@
 #include <unistd.h>
 
 _Atomic pid_t owner;
-static struct entry forking;
+static struct entry forking;    /* that of the thread which forks: who has the lock */
 static int given;               /* the side that the child gets, or 0 */
 static int gone_there;          /* a count for the search of one */
 
@@ -24,15 +24,18 @@ static int side_to_give(void)
 
 static void before_fork(void)
 {
-    hold(&forking);
+    struct entry mine;   /* another thread may be forking yet */
+    hold(&mine);
+    forking = mine;
     given = side_to_give();
 }
 
 /* Closes the parent's copy of the socket; the session goes on in the child. */
 static void in_parent(void)
 {
+    struct entry mine = forking;
     if (given) end_side(given);
-    leave(&forking);
+    leave(&mine);
 }
 
 static void take_over(struct object *o, int side)
