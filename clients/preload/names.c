@@ -42,12 +42,21 @@ static int unlink_now(int family, const char *name)
     return family == MQS_QUEUES ? mqs_mq_unlink(c, name) : mqs_sem_unlink(c, name);
 }
 
+static void mark_gone(struct object *o, void *none)
+{
+    (void)none;
+    o->gone |= o->unlinked;
+}
+
 void end_kept(int family, const char *name)
 {
     struct kept **k = find_kept(family, name), *one = *k;
     if (!one) return;
     *k = one->next;
-    if (one->process == getpid()) unlink_now(family, name);
+    if (one->process == getpid()) {
+        unlink_now(family, name);
+        for_each_named(family, name, mark_gone, NULL);
+    }
     free(one);
 }
 
