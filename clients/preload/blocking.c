@@ -63,14 +63,24 @@ static int settle(struct blocked *b, int has_answer, int *why)
     return mqs_finish_stop(c);
 }
 
+/* A message is sent by home's description, or where that is for receives alone by one that is opened for it. */
+static void send_back(struct mqs *c, const struct job *j, ssize_t size)
+{
+    struct object *o = j->object;
+    uint64_t description = o->at[HOME];
+    int may_send = o->access & MQS_WRITE;
+    if (!may_send && (o->gone || mqs_mq_open(c, o->name, MQS_WRITE, MQS_NONBLOCK, 0, NULL, &description) < 0)) return;
+    if (mqs_start_send(c, description, j->data, (size_t)size, j->priority) == 0 && mqs_wait_bound(c) == 0) mqs_finish(c);
+    if (!may_send) mqs_mq_close(c, description);
+}
+
 /* What a call took in the moment in which it was cancelled is put back, a message behind others of its priority. */
 static void put_back(const struct job *j, ssize_t size)
 {
     if (j->operation == SENDS || bring(j->object, HOME) < 0) return;
     struct mqs *c = sides[HOME].connection;
-    uint64_t description = j->object->at[HOME];
-    if (j->operation == WAITS) mqs_sem_post(c, description);
-    else if (mqs_start_send(c, description, j->data, (size_t)size, j->priority) == 0 && mqs_wait_bound(c) == 0) mqs_finish(c);
+    if (j->operation == WAITS) mqs_sem_post(c, j->object->at[HOME]);
+    else send_back(c, j, size);
 }
 
 static void on_cancel(void *arg)

@@ -1,9 +1,12 @@
-"""relay.py: stands between clients and a server, notes the opcode of each request, and may make the server's clock seem to be another."""
+"""relay.py: stands between clients and a server, notes the opcode of each request, and may make the server's clock seem to be another, or
+have a send overtake an Interrupt."""
 import contextlib
 import socket
 import threading
 import time
 
+SEND, INTERRUPT, SENT = 6, 23, b"\0\0\0\1F"
+HELD_S = 10
 DEADLINE_AT = {26: 13, 27: 13, 28: 9}   # in the bodies of requests that have one
 
 
@@ -30,11 +33,13 @@ def own_address():
 
 
 class Relay:
-    """Passes on what comes to `address`, which is of `host`. `ahead`: by how many milliseconds the server's clock seems to be ahead. `late`:
-    by how many seconds answers come later, which may be changed meanwhile."""
+    """Passes on what comes to `address`, which is of `host`. `ahead`: by how many milliseconds the server's clock seems to be ahead.
+    `overtake`: a send waits for an Interrupt, and that waits until the send was answered. `late`: by how many seconds answers come later,
+    which may be changed meanwhile."""
 
-    def __init__(self, server, host="127.0.0.1", ahead=0):
-        self.server, self.ahead, self.late, self.requests, self.ends = server, ahead, 0.0, [], []
+    def __init__(self, server, host="127.0.0.1", ahead=0, overtake=False):
+        self.server, self.ahead, self.overtake, self.late, self.requests, self.ends = server, ahead, overtake, 0.0, [], []
+        self.interrupted, self.sent = threading.Event(), threading.Event()
         self.listener = socket.create_server((host, 0), backlog=128)
         self.address = "%s:%d" % self.listener.getsockname()
         threading.Thread(target=self.accept, daemon=True).start()
@@ -63,6 +68,8 @@ class Relay:
             if not body:
                 return
             self.requests.append(body[0])
+            if self.overtake:
+                self.hold(body[0])
             target.sendall(head + self.shifted(body))
 
     def shifted(self, body):
@@ -73,9 +80,18 @@ class Relay:
         deadline = int.from_bytes(body[at:at + 8], "big") - self.ahead
         return body[:at] + min(max(deadline, 0), (1 << 64) - 1).to_bytes(8, "big") + body[at + 8:]
 
+    def hold(self, opcode):
+        if opcode == SEND:
+            self.interrupted.wait(HELD_S)
+        if opcode == INTERRUPT:
+            self.interrupted.set()
+            self.sent.wait(HELD_S)
+
     def pass_answers(self, source, target):
         piece = source.recv(65536)
         while piece:
+            if SENT in piece:
+                self.sent.set()
             if self.late:
                 time.sleep(self.late)
             target.sendall(piece)
