@@ -97,6 +97,7 @@ static void on_cancel(void *arg)
         free_side(b->side);
     }
     if (b->timer >= 0) close(b->timer);
+    b->job->object->calls--;
     drop(b->job->object);
     leave(&e);
 }
@@ -246,7 +247,9 @@ ssize_t perform(struct job *j, const struct timespec *until, struct entry *e)
         side = side_for(o);
     }
     o->references++;
+    o->calls++;
     ssize_t r = block(j, side, until, e);
+    o->calls--;
     drop(o);
     return r;
 }

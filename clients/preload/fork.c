@@ -38,6 +38,15 @@ static void in_parent(void)
     leave(&mine);
 }
 
+/* Only the thread that forked is there: the calls of others aren't this process's, and what they alone had is closed. */
+static void end_calls(struct object *o)
+{
+    if (!o->calls) return;
+    o->references -= o->calls - 1;
+    o->calls = 0;
+    drop(o);
+}
+
 static void take_over(struct object *o, int side)
 {
     uint64_t description = side == HOME ? NO_DESCRIPTION : o->at[side];
@@ -45,9 +54,10 @@ static void take_over(struct object *o, int side)
     o->at[HOME] = description;
     end_registration(o);
     if (o->family == MQS_QUEUES && description != NO_DESCRIPTION) mqs_mq_setattr(sides[HOME].connection, description, 1, NULL);
+    end_calls(o);
 }
 
-/* Only the thread that forked is there. What others had begun on sides isn't this process's. */
+/* What other threads had begun on sides isn't this process's. */
 static void begin_anew(int side)
 {
     struct mqs *mine = side == HOME ? NULL : sides[side].connection;

@@ -90,7 +90,7 @@ struct object {
     int unlinked;               /* by this process: an open of the name gives another object */
     int gone;                   /* the name can't be used to open this object again */
     int lost;                   /* it was open on a home that was lost */
-    unsigned references;        /* opens, and calls that block */
+    unsigned references, calls; /* opens, and calls that block; how many of these are calls */
     uint64_t at[SIDES];         /* its description in each session */
     int fd;                     /* a queue's number */
     int registered;

@@ -46,6 +46,70 @@ static void one_open_description(void)
     SHOW(sem_trywait(s));
 }
 
+static void *receive_once(void *arg)
+{
+    char taken[16];
+    return mq_receive(q, taken, sizeof taken, NULL) == 3 ? arg : NULL;
+}
+
+static void *wait_once(void *arg) { return sem_wait(arg) == 0 ? arg : NULL; }
+
+static void give_turn(int to[2])
+{
+    if (write(to[1], "", 1) != 1) exit(2);
+}
+
+static void await_turn(int from[2])
+{
+    char byte;
+    if (read(from[0], &byte, 1) != 1) exit(2);
+}
+
+static void close_and_open(sem_t *old, int parent[2], int child[2])
+{
+    struct sigevent none = { .sigev_notify = SIGEV_NONE };
+    int value;
+    sem_t *again;
+    SHOW(mq_notify(q, &none));
+    SHOW(sem_getvalue(old, &value));
+    SHOW(mq_close(q) | sem_close(old));
+    give_turn(parent);
+    await_turn(child);
+    SHOW_SEM(again, sem_open("/forks3", 0));
+    SHOW(sem_getvalue(again, &value));
+    say("value", value);
+    _exit(0);
+}
+
+/* Threads wait in the parent. What the child closes is closed there all the same, and the registration with it. */
+static void closed_in_child(void)
+{
+    int parent[2], child[2];
+    struct sigevent none = { .sigev_notify = SIGEV_NONE };
+    sem_t *old = new_semaphore("/forks3", 0), *new;
+    pthread_t receiver, waiter;
+    void *is_served;
+    if (pipe(parent) < 0 || pipe(child) < 0) exit(2);
+    pthread_create(&receiver, NULL, receive_once, old);
+    pthread_create(&waiter, NULL, wait_once, old);
+    pause_ms(200);
+    fflush(stdout);
+    if (fork() == 0) close_and_open(old, parent, child);
+    await_turn(parent);
+    SHOW(mq_notify(q, &none));
+    SHOW(mq_notify(q, NULL));
+    SHOW(sem_unlink("/forks3"));
+    SHOW_SEM(new, sem_open("/forks3", O_CREAT | O_EXCL, 0600, 5));
+    give_turn(child);
+    say("child", end_of_child());
+    SHOW(mq_send(q, "xyz", 3, 0) | sem_post(old));
+    pthread_join(receiver, &is_served);
+    say("received", is_served == old);
+    pthread_join(waiter, &is_served);
+    say("posted", is_served == old);
+    SHOW(sem_close(old) | sem_close(new) | sem_unlink("/forks3"));
+}
+
 /* exec closes queues; the mqd_t is no file there. */
 static void after_exec(char *self)
 {
@@ -93,6 +157,7 @@ int main(int argc, char **argv)
     children_use_all();
     in_turn();
     one_open_description();
+    closed_in_child();
     after_exec(argv[0]);
     grandchild();
     after_unlink();
