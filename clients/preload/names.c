@@ -6,6 +6,7 @@
 #include <fcntl.h>
 #include <stdlib.h>
 #include <string.h>
+#include <sys/stat.h>
 #include <unistd.h>
 
 struct kept { struct kept *next; int family; pid_t process; char name[NAME_ROOM]; };
@@ -87,7 +88,15 @@ int unlink_name(int family, const char *name)
     return r;
 }
 
-/* The mode without the bits of the program's mask. No call tells the mask without changing it for other threads too. */
+/* No call tells the mask without changing it. What other threads create in that moment is theirs alone. */
+static unsigned umask_by_changing(void)
+{
+    mode_t mask = umask(077);
+    umask(mask);
+    return mask;
+}
+
+/* The mode without the bits of the program's mask. That file can't be read without /proc, nor where no further file can be opened. */
 unsigned mode_under_umask(unsigned mode)
 {
     char text[4096];
@@ -95,8 +104,8 @@ unsigned mode_under_umask(unsigned mode)
     ssize_t size = fd < 0 ? -1 : read(fd, text, sizeof text - 1);
     if (fd >= 0) close(fd);
     text[size < 0 ? 0 : size] = 0;
-    const char *at = strstr(text, "Umask:");
-    return mode & 0777 & ~(at ? (unsigned)strtoul(at + 6, NULL, 8) : 022u);
+    const char *at = strstr(text, "\nUmask:");
+    return mode & 0777 & ~(at ? (unsigned)strtoul(at + 7, NULL, 8) : umask_by_changing());
 }
 
 int open_flags(int oflag)
