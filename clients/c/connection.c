@@ -120,9 +120,12 @@ int mqsi_write(struct mqs *c, struct request *r, deadline end)
     for (int i = 0; i < 4; i++) r->head[i] = (uint8_t)(body >> (24 - 8 * i));
     struct iovec parts[3] = { { r->head, r->head_size }, { (void *)(uintptr_t)r->data, r->size }, { r->tail, r->tail_size } };
     struct msghdr message = { .msg_iov = parts, .msg_iovlen = 3 };
+    int has_begun = 0;
     while (message.msg_iovlen > 0) {
         ssize_t n = sendmsg(c->fd, &message, MSG_NOSIGNAL | MSG_DONTWAIT);
+        has_begun |= n > 0;
         if (n >= 0) advance(&message, (size_t)n);
+        else if (errno == EFAULT && !has_begun) return -1;   /* nothing went out: the connection is as it was */
         else if (errno == EAGAIN || errno == EWOULDBLOCK) {
             if (await(c, POLLOUT, end) < 0) return -1;
         } else if (errno != EINTR) return mqsi_lose(c, ECONNRESET);

@@ -108,7 +108,8 @@ int mqs_mq_close(struct mqs *c, uint64_t description);                       /* 
 int mqs_mq_unlink(struct mqs *c, const char *name);                          /* rules 4, 5, 11, 13, 16, 17 */
 
 /* Sends. Blocks while the queue is full, unless the description has NONBLOCK. Errors: EMSGSIZE (more bytes than a request has room for:
- * 16,777,279 with a moment that the server gets, else 16,777,287), EINVAL (until), EINTR, ETIMEDOUT, rules 8, 9, 25, 26, 29, 32. */
+ * 16,777,279 with a moment that the server gets, else 16,777,287), EFAULT (data isn't the process's memory; where a part of it is, the
+ * connection may be lost), EINVAL (until), EINTR, ETIMEDOUT, rules 8, 9, 25, 26, 29, 32. */
 int mqs_mq_send(struct mqs *c, uint64_t description, const void *data, size_t size, uint32_t priority,
                 const struct timespec *until);
 

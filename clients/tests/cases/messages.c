@@ -67,6 +67,24 @@ static void nonblock(void)
     SHOW(mq_unlink("/nonblock"));
 }
 
+/* A message that isn't the process's memory is refused, and nothing else comes of it. */
+static void bad_pointer(void)
+{
+    const char *volatile nowhere = (const char *)16;
+    struct timespec soon = in_ms(5000);
+    mqd_t q = new_queue("/messages", 2, 16);
+    sem_t *s = new_semaphore("/messages", 0);
+    SHOW(mq_send(q, nowhere, 8, 0));
+    SHOW(mq_timedsend(q, nowhere, 8, 0, &soon));
+    SHOW(mq_send(q, "x", 1, 0));
+    SHOW(mq_timedsend(q, "y", 1, 0, &soon));
+    show_received(q);
+    show_received(q);
+    SHOW(sem_post(s));
+    SHOW(sem_close(s) | sem_unlink("/messages"));
+    SHOW(mq_close(q) | mq_unlink("/messages"));
+}
+
 /* The greatest messages and queues that a user without privileges may have by default, and one more. */
 static void limits(void)
 {
@@ -103,6 +121,7 @@ int main(void)
     order();
     access_of_descriptors();
     nonblock();
+    bad_pointer();
     limits();
     return 0;
 }
