@@ -195,6 +195,7 @@ ssize_t mqs_finish_receive(struct mqs *c, void *data, size_t size, uint32_t *pri
     if (got >= PRIORITIES || message > size) return mqsi_lose(c, EPROTO);
     if (priority) *priority = (uint32_t)got;
     if (message > 0) memcpy(data, a.fields + 4, message);
+    mqsi_give_back_room(c);
     return (ssize_t)message;
 }
 

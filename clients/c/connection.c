@@ -206,23 +206,39 @@ int mqsi_front(struct mqs *c)
     }
 }
 
-/* Gives the buffer room for the frame in front, as its bytes come: never more than twice what is there. */
-static int make_room(struct mqs *c)
+static void move_to_front(struct mqs *c)
 {
-    size_t want = frame_size(c), there = have(c);
+    size_t there = have(c);
     if (c->from > 0) memmove(c->in, head(c), there);
     c->from = 0;
     c->to = there;
-    size_t capacity = c->capacity;
-    if (there == 0 && capacity > KEPT_CAPACITY) capacity = FIRST_CAPACITY;
-    if (there == capacity) capacity = 2 * capacity < want ? 2 * capacity : want;
-    if (capacity == 0) capacity = FIRST_CAPACITY;
-    if (capacity == c->capacity) return 0;
-    uint8_t *grown = realloc(c->in, capacity);
-    if (!grown) return mqsi_lose(c, ENOMEM);
-    c->in = grown;
+}
+
+static int resize(struct mqs *c, size_t capacity)
+{
+    uint8_t *in = realloc(c->in, capacity);
+    if (!in) return -1;
+    c->in = in;
     c->capacity = capacity;
     return 0;
+}
+
+/* Gives the buffer room for the frame in front, as its bytes come: never more than twice what is there. */
+static int make_room(struct mqs *c)
+{
+    size_t want = frame_size(c), capacity = c->capacity;
+    move_to_front(c);
+    if (c->to == capacity) capacity = 2 * capacity < want ? 2 * capacity : want;
+    if (capacity == 0) capacity = FIRST_CAPACITY;
+    return capacity == c->capacity || resize(c, capacity) == 0 ? 0 : mqsi_lose(c, ENOMEM);
+}
+
+/* Gives back the room of a big message that was taken. The next call doesn't, since that may be made by the handler of a signal. */
+void mqsi_give_back_room(struct mqs *c)
+{
+    if (c->capacity <= KEPT_CAPACITY || have(c) > FIRST_CAPACITY) return;
+    move_to_front(c);
+    resize(c, FIRST_CAPACITY);
 }
 
 /* Reads what is there. 1: bytes came. 0: none are there. -1. Call it only where mqsi_front gave 0. */

@@ -72,6 +72,7 @@ int mqsi_write(struct mqs *c, struct request *r, deadline end);
 int mqsi_front(struct mqs *c);
 int mqsi_fill(struct mqs *c);
 int mqsi_await_front(struct mqs *c, deadline end);
+void mqsi_give_back_room(struct mqs *c);
 int mqsi_take(struct mqs *c, struct answer *a, enum answer_op op);
 int mqsi_ask(struct mqs *c, struct request *r, struct answer *a, enum answer_op op);
 int mqsi_ask_done(struct mqs *c, struct request *r);

@@ -1,5 +1,6 @@
 /* entry.c: one lock for all that this library keeps. While a thread has it, no handler of a signal and no cancellation runs in
- * that thread. So a handler may call sem_post, as POSIX promises, and nothing is left half done. */
+ * that thread. So a handler may call sem_post, as POSIX promises, and nothing is left half done; but a child of fork connects at
+ * its first call, which uses the heap. */
 #include "preload.h"
 
 #include <errno.h>

@@ -219,6 +219,42 @@ static void full_socket(void)
     end(c);
 }
 
+struct piece { const uint8_t *bytes; size_t size; };
+
+static void *write_all(void *arg)
+{
+    const struct piece *p = arg;
+    for (size_t at = 0; at < p->size;) {
+        ssize_t n = write(server, p->bytes + at, p->size - at);
+        if (n <= 0) abort();
+        at += (size_t)n;
+    }
+    return NULL;
+}
+
+/* The room of a big message goes with the call that took it. The next call changes nothing of the heap: it may be that of a signal's handler. */
+static void room_of_a_big_message(void)
+{
+    enum { BIG = 3000000 };
+    static uint8_t frame[9 + BIG], data[BIG];
+    uint32_t body = 5 + BIG;
+    for (int i = 0; i < 4; i++) frame[i] = (uint8_t)(body >> (24 - 8 * i));
+    frame[4] = RECEIVED;
+    struct piece piece = { frame, sizeof frame };
+    pthread_t thread;
+    struct mqs *c = fresh();
+    mqs_set_bound(c, LONG_MS);
+    pthread_create(&thread, NULL, write_all, &piece);
+    CHECK(mqs_mq_receive(c, 1, data, sizeof data, NULL, NULL) == BIG);
+    pthread_join(thread, NULL);
+    const uint8_t *in = c->in;
+    size_t capacity = c->capacity;
+    CHECK(capacity < BIG);
+    put(honest[CLOSE].bytes, honest[CLOSE].size);
+    CHECK(call(c, CLOSE) == 0 && c->in == in && c->capacity == capacity);
+    end(c);
+}
+
 /* ---- Interrupts ---- */
 
 static const uint8_t interrupted[] = { 0, 0, 0, 1, INTERRUPTED, 0, 0, 0, 1, DONE }, refused_3[] = { 0, 0, 0, 3, REFUSED, 0, 3 };
@@ -336,6 +372,7 @@ int main(void)
     floods();
     unread();
     full_socket();
+    room_of_a_big_message();
     interrupts();
     hellos();
     paths();
