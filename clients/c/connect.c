@@ -203,6 +203,13 @@ static int is_peer_here(int fd)
     return getpeername(fd, (struct sockaddr *)&peer, &size) == 0 && mqsi_is_here((const struct sockaddr *)&peer);
 }
 
+/* A wait for an answer is a recv. */
+static void make_it_block(int fd)
+{
+    int flags = fcntl(fd, F_GETFL);
+    if (flags >= 0 && (flags & O_NONBLOCK)) fcntl(fd, F_SETFL, flags & ~O_NONBLOCK);
+}
+
 struct mqs *mqs_attach(int fd, const char *key, int answer_ms)
 {
     struct mqs *c = calloc(1, sizeof *c);
@@ -214,6 +221,7 @@ struct mqs *mqs_attach(int fd, const char *key, int answer_ms)
     c->fd = fd;
     c->bound_ms = answer_ms;
     c->shares_clock = is_peer_here(fd);
+    make_it_block(fd);
     int one = 1;
     setsockopt(fd, IPPROTO_TCP, TCP_NODELAY, &one, sizeof one);   /* fails where it isn't TCP, which is no matter */
     if (start(c, key) == 0) return c;

@@ -57,8 +57,8 @@ struct mqs;
  * ETIMEDOUT (no answer to the hello: all workers of the server are busy, or this is no server). */
 struct mqs *mqs_connect(const char *address, const char *key, int answer_ms);
 
-/* The same over a connected stream socket, which then belongs to the connection; where the call fails it is closed. Without a key (NULL)
- * no hello is sent, and the server's `started` is waited for, as at a socket of a user's own. */
+/* The same over a connected stream socket, which then belongs to the connection, and loses O_NONBLOCK; where the call fails it is closed.
+ * Without a key (NULL) no hello is sent, and the server's `started` is waited for, as at a socket of a user's own. */
 struct mqs *mqs_attach(int fd, const char *key, int answer_ms);
 
 /* Ends the session: the server withdraws its call that blocks and closes all that it had open. NULL does nothing. */

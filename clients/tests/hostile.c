@@ -219,6 +219,26 @@ static void full_socket(void)
     end(c);
 }
 
+/* A socket with O_NONBLOCK: a call that waits without an end sleeps on it all the same. */
+static void socket_that_does_not_block(void)
+{
+    struct later l = { honest[RECEIVE].bytes, honest[RECEIVE].size, 500 };
+    int ends[2];
+    char data[8];
+    pthread_t thread;
+    if (socketpair(AF_UNIX, SOCK_STREAM | SOCK_NONBLOCK, 0, ends) < 0) abort();
+    server = ends[1];
+    put(started, sizeof started);
+    struct mqs *c = mqs_attach(ends[0], "key", LONG_MS);
+    if (!c) abort();
+    pthread_create(&thread, NULL, answer_later, &l);
+    clock_t before = clock();
+    CHECK(mqs_mq_receive(c, 1, data, sizeof data, NULL, NULL) == 3);
+    CHECK(clock() - before < CLOCKS_PER_SEC / 10);
+    pthread_join(thread, NULL);
+    end(c);
+}
+
 struct piece { const uint8_t *bytes; size_t size; };
 
 static void *write_all(void *arg)
@@ -372,6 +392,7 @@ int main(void)
     floods();
     unread();
     full_socket();
+    socket_that_does_not_block();
     room_of_a_big_message();
     interrupts();
     hellos();
