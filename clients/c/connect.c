@@ -118,12 +118,11 @@ static struct timespec end_of(int bound_ms)
 }
 
 /* Where many connections wait already, a connect to a path waits as long as a send may. */
-static int connect_within(int fd, const struct sockaddr_un *at, int bound_ms)
+static int connect_within(int fd, const struct sockaddr_un *at, int bound_ms, const struct timespec *end)
 {
-    struct timespec end = end_of(bound_ms);
     struct timeval unbounded = { 0, 0 };
     for (;;) {
-        int64_t left = bound_ms > 0 ? ms_left(&end) : 0;
+        int64_t left = bound_ms > 0 ? ms_left(end) : 0;
         if (bound_ms > 0 && left <= 0) return mqsi_fail(ETIMEDOUT);
         struct timeval bound = { left / 1000, left % 1000 * 1000 };
         setsockopt(fd, SOL_SOCKET, SO_SNDTIMEO, &bound, sizeof bound);
@@ -135,36 +134,38 @@ static int connect_within(int fd, const struct sockaddr_un *at, int bound_ms)
     }
 }
 
-static int dial_path(const char *path, int bound_ms)
+static int dial_path(const char *path, int bound_ms, struct timespec *end)
 {
     struct sockaddr_un at = { .sun_family = AF_UNIX };
     size_t size = strlen(path);
     if (size == 0 || size >= sizeof at.sun_path) return mqsi_fail(EINVAL);
     memcpy(at.sun_path, path, size);
     int fd = socket(AF_UNIX, SOCK_STREAM | SOCK_CLOEXEC, 0);
-    if (fd < 0 || connect_within(fd, &at, bound_ms) == 0) return fd;
+    *end = end_of(bound_ms);
+    if (fd < 0 || connect_within(fd, &at, bound_ms, end) == 0) return fd;
     close_quietly(fd);
     return -1;
 }
 
-static int dial_own(const char *place, int bound_ms)
+static int dial_own(const char *place, int bound_ms, struct timespec *end)
 {
     char path[sizeof ((struct sockaddr_un *)NULL)->sun_path];
-    return find_own(place, path, sizeof path) < 0 ? -1 : dial_path(path, bound_ms);
+    return find_own(place, path, sizeof path) < 0 ? -1 : dial_path(path, bound_ms, end);
 }
 
-static int dial(const char *address, int bound_ms)
+/* The bound begins behind the look-up of a name, and `end` is when it ends. */
+static int dial(const char *address, int bound_ms, struct timespec *end)
 {
     struct place place;
     const char *own = behind_unix_user(address);
-    if (own) return dial_own(own, bound_ms);
-    if (!strncmp(address, "unix:", 5)) return dial_path(address + 5, bound_ms);
+    if (own) return dial_own(own, bound_ms, end);
+    if (!strncmp(address, "unix:", 5)) return dial_path(address + 5, bound_ms, end);
     if (split(address, &place) < 0) return -1;
     struct addrinfo hints = { .ai_socktype = SOCK_STREAM }, *all;
     if (getaddrinfo(place.host, place.port, &hints, &all) != 0) return mqsi_fail(EINVAL);
-    struct timespec end = end_of(bound_ms);
+    *end = end_of(bound_ms);
     int fd = -1;
-    for (struct addrinfo *one = all; one && fd < 0; one = one->ai_next) fd = connect_to(one, bound_ms, &end);
+    for (struct addrinfo *one = all; one && fd < 0; one = one->ai_next) fd = connect_to(one, bound_ms, end);
     int error = errno;
     freeaddrinfo(all);
     errno = error;
@@ -210,7 +211,7 @@ static void make_it_block(int fd)
     if (flags >= 0 && (flags & O_NONBLOCK)) fcntl(fd, F_SETFL, flags & ~O_NONBLOCK);
 }
 
-struct mqs *mqs_attach(int fd, const char *key, int answer_ms)
+static struct mqs *attach(int fd, const char *key, int answer_ms, int hello_ms)
 {
     struct mqs *c = calloc(1, sizeof *c);
     if (!c) {
@@ -219,17 +220,22 @@ struct mqs *mqs_attach(int fd, const char *key, int answer_ms)
         return NULL;
     }
     c->fd = fd;
-    c->bound_ms = answer_ms;
+    c->bound_ms = hello_ms;
     c->shares_clock = is_peer_here(fd);
     make_it_block(fd);
     int one = 1;
     setsockopt(fd, IPPROTO_TCP, TCP_NODELAY, &one, sizeof one);   /* fails where it isn't TCP, which is no matter */
-    if (start(c, key) == 0) return c;
+    if (start(c, key) == 0) {
+        c->bound_ms = answer_ms;
+        return c;
+    }
     int error = errno;
     mqs_disconnect(c);
     errno = error;
     return NULL;
 }
+
+struct mqs *mqs_attach(int fd, const char *key, int answer_ms) { return attach(fd, key, answer_ms, answer_ms); }
 
 struct mqs *mqs_connect(const char *address, const char *key, int answer_ms)
 {
@@ -238,8 +244,11 @@ struct mqs *mqs_connect(const char *address, const char *key, int answer_ms)
         errno = EINVAL;
         return NULL;
     }
-    int fd = dial(address, answer_ms);
-    return fd < 0 ? NULL : mqs_attach(fd, key, answer_ms);
+    struct timespec end;
+    int fd = dial(address, answer_ms, &end);
+    if (fd < 0) return NULL;
+    int64_t left = answer_ms > 0 ? ms_left(&end) : 0;
+    return attach(fd, key, answer_ms, answer_ms > 0 && left <= 0 ? 1 : (int)left);
 }
 
 void mqs_disconnect(struct mqs *c)

@@ -345,21 +345,62 @@ static int refuses(const char *address, int error)
     return !mqs_connect(address, "key", BOUND_MS) && errno == error;
 }
 
-/* A socket on which nobody accepts: connections wait there until there are too many. */
-static void crowd(const char *address, const struct sockaddr_un *at)
+/* Fills the listener's queue, so that a further connect waits. */
+static int full_listener(const struct sockaddr_un *at, int waiting[4])
 {
-    int listener = socket(AF_UNIX, SOCK_STREAM, 0), waiting[4];
-    double start = seconds();
-    CHECK(bind(listener, (const struct sockaddr *)at, sizeof *at) == 0 && refuses(address, ECONNREFUSED));
-    CHECK(listen(listener, 1) == 0);
+    int listener = socket(AF_UNIX, SOCK_STREAM, 0);
+    if (bind(listener, (const struct sockaddr *)at, sizeof *at) < 0 || listen(listener, 1) < 0) abort();
     for (int i = 0; i < 4; i++) {
         waiting[i] = socket(AF_UNIX, SOCK_STREAM | SOCK_NONBLOCK, 0);
         connect(waiting[i], (const struct sockaddr *)at, sizeof *at);
     }
+    return listener;
+}
+
+/* A socket on which nobody accepts: connections wait there until there are too many. */
+static void crowd(const char *address, const struct sockaddr_un *at)
+{
+    int unheard = socket(AF_UNIX, SOCK_STREAM, 0), waiting[4];
+    double start = seconds();
+    CHECK(bind(unheard, (const struct sockaddr *)at, sizeof *at) == 0 && refuses(address, ECONNREFUSED));
+    close(unheard);
+    unlink(at->sun_path);
+    int listener = full_listener(at, waiting);
     CHECK(refuses(address, ETIMEDOUT) && seconds() - start < BOUND_MS / 1e3 + LATE_S);
     for (int i = 0; i < 4; i++) close(waiting[i]);
     close(listener);
     CHECK(refuses(address, ECONNREFUSED));
+    unlink(at->sun_path);
+}
+
+enum { CONNECT_MS = 1000, ACCEPTED_MS = 800, STARTED_MS = 900 };   /* the last after the one before */
+
+static void *serve_late(void *arg)
+{
+    int ends[4], count = 0;
+    struct pollfd p = { *(int *)arg, POLLIN, 0 };
+    usleep(ACCEPTED_MS * 1000);
+    while (count < 4 && poll(&p, 1, 100) > 0) ends[count++] = accept(p.fd, NULL, NULL);
+    usleep((STARTED_MS - 100) * 1000);
+    for (int i = 0; i < count; i++) {
+        send(ends[i], started, sizeof started, MSG_NOSIGNAL);
+        close(ends[i]);
+    }
+    return NULL;
+}
+
+/* Connecting takes the most of the bound, and the answer to the hello too: the bound is that of both. */
+static void slow_twice(const char *address, const struct sockaddr_un *at)
+{
+    int waiting[4], listener = full_listener(at, waiting);
+    pthread_t thread;
+    pthread_create(&thread, NULL, serve_late, &listener);
+    struct mqs *c = mqs_connect(address, "key", CONNECT_MS);
+    CHECK(!c && errno == ETIMEDOUT);
+    mqs_disconnect(c);
+    pthread_join(thread, NULL);
+    for (int i = 0; i < 4; i++) close(waiting[i]);
+    close(listener);
     unlink(at->sun_path);
 }
 
@@ -371,6 +412,7 @@ static void paths(void)
     snprintf(address, sizeof address, "unix:%s", at.sun_path);
     CHECK(refuses(address, ECONNREFUSED));
     crowd(address, &at);
+    slow_twice(address, &at);
     CHECK(refuses("unix:", EINVAL));
     CHECK(refuses("unix:/", ECONNREFUSED));
     memset(address + 5, 'x', 107);
