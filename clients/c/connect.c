@@ -56,7 +56,8 @@ static int find_own(const char *place, char *path, size_t room)
     char text[4096];
     struct passwd entry, *user;
     int error = getpwuid_r(getuid(), &entry, text, sizeof text, &user);
-    if (error) return mqsi_fail(error);
+    if (error == ENOENT || error == ESRCH) user = NULL;   /* no file of users, or no entry, as C libraries also say it */
+    else if (error) return mqsi_fail(error);
     if (!user) return mqsi_fail(ENXIO);
     return snprintf(path, room, "%s/%s", place, user->pw_name) < (int)room ? 0 : mqsi_fail(EINVAL);
 }

@@ -3,6 +3,7 @@
 #include "pair.h"
 
 #include <poll.h>
+#include <pwd.h>
 #include <sys/un.h>
 
 /* ---- One answer to one call ---- */
@@ -404,6 +405,27 @@ static void slow_twice(const char *address, const struct sockaddr_un *at)
     unlink(at->sun_path);
 }
 
+/* The user's entry, which isn't there, as the C library tells it in several ways. */
+static int passwd_error;
+
+int getpwuid_r(uid_t user, struct passwd *entry, char *text, size_t size, struct passwd **found)
+{
+    (void)user, (void)entry, (void)text, (void)size;
+    *found = NULL;
+    return passwd_error;
+}
+
+static void no_entry(void)
+{
+    CHECK(refuses("unix-user:/tmp", ENXIO));
+    passwd_error = ENOENT;
+    CHECK(refuses("unix-user:/tmp", ENXIO));
+    passwd_error = ESRCH;
+    CHECK(refuses("unix-user:/tmp", ENXIO));
+    passwd_error = EIO;
+    CHECK(refuses("unix-user:/tmp", EIO));
+}
+
 static void paths(void)
 {
     char address[200];
@@ -413,6 +435,7 @@ static void paths(void)
     CHECK(refuses(address, ECONNREFUSED));
     crowd(address, &at);
     slow_twice(address, &at);
+    no_entry();
     CHECK(refuses("unix:", EINVAL));
     CHECK(refuses("unix:/", ECONNREFUSED));
     memset(address + 5, 'x', 107);
