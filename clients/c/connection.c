@@ -4,6 +4,7 @@
 #include <errno.h>
 #include <limits.h>
 #include <poll.h>
+#include <pthread.h>
 #include <stdlib.h>
 #include <string.h>
 #include <sys/socket.h>
@@ -241,12 +242,23 @@ void mqsi_give_back_room(struct mqs *c)
     resize(c, FIRST_CAPACITY);
 }
 
+/* No cancellation ends a recv that has taken bytes: in the GNU C library before 2.41 they would be gone (its bug 12683). The waits before it
+ * can be cancelled. */
+static ssize_t take_bytes(struct mqs *c)
+{
+    int state;
+    pthread_setcancelstate(PTHREAD_CANCEL_DISABLE, &state);
+    ssize_t n = recv(c->fd, c->in + c->to, c->capacity - c->to, MSG_DONTWAIT);
+    pthread_setcancelstate(state, &state);
+    return n;
+}
+
 /* Reads what is there. 1: bytes came. 0: none are there. -1. Call it only where mqsi_front gave 0. */
 int mqsi_fill(struct mqs *c)
 {
     if (make_room(c) < 0) return -1;
     for (;;) {
-        ssize_t n = recv(c->fd, c->in + c->to, c->capacity - c->to, MSG_DONTWAIT);
+        ssize_t n = take_bytes(c);
         if (n > 0) {
             c->to += (size_t)n;
             return 1;
