@@ -79,6 +79,8 @@ static void nobody_there(mqd_t q)
 {
     struct timespec until = in_ms(10000);
     unlink(strchr(getenv("MQSERVE"), ':') + 1);
+    if (fork() == 0) _exit(SHOW(mq_send(q, "x", 1, 0)) == 0);   /* a child connects */
+    say("child", end_of_child());
     shutdown(256, SHUT_RDWR);
     SHOW(mq_send(q, "x", 1, 0));
     post_in_handler();
