@@ -300,19 +300,15 @@ class Handlers(Relayed):
         self.relay.requests.clear()
 
     def amid(self, call, handler, *words):
-        """Makes the call, and runs the handler in it."""
+        """Makes the call, and runs the handler while its answer is held back."""
         signal.signal(signal.SIGALRM, lambda *_: handler())
-        self.relay.late = 0.2
-        signal.setitimer(signal.ITIMER_REAL, 0.1)
-        try:
-            return call(*words)
-        finally:
-            self.relay.late = 0.0
+        self.relay.holding.append(lambda: os.kill(os.getpid(), signal.SIGALRM))
+        return call(*words)
 
     def test_raises(self):
         def stop():
-            raise TimeoutError
-        self.assertRaises(TimeoutError, self.amid, self.sem.release, stop)
+            raise KeyboardInterrupt
+        self.assertRaises(KeyboardInterrupt, self.amid, self.sem.release, stop)
         for _ in range(2):
             self.assertRaises(ipc.ConnectionLost, self.sem.acquire, 0)
         again = self.keep(ipc.Semaphore(self.sem.name))
@@ -349,9 +345,7 @@ class Handlers(Relayed):
     def test_within_a_handler(self):
         """A handler amid a call of a handler amid a call has no connection left."""
         def once_more():
-            signal.signal(signal.SIGALRM, lambda *_: got.append(rule_of(self, self.sem.release)))
-            signal.setitimer(signal.ITIMER_REAL, 0.1)
-            self.sem.release()
+            self.amid(self.sem.release, lambda: got.append(rule_of(self, self.sem.release)))
         got = []
         self.amid(self.sem.release, self.sem.release)       # the further connection is there
         self.amid(self.sem.release, once_more)

@@ -6,7 +6,7 @@ import threading
 import time
 
 SEND, INTERRUPT, SENT = 6, 23, b"\0\0\0\1F"
-HELD_S = 10
+HELD_S, HELD_BACK_S = 10, 0.3
 DEADLINE_AT = {26: 13, 27: 13, 28: 9}   # in the bodies of requests that have one
 
 
@@ -34,11 +34,11 @@ def own_address():
 
 class Relay:
     """Passes on what comes to `address`, which is of `host`. `ahead`: by how many milliseconds the server's clock seems to be ahead.
-    `overtake`: a send waits for an Interrupt, and that waits until the send was answered. `late`: by how many seconds answers come later,
-    which may be changed meanwhile."""
+    `overtake`: a send waits for an Interrupt, and that waits until the send was answered. `holding`: calls, of which each is made as an
+    answer comes that is held back then."""
 
     def __init__(self, server, host="127.0.0.1", ahead=0, overtake=False):
-        self.server, self.ahead, self.overtake, self.late, self.requests, self.ends = server, ahead, overtake, 0.0, [], []
+        self.server, self.ahead, self.overtake, self.holding, self.requests, self.ends = server, ahead, overtake, [], [], []
         self.interrupted, self.sent = threading.Event(), threading.Event()
         self.listener = socket.create_server((host, 0), backlog=128)
         self.address = "%s:%d" % self.listener.getsockname()
@@ -92,8 +92,9 @@ class Relay:
         while piece:
             if SENT in piece:
                 self.sent.set()
-            if self.late:
-                time.sleep(self.late)
+            if self.holding:
+                self.holding.pop(0)()
+                time.sleep(HELD_BACK_S)
             target.sendall(piece)
             piece = source.recv(65536)
 
