@@ -23,6 +23,7 @@ enum {
 };
 
 static const char infix[] = ".job-";
+static const uint64_t over = UINT64_MAX;    /* in place of a job's description */
 
 /* Names of jobs, each with a zero byte behind it, in one block. */
 struct names { const struct mqs_jobs *pool; char *at; size_t count, capacity; int has_no_memory; };
@@ -165,15 +166,20 @@ static int list_names(struct mqs_jobs *pool, struct names *names)
 /* ---- Claims ---- */
 
 /* Opens a job's queue and registers for its notice, which is the claim: 1. 0: somebody else has it, or it is in neither of these modes,
- * another user's, or gone. */
-static int hold(struct mqs_jobs *pool, const char *name, int access, enum mode one, enum mode other, struct held *held)
+ * another user's, or gone; or it has more copies than `most`, which is seen before: a worker finds it free meanwhile. */
+static int hold(struct mqs_jobs *pool, const char *name, int access, enum mode one, enum mode other, uint32_t most, struct held *held)
 {
     struct mqs_facts facts;
-    struct mqs_state state;
+    struct mqs_state state = { .messages_now = 0 };
     if (!is_job(pool, name, strlen(name))) return 0;
     if (mqs_mq_open(pool->c, name, access, MQS_NONBLOCK, 0, NULL, &held->queue) < 0)
         return is_refused(pool, ABSENT, MODE_DENIED) ? 0 : -1;
-    int r = mqs_mq_notify(pool->c, held->queue, 1);
+    int r = most < UINT32_MAX ? mqs_mq_getattr(pool->c, held->queue, &state) : 0;
+    if (r < 0 || state.messages_now > most) {
+        let_go(pool, held->queue);
+        return r;
+    }
+    r = mqs_mq_notify(pool->c, held->queue, 1);
     if (r == 0) r = mqs_stat(pool->c, MQS_QUEUES, name, &facts);    /* behind the registration: nobody else changes it from here on */
     int is_ours = r == 0 && (facts.owner == pool->owner || facts.owner == 0) && (facts.mode == one || facts.mode == other);
     if (is_ours && (r = mqs_mq_getattr(pool->c, held->queue, &state)) == 0) {
@@ -201,7 +207,7 @@ static ssize_t receive_copy(struct mqs_jobs *pool, const struct held *held, cons
 static int claim(struct mqs_jobs *pool, const char *name, struct mqs_job *job)
 {
     struct held held;
-    int r = hold(pool, name, MQS_BOTH, READY, READY, &held);
+    int r = hold(pool, name, MQS_BOTH, READY, READY, UINT32_MAX, &held);
     if (r <= 0) return r;
     if (held.copies <= SPARE) {
         r = mqs_chmod(pool->c, MQS_QUEUES, name, DEAD);             /* no worker opens it again */
@@ -438,13 +444,16 @@ int mqs_jobs_take(struct mqs_jobs *pool, const struct timespec *until, struct mq
 
 static int end_job(struct mqs_jobs *pool, struct mqs_job *job)
 {
+    uint64_t queue = job->queue;
     free(job->data);
     job->data = NULL;
-    return mqs_mq_close(pool->c, job->queue);
+    job->queue = over;
+    return mqs_mq_close(pool->c, queue);
 }
 
 int mqs_jobs_done(struct mqs_jobs *pool, struct mqs_job *job)
 {
+    if (job->queue == over) return fail(EBADF);         /* others may have it */
     if (unlink_name(pool, job->name) < 0) return -1;    /* before the claim ends, so that who claims it next sees that it is over */
     end_job(pool, job);
     return 0;
@@ -452,6 +461,7 @@ int mqs_jobs_done(struct mqs_jobs *pool, struct mqs_job *job)
 
 int mqs_jobs_give_back(struct mqs_jobs *pool, struct mqs_job *job)
 {
+    if (job->queue == over) return fail(EBADF);
     return end_job(pool, job) < 0 ? -1 : wake(pool, job->name);
 }
 
@@ -468,8 +478,8 @@ int mqs_jobs_pending(struct mqs_jobs *pool)
 /* Claims a dead job. */
 static int hold_dead(struct mqs_jobs *pool, const char *name, struct held *held)
 {
-    int r = hold(pool, name, MQS_READ, READY, DEAD, held);
-    if (r <= 0 || held->copies <= SPARE) return r;
+    int r = hold(pool, name, MQS_READ, READY, DEAD, SPARE, held);
+    if (r <= 0 || held->copies <= SPARE) return r;      /* more: user 0 saw it while it was being put */
     let_go(pool, held->queue);
     return 0;
 }
@@ -516,7 +526,7 @@ static int sweep(struct mqs_jobs *pool, const char *name)
     struct mqs_facts facts;
     struct held held;
     if (mqs_stat(pool->c, MQS_QUEUES, name, &facts) < 0) return mqs_rule(pool->c) == ABSENT ? 0 : -1;
-    int r = facts.mode == PUTTING ? hold(pool, name, MQS_WRITE, PUTTING, PUTTING, &held) : 0;
+    int r = facts.mode == PUTTING ? hold(pool, name, MQS_WRITE, PUTTING, PUTTING, UINT32_MAX, &held) : 0;
     if (r <= 0) return r;
     r = unlink_name(pool, name);                        /* its putter isn't registered, and can't be any more */
     let_go(pool, held.queue);

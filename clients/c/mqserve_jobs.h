@@ -43,8 +43,9 @@ struct mqs_job {
 };
 
 /* The pool of a name, whose queue is created where it isn't there. `tries`: how often a job that is put here is tried; `look_ms`: how
- * many milliseconds pass at most before a worker that waits looks for jobs whose workers are gone.
- * Errors: EINVAL (tries or look_ms is 0), ENAMETOOLONG (more than 235 bytes), EPERM or EACCES (another user's pool), mqs_mq_open's. */
+ * many milliseconds pass at most before a worker that waits looks for jobs whose workers are gone; more where the system's clock is set
+ * back meanwhile, by as much. Errors: EINVAL (tries or look_ms is 0, or tries above 2,147,483,647), ENAMETOOLONG (more than 235 bytes),
+ * EPERM or EACCES (another user's pool), mqs_mq_open's. */
 struct mqs_jobs *mqs_jobs_open(struct mqs *c, const char *name, unsigned tries, unsigned look_ms);
 
 /* Frees the pool and closes its queue; the connection stays. Jobs that are taken are to be done or given back before. NULL does
@@ -54,7 +55,7 @@ void mqs_jobs_close(struct mqs_jobs *pool);
 /* Puts a job. Once it has returned 0, the job is done at least once, or waits as a dead one. Refused, it left nothing. Where the
  * connection was lost or the process killed, the job may be there.
  * Errors: EINVAL (rule 20: the data is longer than a message may be, or tries + 2 more than a queue may have), ENOSPC (rule 22),
- * EMFILE (rules 23 and 24), EMSGSIZE (more than a frame has), mqs_mq_open's others. */
+ * EMFILE (rules 23 and 24), EMSGSIZE (more than 4,294,967,295 bytes), mqs_mq_open's others. */
 int mqs_jobs_put(struct mqs_jobs *pool, const void *data, size_t size);
 
 /* Takes a job, which is claimed until it is done or given back, or the connection ends. Waits for it until a moment; with one that has
@@ -63,14 +64,15 @@ int mqs_jobs_put(struct mqs_jobs *pool, const void *data, size_t size);
 int mqs_jobs_take(struct mqs_jobs *pool, const struct timespec *until, struct mqs_job *job);
 
 /* The work is done: the job is over, and its data is freed. Where it fails, the job is still taken; where the connection was lost it may
- * come again. mqs_jobs_give_back frees it then. Errors: EACCES (rules 11, 16 and 17). */
+ * come again. mqs_jobs_give_back frees it then. Errors: EACCES (rules 11, 16 and 17), EBADF (it is over, or was given back). */
 int mqs_jobs_done(struct mqs_jobs *pool, struct mqs_job *job);
 
 /* The work wasn't done: the job comes again, if it has tries left. Frees its data, also where it fails; then the claim ended with the
- * connection. */
+ * connection. Errors: EBADF as mqs_jobs_done. */
 int mqs_jobs_give_back(struct mqs_jobs *pool, struct mqs_job *job);
 
-/* How many jobs there are, by their names: free, taken, dead, and those that are being put. Errors: EACCES (rule 12), ENOMEM. */
+/* How many jobs there are, by their names: free, taken, dead, and those that are being put. Where the server has more than 1,000 queues,
+ * some may be left out if others end meanwhile. Errors: EACCES (rule 12), ENOMEM. */
 int mqs_jobs_pending(struct mqs_jobs *pool);
 
 /* Calls `each` for the name of each dead job, whose tries are used up and that nobody is working on, until it answers other than 0.
@@ -78,12 +80,13 @@ int mqs_jobs_pending(struct mqs_jobs *pool);
 int mqs_jobs_dead(struct mqs_jobs *pool, int (*each)(const char *name, void *arg), void *arg);
 
 /* Ends a dead job. Returns the size of its data, and *data, which is to be freed. Nobody else has it then: where the process is killed
- * meanwhile, or the connection lost, the data may be lost. Errors: ENOENT (no dead job has this name), ENOMEM, EACCES. */
+ * meanwhile, or the connection lost, the data may be lost. Errors: ENOENT (no dead job has this name, or somebody else has it for the
+ * moment, as who calls mqs_jobs_dead), ENOMEM, EACCES. */
 ssize_t mqs_jobs_bury(struct mqs_jobs *pool, const char *name, void **data);
 
 /* Puts a dead job's data as a new job, with the pool's tries, and then ends the dead one. Killed meanwhile, it leaves one of them, or both.
- * Refused as put is, it leaves the dead job as it was. Errors: ENOENT (no dead job has this name), ENODATA (a revive that was
- * killed left its last copy, which mqs_jobs_bury returns), ENOMEM, mqs_jobs_put's. */
+ * Refused as put is, it leaves the dead job as it was. Errors: ENOENT (as mqs_jobs_bury), ENODATA (a revive that was killed left its last
+ * copy, which mqs_jobs_bury returns), ENOMEM, mqs_jobs_put's. */
 int mqs_jobs_revive(struct mqs_jobs *pool, const char *name);
 
 /* Removes what putters that were killed left behind, and returns how much; call it now and then. What is being put stays.

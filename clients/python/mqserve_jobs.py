@@ -17,7 +17,9 @@ for bury or revive. clients/c/jobs.c does the same, so workers in C and Python s
 All of a pool's processes are of one user, whose pool it is, or of user 0. Threads may share a Jobs object. It has a connection of its
 own, and a second one once a take has waited. A child of fork connects anew; jobs that were taken stay the parent's. Errors are those of
 mqserve. After ConnectionLost, or where a signal's handler raised amid a call, the next call connects anew; a job that was taken before
-comes again, though its work goes on.
+comes again, though its work goes on. Where a handler raised just before a call, as in the moment in which a job was to be over, or just
+behind it, nothing ends, and a job may stay taken that nobody has: call close then. A handler's own call is BusyError where it comes amid
+another's request.
 """
 from __future__ import annotations
 
@@ -41,6 +43,7 @@ _ABSENT, _PRESENT, _MODE_DENIED, _MESSAGE_LONG, _TAKEN, _WOULD_BLOCK = 13, 14, 1
 _ANY_SIZE = mqserve._BODY_MAX                       # of a message
 _TOKEN = mqserve._Call((mqserve._MQ_RECEIVE, mqserve._MQ_RECEIVE, mqserve._MQ_TIMED_RECEIVE), struct.pack(">I", _ANY_SIZE), b"",
                        mqserve._RECEIVED)
+_LONGEST_NAME = 235                                 # of a pool: its jobs' names have 21 bytes more
 _NO_WAITER_S = 0.1
 _rule_of = mqserve._rule_of
 
@@ -61,6 +64,7 @@ def _allowing(*rules: int) -> Iterator[None]:
 
 class _Session(mqserve._Connection):
     """A session with the calls that a pool makes."""
+    tokens: int         # the pool's queue in it: a signal's handler may connect too
 
     def done(self, opcode: int, fields: bytes) -> None:
         self.ask(opcode, fields, mqserve._DONE)
@@ -165,10 +169,12 @@ class Jobs:
     _session_type = _Session
 
     def __init__(self, name: str, tries: int = 3, look: float = 1.0) -> None:
-        if tries < 1 or look <= 0:
-            raise ValueError("tries and look must be positive")
+        if not 1 <= tries < 1 << 31 or not look > 0:
+            raise ValueError("tries must be from 1 to 2147483647, and look positive")
         self.name, self.tries, self.look = name, tries, look
         self._pool = os.fsencode(name)
+        if len(self._pool) > _LONGEST_NAME:
+            raise ValueError(f"the name of a pool has {_LONGEST_NAME} bytes at most")
         self._is_job = re.compile(re.escape(self._pool) + rb"\.job-[0-9a-f]{16}").fullmatch
         self._server = mqserve._current()
         self._session: Optional[_Session] = None
@@ -207,14 +213,17 @@ class Jobs:
 
     def _connected(self) -> _Session:
         if self._session is None or self._session.lost:
-            session, self._queue = self._connect(_BOTH, _NONBLOCK)
+            session, session.tokens = self._connect(_BOTH, _NONBLOCK)
             try:
                 session.chown(self._pool)           # changes nothing, and only the owner and user 0 may
                 self._owner, _ = session.stat(self._pool)
             except BaseException:
                 session.close()
                 raise
-            self._session = session
+            if self._session is None or self._session.lost:
+                self._session = session
+            else:
+                session.close()                     # a signal's handler has connected meanwhile
         return self._session
 
     def _connected_waiter(self, seconds: float) -> Optional[_Session]:
@@ -236,6 +245,8 @@ class Jobs:
         and its claims: whether the server made the last call isn't known, nor what was claimed."""
         with self._lock:
             session = session or self._connected()
+            if session.amid:    # a call of a handler: the one that it came amid goes on
+                raise mqserve.BusyError("a signal's handler came amid a call of another one")
             try:
                 yield session
             except BaseException as error:
@@ -306,14 +317,14 @@ class Jobs:
     def _wake(self, session: _Session, name: bytes) -> None:
         """Wakes a worker. Where the pool's queue is full none waits."""
         with _allowing(_WOULD_BLOCK, _MESSAGE_LONG):
-            session.send(self._queue, name)
+            session.send(session.tokens, name)
 
     # ---- Taking ----
 
     def take(self, timeout: Optional[float] = None) -> Job:
         """A job, which is claimed until it is done or given back, or the connection ends. Waits for it, at most `timeout` seconds; then
         BusyError."""
-        if timeout is not None and timeout < 0:
+        if timeout is not None and not timeout >= 0:
             raise ValueError("the timeout must not be negative")
         end = None if timeout is None else time.monotonic() + timeout
         while True:
@@ -378,13 +389,13 @@ class Jobs:
 
     def _token(self, session: _Session) -> Optional[bytes]:
         with _allowing(_WOULD_BLOCK):
-            return session.receive(self._queue)
+            return session.receive(session.tokens)
         return None
 
     def _await_token(self, seconds: float) -> Optional[bytes]:
         """The name of a job that was put or given back, or None where none came in time."""
         end = time.monotonic() + seconds
-        if not self._waiting.acquire(timeout=seconds):
+        if not self._waiting.acquire(timeout=min(seconds, mqserve._LONGEST_S)):
             return None
         try:
             waiter = self._connected_waiter(end - time.monotonic())
@@ -402,18 +413,19 @@ class Jobs:
         finally:
             self._waiting.release()
 
-    def _hold(self, session: _Session, name: bytes, access: int, *modes: int) -> Optional[_Held]:
+    def _hold(self, session: _Session, name: bytes, access: int, *modes: int, most: Optional[int] = None) -> Optional[_Held]:
         """Opens a job's queue and registers for its notice, which is the claim. None where somebody else has it, or it is in none of these
-        modes, another user's, or gone."""
+        modes, another user's, or gone; or where it has more than `most` copies, which is seen before: a worker finds it free meanwhile."""
         if not self._is_job(name):
             return None
         with _allowing(_ABSENT, _MODE_DENIED, _TAKEN):
             queue = session.open(name, access, _NONBLOCK)
             with self._letting_go(session, queue):
-                session.register(queue)
-                owner, mode = session.stat(name)    # behind the registration: nobody else changes it from here on
-                if owner in (self._owner, 0) and mode in modes:
-                    return _Held(queue, *session.state(queue))
+                if most is None or session.state(queue)[0] <= most:
+                    session.register(queue)
+                    owner, mode = session.stat(name)    # behind the registration: nobody else changes it from here on
+                    if owner in (self._owner, 0) and mode in modes:
+                        return _Held(queue, *session.state(queue))
             session.let_go(queue)
         return None
 
@@ -431,7 +443,8 @@ class Jobs:
     # ---- Dead jobs, and what was left behind ----
 
     def pending(self) -> int:
-        """How many jobs there are, by their names: free, taken, dead, and those that are being put."""
+        """How many jobs there are, by their names: free, taken, dead, and those that are being put. Where the server has more than 1,000
+        queues, some may be left out if others end meanwhile."""
         with self._calls() as session:
             return len(self._names(session))
 
@@ -447,20 +460,21 @@ class Jobs:
         return found
 
     def _hold_dead(self, session: _Session, name: bytes) -> Optional[_Held]:
-        held = self._hold(session, name, _READ, _READY, _DEAD)
-        if held is not None and held.copies > _SPARE:
+        held = self._hold(session, name, _READ, _READY, _DEAD, most=_SPARE)
+        if held is not None and held.copies > _SPARE:   # user 0 saw it while it was being put
             session.let_go(held.queue)
             return None
         return held
 
     def bury(self, name: str) -> bytes:
         """Ends a dead job, and returns its data, which nobody else has then: where the process is killed meanwhile, the data may be lost.
-        ExistentialError: no dead job has this name."""
+        ExistentialError: no dead job has this name, or somebody else has it for the moment, as who calls dead."""
+        text = os.fsencode(name)
         with self._calls() as session:
-            held = self._hold_dead(session, os.fsencode(name))
+            held = self._hold_dead(session, text)
             if held is not None:
                 with self._letting_go(session, held.queue):
-                    session.unlink(os.fsencode(name))
+                    session.unlink(text)
                     data = session.receive(held.queue)
                 session.let_go(held.queue)
                 return data
@@ -468,15 +482,16 @@ class Jobs:
 
     def revive(self, name: str) -> str:
         """Puts a dead job's data as a new job, and then ends the dead one. Returns the new name. Killed meanwhile, it leaves one of them,
-        or both. Refused as put is, it leaves the dead job as it was. ExistentialError: no dead job has this name, or a revive that was
-        killed left its last copy, which bury returns."""
+        or both. Refused as put is, it leaves the dead job as it was. ExistentialError: as bury; or a revive that was killed left its last
+        copy, which bury returns."""
+        text = os.fsencode(name)
         with self._calls() as session:
-            held = self._hold_dead(session, os.fsencode(name))
+            held = self._hold_dead(session, text)
             if held is not None:
                 with self._letting_go(session, held.queue):
                     if held.copies == _SPARE:
                         new = self._add(session, held.size, lambda: session.receive(held.queue))
-                        session.unlink(os.fsencode(name))
+                        session.unlink(text)
                 session.let_go(held.queue)
                 if held.copies == _SPARE:
                     return new

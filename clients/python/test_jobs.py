@@ -177,10 +177,14 @@ class Calls(Pooled):
         self.assertRaises(ValueError, self.jobs.take, -1)
 
     def test_arguments(self):
-        self.assertRaises(ValueError, mqserve_jobs.Jobs, self.name, 0)
-        self.assertRaises(ValueError, mqserve_jobs.Jobs, self.name, 3, 0)
+        for words in ((0,), (1 << 32,), (3, 0), (3, float("nan"))):
+            self.assertRaises(ValueError, mqserve_jobs.Jobs, self.name, *words)
+        self.assertRaises(ValueError, self.jobs.take, float("nan"))
         self.assertEqual(rule_of(self, mqserve_jobs.Jobs, "no slash"), 4)
-        self.assertEqual(rule_of(self, mqserve_jobs.Jobs, "/" + "n" * 256), 5)
+        self.assertRaises(ValueError, mqserve_jobs.Jobs, "/" + "n" * 235)
+        self.clear()
+        self.name = "/" + "n" * 234
+        self.pool().put("one")
 
     def test_take_waits(self):
         threading.Timer(0.1, self.pool().put, ("late",)).start()
@@ -188,12 +192,13 @@ class Calls(Pooled):
             self.assertEqual(job.data, b"late")
 
     def test_woken_at_once(self):
-        self.jobs.look = 60
-        self.jobs.take(self.jobs.put("first") and 0).done()
-        start = time.monotonic()
-        threading.Timer(0.1, self.pool().put, ("late",)).start()
-        self.jobs.take(30).done()
-        self.assertLess(time.monotonic() - start, 20)
+        for look in (60, float("inf")):
+            self.jobs.look = look
+            self.jobs.take(self.jobs.put("first") and 0).done()
+            start = time.monotonic()
+            threading.Timer(0.1, self.pool().put, ("late",)).start()
+            self.jobs.take().done()
+            self.assertLess(time.monotonic() - start, 20)
 
     def test_given_back(self):
         self.jobs.put("again")
@@ -260,6 +265,8 @@ class Calls(Pooled):
         job = self.jobs.take(0)
         self.assertRaises(ipc.ExistentialError, self.jobs.bury, name)
         self.assertRaises(ipc.ExistentialError, self.jobs.revive, name)
+        self.assertRaises(TypeError, self.jobs.bury, None)              # no claim ends by what is no name
+        self.assertRaises(UnicodeEncodeError, self.jobs.revive, "\ud800")
         job.done()
 
     def test_revive(self):
@@ -333,6 +340,25 @@ class Calls(Pooled):
         self.assertRaises(KeyboardInterrupt, self.jobs.take, 0)
         self.assertTrue(session.lost)
         self.assertEqual(self.jobs.take(5).name, name)
+
+    def interrupt(self, method, call):
+        """Makes a call at the next use of a session's method, as a signal's handler may."""
+        def interrupted(*words):
+            delattr(Stepped, method)
+            call()
+            return getattr(mqserve_jobs._Session, method)(*words)
+        setattr(Stepped, method, interrupted)
+
+    def test_handler_that_calls(self):
+        """Amid a request it is refused, and nothing else ends. While another call connects it connects too."""
+        job = self.jobs.take(self.jobs.put("one") and 0)
+        self.interrupt("await_answer", lambda: self.assertRaises(ipc.BusyError, self.jobs.pending))
+        self.assertEqual(self.jobs.pending(), 1)
+        job.done()
+        self.jobs.close()
+        self.interrupt("stat", lambda: self.jobs.put("one"))
+        self.jobs.put("two")
+        self.assertEqual({self.jobs.take(0).data, self.jobs.take(0).data}, {b"one", b"two"})
 
     def test_threads(self):
         done, lock = [], threading.Lock()
@@ -655,6 +681,11 @@ class Steps(Pooled):
                 self.assertEqual(self.drain(), [])
             except ipc.BusyError:
                 self.assertEqual(self.drain(), [b"one"])
+
+    def test_take_while_others_look_for_dead_ones(self):
+        for _, looking, _ in self.each_stop(self.one_job, lambda _: self.pool().dead()):
+            self.jobs.take(0).done()
+            self.assertEqual(looking.finish(), [])
 
     def test_done_against_claim(self):
         for _, ending, _ in self.each_stop(self.taken, lambda job: job.done()):

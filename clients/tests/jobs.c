@@ -213,7 +213,10 @@ static void puts_and_takes(void)
     CHECK(!strncmp(job.name, pool_name, strlen(pool_name)) && strlen(job.name) == strlen(pool_name) + 21);
     CHECK(mqs_jobs_done(jobs, &job) == 0 && mqs_jobs_pending(jobs) == 1);
     CHECK(mqs_jobs_take(jobs, &past, &job) == 0 && is_data(&job, "") && mqs_jobs_give_back(jobs, &job) == 0);
+    FAILS(mqs_jobs_done(jobs, &job), EBADF);
+    FAILS(mqs_jobs_give_back(jobs, &job), EBADF);
     CHECK(mqs_jobs_take(jobs, &past, &job) == 0 && job.tries_left == TRIES - 2 && mqs_jobs_done(jobs, &job) == 0);
+    FAILS(mqs_jobs_done(jobs, &job), EBADF);
     CHECK(mqs_jobs_pending(jobs) == 0);
     FAILS(mqs_jobs_take(jobs, &past, &job), ETIMEDOUT);
     FAILS(mqs_jobs_take(jobs, &odd, &job), EINVAL);
@@ -331,8 +334,8 @@ static void lost_connections(void)
 
 /* ---- A session that ends before each request, or stops there ---- */
 
-enum kind { PUT, TAKE, DONE, GIVE_BACK, BURY, REVIVE, SWEEP, KINDS };
-static const char *const kinds[KINDS] = { "put", "take", "done", "give back", "bury", "revive", "sweep" };
+enum kind { PUT, TAKE, DONE, GIVE_BACK, BURY, REVIVE, SWEEP, DEAD, KINDS };
+static const char *const kinds[KINDS] = { "put", "take", "done", "give back", "bury", "revive", "sweep", "dead" };
 
 /* What the pool has before the call, and the call of a session that stops before request `stop`. */
 static void prepare(enum kind kind, char *name)
@@ -349,6 +352,7 @@ static void prepare(enum kind kind, char *name)
 
 static int make_call(enum kind kind, struct mqs_jobs *pool, const char *name, struct mqs_job *job)
 {
+    char told[MQS_JOB_NAME];
     void *data = NULL;
     int r;
     switch (kind) {
@@ -358,6 +362,7 @@ static int make_call(enum kind kind, struct mqs_jobs *pool, const char *name, st
     case GIVE_BACK: return mqs_jobs_give_back(pool, job);
     case REVIVE: return mqs_jobs_revive(pool, name);
     case SWEEP: return mqs_jobs_sweep(pool) < 0 ? -1 : 0;
+    case DEAD: return mqs_jobs_dead(pool, remember, told);
     default:
         r = (int)mqs_jobs_bury(pool, name, &data);
         free(data);
@@ -386,7 +391,7 @@ static int call_until(enum kind kind, int stop, void (*at_stop)(void *), void *a
 /* Each call is cut off before each of its requests. No job is lost, and what is left can be had. */
 static void cuts(enum kind kind)
 {
-    int is_kept = kind == PUT || kind == TAKE || kind == GIVE_BACK || kind == REVIVE;
+    int is_kept = kind == PUT || kind == TAKE || kind == GIVE_BACK || kind == REVIVE || kind == DEAD;
     int stop = 0, was_cut = 1, r, seen[3] = { 0, 0, 0 };
     for (; was_cut; stop++) {
         was_cut = call_until(kind, stop, NULL, NULL, &r);
@@ -461,6 +466,20 @@ static void takes_beside_done(void)
     CHECK(stop > 2);
 }
 
+/* A take before each request of a look for dead jobs finds one that is free. */
+static void takes_beside_dead(void)
+{
+    int r, has_stopped = 1, stop = 0;
+    for (; has_stopped; stop++) {
+        struct other other = { .kind = TAKE, .r = -1 };
+        put("free");
+        has_stopped = call_until(DEAD, stop, act, &other, &r);
+        CHECK(r == 0 && (!has_stopped || (other.r == 0 && mqs_jobs_done(jobs, &other.job) == 0)));
+        CHECK(drain("free") == !has_stopped);
+    }
+    CHECK(stop > 3);
+}
+
 /* A job is ended before each request of a take: who opened its queue before sees that it is over. */
 static void takes_of_ended_jobs(void)
 {
@@ -506,6 +525,7 @@ int main(void)
     sweeps_of_puts();
     puts_beside_sweeps();
     takes_beside_done();
+    takes_beside_dead();
     takes_of_ended_jobs();
     remove_pool();
     printf("jobs: %d checks, %d failed\n", checks, faults);
