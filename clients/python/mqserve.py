@@ -127,6 +127,7 @@ def _data(message: Union[str, bytes]) -> bytes:
     return message.encode() if isinstance(message, str) else message if isinstance(message, bytes) else memoryview(message).tobytes()
 
 
+_sockets: "weakref.WeakSet[socket.socket]" = weakref.WeakSet()   # all, since others may fork while a thread connects
 _OWN = "unix-user:"
 
 
@@ -149,6 +150,7 @@ def _dial(address: str, seconds: float) -> socket.socket:
     if not colon or not port.isdigit():
         raise ValueError("the address must be HOST:PORT, unix:PATH or unix-user:PATH")
     dialled = socket.create_connection((host.strip("[]"), int(port)), seconds)
+    _sockets.add(dialled)
     dialled.setsockopt(socket.IPPROTO_TCP, socket.TCP_NODELAY, 1)
     return dialled
 
@@ -156,6 +158,7 @@ def _dial(address: str, seconds: float) -> socket.socket:
 def _dial_path(path: str, seconds: float) -> socket.socket:
     """Where many connections wait already, a connect to a path waits as long as a send may."""
     dialled = socket.socket(socket.AF_UNIX)
+    _sockets.add(dialled)
     end = time.monotonic() + seconds
     try:
         dialled.settimeout(None)    # whatever socket.setdefaulttimeout says
@@ -183,7 +186,7 @@ def _is_connected(dialled: socket.socket, path: str) -> bool:
     return True
 
 
-def _is_readable(connected: List[socket.socket], seconds: Optional[float]) -> bool:
+def _is_readable(connected: List[Any], seconds: Optional[float]) -> bool:
     """Whether something comes at one of them in time. By poll, since select knows no file from number 1,024 on."""
     poll = select.poll()
     for one in connected:
@@ -283,7 +286,10 @@ class _Connection:
     def read_some(self, end: Optional[float]) -> bool:
         """Reads what comes until a moment of time.monotonic(). False if nothing came."""
         left = None if end is None else min(max(0.0, end - time.monotonic()), _LONGEST_S)
-        if not _is_readable([self.socket], left):
+        file = self.socket.fileno()
+        if file < 0:
+            raise self.lose("the connection was closed")    # by another thread, amid the call
+        if not _is_readable([file], left):
             return False
         try:
             piece = self.socket.recv(65536)
@@ -903,6 +909,8 @@ def unlink_semaphore(name: str) -> None:
 def _in_child() -> None:
     for server in list(_servers):
         server.forget()
+    for dialled in list(_sockets):
+        dialled.close()     # its copy would keep the session after the parent's end
 
 
 if hasattr(os, "register_at_fork"):

@@ -595,6 +595,32 @@ class Connections(unittest.TestCase):
             ipc._server = before
             liar.listener.close()
 
+    def test_closed_amid_a_call(self):
+        """As by another thread, once the request was written."""
+        c = ipc._Connection(os.environ["MQSERVE"], os.environ["MQSERVE_KEY"], 5.0)
+        c.has_answer = c.close
+        self.assertRaises(ipc.ConnectionLost, c.ask, ipc._MQ_CLOSE, bytes(8), ipc._DONE)
+
+    def test_fork_while_a_thread_connects(self):
+        """The child has no copy of the socket: the stream ends with the parent's."""
+        with socket.create_server(("127.0.0.1", 0)) as listener:
+            address = "127.0.0.1:%d" % listener.getsockname()[1]
+            thread = threading.Thread(target=lambda: self.assertRaises(ipc.BusyError, ipc._Connection, address, "key", 0.5))
+            thread.start()
+            with listener.accept()[0] as accepted:
+                accepted.recv(64)
+                child = os.fork()
+                if child == 0:
+                    time.sleep(60)
+                    os._exit(1)
+                thread.join()
+                try:
+                    accepted.settimeout(5)
+                    self.assertEqual(accepted.recv(64), b"")
+                finally:
+                    os.kill(child, signal.SIGKILL)
+                    os.waitpid(child, 0)
+
     def test_many_files(self):
         """A connection may be a file with a number that select doesn't know."""
         limits = resource.getrlimit(resource.RLIMIT_NOFILE)
