@@ -372,7 +372,7 @@ def once(watch: Watch, asked: argparse.Namespace) -> int:
 
 def can_move_cursor() -> bool:
     """Whether this is a terminal that curses knows, and not a dumb one, and keys come from one too."""
-    if not (sys.stdin.isatty() and sys.stdout.isatty()):
+    if not (sys.stdin and sys.stdin.isatty() and sys.stdout.isatty()):
         return False
     try:
         import curses
@@ -383,6 +383,8 @@ def can_move_cursor() -> bool:
 
 
 def run(asked: argparse.Namespace) -> int:
+    if sys.stdout is None:
+        raise ValueError("standard output is closed")
     server = server_of(asked)
     watch = Watch(Session(server.address, server.key, mqserve._HELLO_S))
     if asked.once:
@@ -418,7 +420,8 @@ def arguments(words: Optional[Sequence[str]]) -> argparse.Namespace:
     top = parser.add_subparsers(dest="command", required=True, metavar="top").add_parser(
         "top", help="shows queues and semaphores", description="Shows queues and semaphores: family, name, owner, mode, messages of at "
         "most how many or a semaphore's value, and by how much that changes a second; - is what the user may not see. q or Ctrl-C ends it.")
-    top.add_argument("address", nargs="?", help="HOST:PORT or unix:PATH; by default that of MQSERVE")
+    top.add_argument("address", nargs="?", help="HOST:PORT, unix:PATH, or unix-user:PATH, which wants no key; by default "
+                     "that of MQSERVE")
     top.add_argument("--key-file", metavar="FILE", help="its first line is the key")
     top.add_argument("--interval", metavar="SECONDS", type=seconds, default=2.0, help="from look to look; 2 by default. The server records "
                      "some two calls for each object and look")

@@ -478,6 +478,16 @@ class Served(unittest.TestCase):
         self.assertEqual((program.wait(20), program.stderr.read()), (0, b""))
         program.stderr.close()
 
+    def test_closed_streams(self):
+        """Python has none then. Without keys it prints the tables one below the other; where nothing can be printed it says so."""
+        command = [sys.executable, "-m", "mqserve", "top", "--interval", "0.1"]
+        program = subprocess.Popen(command, stdout=subprocess.PIPE, stderr=subprocess.PIPE, cwd=HERE, preexec_fn=lambda: os.close(0))
+        self.addCleanup(program.communicate)
+        self.addCleanup(program.kill)
+        self.assertIn(os.environ["MQSERVE"].encode(), program.stdout.readline())
+        done = subprocess.run([*command, "--once"], stderr=subprocess.PIPE, cwd=HERE, timeout=30, preexec_fn=lambda: os.close(1))
+        self.assertEqual((done.returncode, done.stderr), (1, b"mqserve top: standard output is closed\n"))
+
     def test_full_disk(self):
         with open("/dev/full", "wb") as full:
             done = subprocess.run([sys.executable, "-m", "mqserve", "top", "--once"], stdout=full, stderr=subprocess.PIPE, cwd=HERE)
