@@ -18,7 +18,7 @@ demo:
 # A server of one's own, on one thread: make run USERS=FILE ADDRESS=HOST:PORT. Ctrl-C ends it. Where none is proved, it is one
 # `rt try`.
 run:
-	@tools/programs.py $(USERS) $(ADDRESS) $(OPTIONS)
+	@tools/programs.py "$(USERS)" "$(ADDRESS)" $(OPTIONS)
 
 # Tells in minutes whether a change is good, without proof, and by proved programs where they stand. With CRATE=NAME it proves that
 # crate too, and runs only what stands on it.
@@ -30,25 +30,28 @@ build:
 	@tools/build.py $(JOBS)
 
 # With PROGRAMS=DIR the programs mqserve and mqctl of that folder are installed as they are, and nothing is proved.
-PROGRAMS =
+PROGRAMS ?=
+
+# DESTDIR as the clients' folder has it: a relative path is of this one.
+STAGE = $(if $(filter-out /%,$(firstword $(DESTDIR))),$(CURDIR)/)$(DESTDIR)
 
 # Puts the proved programs into $(PREFIX)/bin, and what a service needs beside them: service/README.md goes on.
 install: $(if $(PROGRAMS),,build)
-	install -D -m 755 $(or $(PROGRAMS),crates/mqserve/out)/mqserve $(DESTDIR)$(PREFIX)/bin/mqserve
-	install -D -m 755 $(or $(PROGRAMS),crates/mqctl/out)/mqctl $(DESTDIR)$(PREFIX)/bin/mqctl
-	install -D -m 755 tools/users $(DESTDIR)$(PREFIX)/bin/mqserve-users
-	install -D -m 644 service/mqserve.service $(DESTDIR)$(PREFIX)/lib/systemd/system/mqserve.service
-	sed -i 's,/usr/local/,$(PREFIX)/,' $(DESTDIR)$(PREFIX)/lib/systemd/system/mqserve.service
-	install -D -m 644 service/mqserve.sysusers $(DESTDIR)$(PREFIX)/lib/sysusers.d/mqserve.conf
-	install -D -m 600 service/users.example $(DESTDIR)$(PREFIX)/share/mqserve/users.example
-	$(MAKE) -C clients install DESTDIR=$(DESTDIR) PREFIX=$(PREFIX)
+	install -D -m 755 "$(or $(PROGRAMS),crates/mqserve/out)/mqserve" "$(DESTDIR)$(PREFIX)/bin/mqserve"
+	install -D -m 755 "$(or $(PROGRAMS),crates/mqctl/out)/mqctl" "$(DESTDIR)$(PREFIX)/bin/mqctl"
+	install -D -m 755 tools/users "$(DESTDIR)$(PREFIX)/bin/mqserve-users"
+	install -D -m 644 service/mqserve.service "$(DESTDIR)$(PREFIX)/lib/systemd/system/mqserve.service"
+	sed -i 's,/usr/local/,$(PREFIX)/,' "$(DESTDIR)$(PREFIX)/lib/systemd/system/mqserve.service"
+	install -D -m 644 service/mqserve.sysusers "$(DESTDIR)$(PREFIX)/lib/sysusers.d/mqserve.conf"
+	install -D -m 600 service/users.example "$(DESTDIR)$(PREFIX)/share/mqserve/users.example"
+	$(MAKE) -C clients install DESTDIR="$(STAGE)" PREFIX="$(PREFIX)"
 
 # Takes back what make install put below $(PREFIX).
 uninstall:
-	rm -f $(DESTDIR)$(PREFIX)/bin/mqserve $(DESTDIR)$(PREFIX)/bin/mqctl $(DESTDIR)$(PREFIX)/bin/mqserve-users \
-		$(DESTDIR)$(PREFIX)/lib/systemd/system/mqserve.service $(DESTDIR)$(PREFIX)/lib/sysusers.d/mqserve.conf \
-		$(DESTDIR)$(PREFIX)/share/mqserve/users.example
-	$(MAKE) -C clients uninstall DESTDIR=$(DESTDIR) PREFIX=$(PREFIX)
+	rm -f "$(DESTDIR)$(PREFIX)/bin/mqserve" "$(DESTDIR)$(PREFIX)/bin/mqctl" "$(DESTDIR)$(PREFIX)/bin/mqserve-users" \
+		"$(DESTDIR)$(PREFIX)/lib/systemd/system/mqserve.service" "$(DESTDIR)$(PREFIX)/lib/sysusers.d/mqserve.conf" \
+		"$(DESTDIR)$(PREFIX)/share/mqserve/users.example"
+	$(MAKE) -C clients uninstall DESTDIR="$(STAGE)" PREFIX="$(PREFIX)"
 
 # An archive of the sources, and a Debian package of what make install puts in place, in out.
 dist:
