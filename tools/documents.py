@@ -8,6 +8,7 @@
 - FRAMES.md's opcodes, their fields, the greatest body and the frames of its exchange; SCRIPTS.md's commands with what stands
   behind each
 - the rules and opcodes that the clients in C and Python have
+- the options of `mqserve --help`, in its page
 - the version, in the program, its row and CHANGELOG.md
 - the speeds in README.md, with those of bench/README.md
 - the unit's command line and limits, with those that service/README.md gives by hand
@@ -259,6 +260,20 @@ def compare_commands(it):
         it.same(f"{word} in SCRIPTS.md", scripts[word], code[word])
 
 
+# The options for which `limits` stands in the page's synopsis.
+LIMITS = {"msg-max", "msgsize-max", "queues-max"}
+
+
+def compare_page(it):
+    """The options of `mqserve --help`: in the page's synopsis, and each by itself."""
+    usage, page = text("rows/mqserve/help.out").split("\n\nA script", 1)[0], text("clients/man/mqserve.1")
+    options = set(re.findall(r"--([a-z-]+)", usage))
+    synopsis = page.split(".Sh SYNOPSIS\n", 1)[1].split("\n.Sh ", 1)[0]
+    items = "\n".join(re.findall(r"(?m)^\.It (.*)$", page))
+    for where, words, wanted in (("the synopsis of mqserve.1", synopsis, options - LIMITS), ("the list of mqserve.1", items, options)):
+        it.same(f"options in {where}", sorted(re.findall(r"Fl -([a-z-]+)", words)), sorted(wanted))
+
+
 # Where the clients tell their version, and how.
 CLIENT_VERSIONS = {
     "clients/Makefile": r"(?m)^VERSION = ([\d.]+)$",
@@ -325,6 +340,7 @@ def main():
     compare_frames(it)
     compare_clients(it)
     compare_commands(it)
+    compare_page(it)
     compare_versions(it)
     compare_speeds(it)
     compare_service(it)
