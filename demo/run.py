@@ -166,6 +166,9 @@ def differing(address, shown):
 
 
 def main():
+    # The server has a session of its own, so nobody else would end it.
+    for ending in (signal.SIGTERM, signal.SIGHUP):
+        signal.signal(ending, lambda number, _: sys.exit(128 + number))
     address, has_mqctl = free_address(), programs.proved("mqctl") is not None
     shown = []
     if not programs.proved("mqserve"):

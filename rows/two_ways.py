@@ -366,11 +366,15 @@ class Server:
         users.write_text(USERS)
         command = [SERVER, "serve", users, spelled, *words]
         self.process = subprocess.Popen(command, stdin=subprocess.DEVNULL, stdout=subprocess.PIPE, text=True)
-        if not self.process.stdout.readline():
-            raise Wrong("the server doesn't start")
         # How many steps were made that the trail must have, the places of those that were seen there, and the place after.
         self.sessions, self.made, self.places, self.looked = {}, 0, [], 0
-        self.started(WATCH, "r00t")
+        try:
+            if not self.process.stdout.readline():
+                raise Wrong("the server doesn't start")
+            self.started(WATCH, "r00t")
+        except BaseException:
+            self.end()
+            raise
 
     def end(self):
         for session in self.sessions.values():

@@ -2,6 +2,7 @@
 """The tests of tools/users: what it prints of this machine's users and of others, and who may read what it writes. Where a built server is
 there, it reads the file; and as root the test makes two users and a third, of which two share a queue without keys, and removes them again.
 The last line has the counts."""
+import atexit
 import contextlib
 import importlib.machinery
 import importlib.util
@@ -12,6 +13,7 @@ import pwd
 import re
 import secrets
 import shutil
+import signal
 import stat
 import subprocess
 import sys
@@ -24,6 +26,7 @@ PROGRAM = TOP / "tools/users"
 BUILT = pathlib.Path(os.environ.get("MQSERVED", TOP / "crates/mqserve/out/mqserve")).resolve()
 CLIENT = BUILT.parent.parent.parent / "mqctl/out/mqctl"
 SECONDS = 60
+ENDINGS = {signal.SIGINT, signal.SIGTERM, signal.SIGHUP}
 # docs/SCRIPTS.md, "The user file".
 NUMBER = "(?:0|[1-9][0-9]*)"
 LINE = re.compile(rf"([a-z0-9_-]{{1,32}}):([A-Za-z0-9]{{1,64}}):({NUMBER}):({NUMBER}):((?:{NUMBER}(?:,{NUMBER}){{0,63}})?):({NUMBER}?)")
@@ -190,6 +193,10 @@ class Written(unittest.TestCase):
         with open("/dev/full", "wb") as full:
             self.assertEqual(run("root", stdout=full).returncode, 1)
 
+    def test_standard_output_that_is_closed(self):
+        done = run("root", stdout=None, preexec_fn=lambda: os.close(1))
+        self.assertEqual((done.returncode, done.stderr), (1, b"users: standard output is closed\n"))
+
     def test_who_may_read_standard_output(self):
         for mode, warns in ((0o600, False), (0o644, True), (0o640, True), (0o604, True)):
             with self.subTest(mode=f"{mode:o}"), open(self.path, "wb") as file:
@@ -219,18 +226,30 @@ class Written(unittest.TestCase):
 
 
 @contextlib.contextmanager
+def uninterrupted():
+    """What ends this program waits, and ends none that it runs."""
+    mask = signal.pthread_sigmask(signal.SIG_BLOCK, ENDINGS)
+    try:
+        yield
+    finally:
+        signal.pthread_sigmask(signal.SIG_SETMASK, mask)
+
+
+@contextlib.contextmanager
 def accounts(count):
     """So many users of this machine, which are removed at the end."""
     names = [f"mqs-{secrets.token_hex(4)}" for _ in range(count)]
     made = []
     try:
         for name in names:
-            subprocess.run(["useradd", "--no-create-home", "--user-group", name], check=True, timeout=SECONDS, stdout=subprocess.DEVNULL)
-            made.append(name)
+            with uninterrupted():
+                subprocess.run(["useradd", "--no-create-home", "--user-group", name], check=True, timeout=SECONDS, stdout=subprocess.DEVNULL)
+                made.append(name)
         yield names
     finally:
-        for name in made:
-            subprocess.run(["userdel", name], check=True, timeout=SECONDS, stdout=subprocess.DEVNULL, stderr=subprocess.DEVNULL)
+        with uninterrupted():
+            for name in made:
+                subprocess.run(["userdel", name], check=True, timeout=SECONDS, stdout=subprocess.DEVNULL, stderr=subprocess.DEVNULL)
 
 
 @unittest.skipUnless(BUILT.exists() and os.geteuid() == 0 and shutil.which("useradd"), "it takes a built server, root and useradd")
@@ -238,6 +257,10 @@ class WithoutKeys(unittest.TestCase):
     """Users who were made for it, at a server over a folder with a socket for each but the last."""
 
     def setUp(self):
+        self.addCleanup(os.umask, os.umask(0o022))     # folders and queues have the modes that they are given
+        self.left = contextlib.ExitStack()
+        self.addCleanup(self.left.close)
+        atexit.register(self.left.close)    # where the test is interrupted no cleanup is called, and users of the machine would stay
         self.room = pathlib.Path(self.enter(tempfile.TemporaryDirectory()))
         self.room.chmod(0o755)
         self.folder = self.room / "sockets"
@@ -247,14 +270,12 @@ class WithoutKeys(unittest.TestCase):
         self.assertEqual(run("--output", str(file), "root", self.ann, self.bob).returncode, 0)
         words = [str(BUILT), "serve", str(file), f"unix-users:{self.folder}", "--one-thread"]
         server = subprocess.Popen(words, stdout=subprocess.PIPE, stderr=subprocess.PIPE)
-        self.addCleanup(server.communicate)
-        self.addCleanup(server.kill)
+        self.left.callback(server.communicate)
+        self.left.callback(server.kill)
         self.assertEqual(server.stdout.readline(), b"serving unix-users:%s\n" % os.fsencode(self.folder))
 
     def enter(self, context):
-        entered = context.__enter__()
-        self.addCleanup(context.__exit__, None, None, None)
-        return entered
+        return self.left.enter_context(context)
 
     def become(self, name):
         user = pwd.getpwnam(name)
@@ -313,6 +334,8 @@ class WithoutKeys(unittest.TestCase):
 
 
 if __name__ == "__main__":
+    for ending in ENDINGS:
+        signal.signal(ending, signal.default_int_handler)
     result = unittest.main(exit=False).result
     print(f"users: {result.testsRun} tests, {len(result.failures) + len(result.errors)} failed, {len(result.skipped)} passed over")
     sys.exit(not result.wasSuccessful())

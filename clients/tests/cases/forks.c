@@ -117,7 +117,7 @@ static void after_exec(char *self)
     snprintf(number, sizeof number, "%d", (int)q);
     fflush(stdout);
     if (fork() == 0) {
-        execl(self, self, number, (char *)NULL);
+        execl("/proc/self/exe", self, number, (char *)NULL);     /* its user may not get there by its path */
         _exit(9);
     }
     say("child", end_of_child());
