@@ -10,7 +10,7 @@ import shutil
 import subprocess
 import sys
 
-from programs import CRATES, NAMES, TOP, below, uses
+from programs import CRATES, NAMES, NO_KIT, TOP, below, uses
 
 ROOM = (TOP / ".git" if (TOP / ".git").is_dir() else TOP / "out") / "build"
 PARTS = ["src", "specs", "proofs"]
@@ -55,6 +55,9 @@ def take(name):
 
 def main(words):
     jobs = words[0] if words else str(os.cpu_count())
+    if not shutil.which("rt"):
+        print(NO_KIT, file=sys.stderr)
+        return 1
     copy(wanted())
     proved = subprocess.run(["rt", "all", "check", "--jobs", jobs], cwd=ROOM, check=False)
     if proved.returncode != 0:

@@ -20,6 +20,7 @@ NOT_PROVED = (
     "Not proved: `rt try` builds this server with checks, and it serves in a minute or two. "
     f"`make build` proves it (four cores: {BUILD_TAKES})."
 )
+NO_KIT = "there is no rt, the command of Rattle's kit, on the PATH"
 # The longest that such a server runs: a day.
 TRIED_SECONDS = "86400"
 
@@ -77,9 +78,9 @@ def main(words):
     command, folder = server(os.path.abspath(users), address, options)
     if not proved("mqserve"):
         print(NOT_PROVED)
-    if not shutil.which(command[0]):
-        print(f"there is no {command[0]}, the command of Rattle's kit, on the PATH", file=sys.stderr)
-        return 1
+        if not shutil.which("rt"):
+            print(NO_KIT, file=sys.stderr)
+            return 1
     print(f"$ {shlex.join(command)}", flush=True)
     os.chdir(folder)
     os.execvp(command[0], command)

@@ -16,7 +16,7 @@ import sys
 import tempfile
 import time
 
-from programs import CRATES, NAMES, TOP, below, is_current, uses
+from programs import CRATES, NAMES, NO_KIT, TOP, below, is_current, uses
 
 # In how many shares the rows of a program run side by side: each is a build of its own.
 SHARES = {"mqserve": 2}
@@ -210,6 +210,9 @@ def main():
     if not parts:
         parser.error(f"there is no part {asked.part} here")
     failed, passed = run_all(parts, asked.jobs)
+    if not asked.part and not shutil.which("rt"):
+        print(NO_KIT, file=sys.stderr)
+        return 1
     if not asked.part:
         say_left_out(asked.crate)
     for part in failed:
