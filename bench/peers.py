@@ -305,7 +305,7 @@ def arguments():
     parser.add_argument("--peers", default=",".join(PEERS), help=f"these alone, of %(default)s,{','.join(SAVING)}")
     parser.add_argument("--saving", action="store_true", help="those that keep in a file what happens, beside some that don't")
     parser.add_argument("--program", type=Path, default=PROGRAM, help="the mqserve that is measured")
-    parser.add_argument("--plot", type=Path, help="peers.svg beside this file; no plot where --short is given")
+    parser.add_argument("--plot", type=Path, help="peers.svg beside this file; no plot where --short is given, or other peers")
     given = parser.parse_args()
     given.peers = [*BESIDE, *SAVING] if given.saving else given.peers.split(",")
     unknown = [peer for peer in given.peers if peer not in SHOWN]
@@ -313,7 +313,7 @@ def arguments():
         parser.error(f"no such peer: {', '.join(unknown)}")
     if given.rounds < 1:
         parser.error("at least one round")
-    if given.plot is None and not given.short and not given.saving:
+    if given.plot is None and not given.short and given.peers == list(PEERS):
         given.plot = HERE / "peers.svg"
     return given
 
