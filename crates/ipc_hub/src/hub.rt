@@ -323,7 +323,7 @@ impl Hub {
         self.core.core().trail().first()
     }
 
-    /// About how many bytes the records that are kept take: 128 each, and the messages in them.
+    /// About how many bytes the records that are kept take: 128 each, and the messages and names in them.
     pub fn record_bytes(&self) -> u64
         ensures { result ≤ kept_bytes self.now.core.first self.now.core.history }
     {

@@ -17,7 +17,7 @@ const FORGOTTEN_FOR_ONE: usize = 2;
 pub struct Keeping {
     /// So many of the newest, if there is a bound.
     pub records: Option<u64>,
-    /// As many of the newest as take about so many bytes, if there is a bound: 128 each, and the messages in them.
+    /// As many of the newest as take about so many bytes, if there is a bound: 128 each, and the messages and names in them.
     pub bytes: Option<u64>,
 }
 

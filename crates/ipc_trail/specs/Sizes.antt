@@ -1,7 +1,8 @@
 -- About how many bytes records take.
-use Rattle.std.specs.Prelude.{ℕ, ◌+◌, ◌-◌, length, take, Option, Some, None}
+use Rattle.std.specs.Prelude.{ℕ, ◌+◌, ◌-◌, List, length, take, Option, Some, None}
 use Rattle.std.specs.List.{sum_by}
 use Rattle.ipc_terms.specs.History.{History, Message, message_of}
+use Rattle.ipc_terms.specs.Lines.{event_name}
 use Rattle.ipc_terms.specs.declared.record.Event.{Event}
 use Rattle.ipc_terms.specs.declared.record.Record.{Record}
 
@@ -10,9 +11,14 @@ abbrev pub message_length : Option Message → ℕ
 message_length None = 0
 message_length (Some m) = length m.bytes
 
--- with its share of the list that it stands in, and with the name in it, if it has one
+-- how many bytes a name has; none, where there is none
+abbrev pub name_length : Option (List ℕ) → ℕ
+name_length None = 0
+name_length (Some name) = length name
+
+-- with its share of the list that it stands in
 abbrev pub event_bytes : Event → ℕ
-event_bytes e = message_length (message_of e) + 128
+event_bytes e = message_length (message_of e) + name_length (event_name e) + 128
 
 -- of the records from the place `first` on
 abbrev pub kept_bytes : ℕ → History → ℕ

@@ -89,7 +89,7 @@ impl Trail {
         self.first as usize + self.records.len()
     }
 
-    /// About how many bytes the records take that it still has: 128 each, and the messages in them.
+    /// About how many bytes the records take that it still has: 128 each, and the messages and names in them.
     #[inline(always)]
     pub fn bytes(&self) -> u64
         ensures { result ≤ kept_bytes self.now.first self.now.history }

@@ -150,6 +150,21 @@ fn a_record_counts_with_its_message(rt: HostRuntime) -> Result<(), Fail> {
     Ok(())
 }
 
+#[test]
+fn a_record_counts_with_its_name(rt: HostRuntime) -> Result<(), Fail> {
+    let alloc = rt.alloc();
+    let mut trail = trail_of(alloc, &[Tick(9)])?;
+    let tick = trail.bytes();
+    let unlinked = Call::MqUnlink(name(alloc, b"/twelve bytes")?);
+    trail.reserve_one()?;
+    trail.push_reserved(record_of(act(0, unlinked), None));
+    assert!(rt; trail.bytes() == tick.saturating_add(tick).saturating_add(13));
+    trail.forget_one();
+    trail.forget_one();
+    assert!(rt; trail.bytes() == 0);
+    Ok(())
+}
+
 /// Whether the trail has the records from the place on, and as many places as before.
 fn begins_at(alloc: Global, trail: &Trail, first: usize) -> Result<bool, NoMemory> {
     for (place, pushed) in PUSHED.iter().enumerate() {
