@@ -9,8 +9,17 @@ ghost use Rattle.ipc_loop.specs.Serving.{Serves, KeepsUpToDate};
 use crate::links::Host;
 use ipc_hub::Hub;
 
-/// How many records are forgotten at most for each that was made.
+/// How many records are forgotten at most for each that was made, or for as many bytes as the smallest record takes.
 const FORGOTTEN_FOR_ONE: usize = 2;
+
+/// About how many bytes a record takes that has no message and no name.
+const SMALLEST_RECORD: u64 = 128;
+
+/// How many of the smallest records take as many bytes as were made since there were so many. A record with a large message so pays for
+/// as many small ones as it displaces.
+pub fn displaced(hub: &Hub, bytes_before: u64) -> usize {
+    (hub.record_bytes().saturating_sub(bytes_before) / SMALLEST_RECORD) as usize
+}
 
 /// How many records are kept. Where more are, the oldest are forgotten, a few in each round.
 #[derive(Clone, Copy, PartialEq, Eq)]
@@ -47,7 +56,7 @@ impl Keeping {
 }
 
 /// Forgets the oldest records while more are kept than are to be and the host can spare them, at most two for each of so many that
-/// were made: so no round pauses for it.
+/// were made: so no round pauses longer for it than for what made them.
 pub fn forget_old<H: Host>(hub: &mut Hub, host: &H, keeping: Keeping, made: usize)
     ensures newest { (place : ℕ) → AreWithin keeping place hub.old.core.history → hub.new.core.first ≤ max hub.old.core.first place }
     ensures spare { hub.new.core.first ≤ max hub.old.core.first (H.spare host.now) }

@@ -12,7 +12,7 @@ ghost use Rattle.ipc_loop.specs.Hearing.{HearsAll};
 ghost use Rattle.ipc_loop.specs.Serving.{ServesAndOpens, NobodyIsOwed, NobodyIsDone};
 
 use crate::accepting::{Accepting, Bounds};
-use crate::keeping::{Keeping, forget_old};
+use crate::keeping::{Keeping, displaced, forget_old};
 use crate::links::Host;
 use crate::pausing::Reasons;
 use crate::ports::Ports;
@@ -41,8 +41,8 @@ pub struct Server {
     deadline: Option<u64>,
     shortage: Shortage,
     keeping: Keeping,
-    /// How many events the last round recorded.
-    made: usize,
+    /// How many events the last round recorded, and how many of the smallest their records displaced.
+    owed: usize,
 }
 
 // Called, so that it isn't written out and proved at each exit of a function.
@@ -56,7 +56,7 @@ impl Drop for Server {
             deadline: _deadline,
             shortage: _shortage,
             keeping: _keeping,
-            made: _made,
+            owed: _owed,
         } = self;
     }
 }
@@ -129,7 +129,7 @@ impl Server {
                 moment: 0,
             },
             keeping: Keeping::ALL,
-            made: 0,
+            owed: 0,
         })
     }
 
@@ -191,7 +191,8 @@ impl Server {
 
     /// Waits until something is ready, and then gives each connection that is ready a turn, makes the ticks that are
     /// due, and writes what was answered to any. Of the oldest records it forgets those that are no longer to be kept, at most two
-    /// for each that the round before made. An `Err` tells that the host can't wait; nothing was done then.
+    /// for each that the round before made, and for each 128 bytes that these take. An `Err` tells that the host can't wait; nothing
+    /// was done then.
     pub fn round<H: Host>(&mut self, host: &mut H) -> io::Result<()>
         ensures serves { ServesAndOpens self.old.hub (H.moves host.old) self.old.ports self.new.hub (H.moves host.new) self.new.ports }
         ensures rests { OnOk result (NobodyIsOwed self.new.hub (open_at self.new.ports)) }
@@ -218,13 +219,15 @@ impl Server {
         self.ports.are_queued();
         let later = host.moment();
         self.desk.is_waiting = make_ticks(&mut self.hub, alloc, later).is_err();
-        forget_old(&mut self.hub, host, self.keeping, self.made);
+        forget_old(&mut self.hub, host, self.keeping, self.owed);
+        let bytes = self.hub.record_bytes();
         self.ports.start_round();
         give_turns(&mut self.hub, host, &mut self.ports, &mut self.desk);
         answer_all(&mut self.hub, host, &mut self.ports, &mut self.desk);
         self.desk.trim();
-        self.made = self.hub.recorded().saturating_sub(before);
-        let is_short = self.desk.is_waiting && self.made == 0;
+        let made = self.hub.recorded().saturating_sub(before);
+        self.owed = made.saturating_add(displaced(&self.hub, bytes));
+        let is_short = self.desk.is_waiting && made == 0;
         self.shortage.note(is_short, later);
         Ok(())
     }
