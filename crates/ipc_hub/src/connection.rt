@@ -27,6 +27,9 @@ use std::slice;
 /// The most memory that a connection keeps while nothing waits in it: 4 KiB.
 const KEPT_ROOM: usize = 4096;
 
+/// So many bytes of room a connection keeps at most for each byte that is left of its stream, where that is more than it keeps anyway.
+const MOST_ROOM_OF_A_BYTE: usize = 2;
+
 /// A connection that is not over. A request that is not stepped yet is kept as the bytes of its frame, which is read
 /// again.
 #[derive(Drop)]
@@ -102,7 +105,8 @@ fn put_reserved(bytes: &mut Vec<u8>, more: &[u8])
     }
 }
 
-/// Takes the first bytes away, and gives a large buffer back once it is empty.
+/// Takes the first bytes away. A buffer that is large for what is left of it is given back, or shrunk: one byte may stand behind a frame
+/// of 16 MiB for as long as the client likes.
 fn drop_front(alloc: Global, bytes: &mut Vec<u8>, n: usize)
     requires { n ≤ vec_len bytes.old }
     ensures { bytes.new.items ≡ drop n bytes.old.items }
@@ -110,6 +114,8 @@ fn drop_front(alloc: Global, bytes: &mut Vec<u8>, n: usize)
     remove_front(alloc, bytes, n);
     if bytes.is_empty() && bytes.capacity() > KEPT_ROOM {
         *bytes = Vec::new(alloc);
+    } else if bytes.capacity() / MOST_ROOM_OF_A_BYTE > bytes.len().max(KEPT_ROOM) {
+        bytes.shrink_to(KEPT_ROOM);
     }
 }
 
