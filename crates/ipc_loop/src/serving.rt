@@ -73,7 +73,7 @@ fn untaken(hub: &Hub, number: u64) -> usize
 }
 
 /// How many bytes of the connection's stream the hub keeps.
-pub fn kept(hub: &Hub, number: u64) -> usize
+fn kept(hub: &Hub, number: u64) -> usize
     ensures { result ≡ kept_at hub.now number }
 {
     match hub.kept(Conn(number)) {
@@ -547,6 +547,12 @@ impl Port {
             Ok(()) | Err(HubFault::Ended | HubFault::NoSuchConn) => self.is_over = true,
             Err(HubFault::NoMemory) => {}
         }
+    }
+
+    /// How many bytes of an unfinished frame the hub keeps of its connection. Where whole requests wait there for their turn, they are of
+    /// one read, and none counts.
+    pub fn unfinished(&self, hub: &Hub, number: u64) -> usize {
+        if self.is_full { 0 } else { kept(hub, number) }
     }
 
     /// Ends a link whose unfinished frame is too large beside those of the others.

@@ -11,7 +11,7 @@ ghost use Rattle.ipc_loop.specs.Serving.{Serves, IsUpToDate, IsUpToDateByMark, K
 use crate::ending::Ending;
 use crate::links::{Host, Ready};
 use crate::ports::{Place, Ports};
-use crate::serving::{Desk, kept};
+use crate::serving::Desk;
 use ipc_containers::Numbered;
 use ipc_hub::{Conn, Hub};
 
@@ -53,11 +53,14 @@ fn settle<H: Host>(
     host.close(number, requests, ending);
 }
 
-/// The connection of which the hub keeps most, of those whose links are open, if it keeps something of one.
+/// The connection with the largest unfinished frame, of those whose links are open, if one has any.
 fn largest(hub: &Hub, ports: &Ports) -> Option<u64> {
     let (mut largest, mut most) = (None, 0);
     for number in ports.numbers() {
-        let bytes = kept(hub, *number);
+        let bytes = match ports.all.get(*number as usize) {
+            Some(place) => place.port.unfinished(hub, *number),
+            None => 0,
+        };
         if bytes > most {
             (largest, most) = (Some(*number), bytes);
         }
@@ -81,10 +84,10 @@ impl Ports {
             return Some(number);
         };
         place.is_queued = false;
-        let before = kept(hub, number);
+        let before = place.port.unfinished(hub, number);
         place.port.serve(hub, host, number, desk);
         desk.is_waiting |= place.port.is_ending();
-        desk.weigh(before, kept(hub, number));
+        desk.weigh(before, place.port.unfinished(hub, number));
         settle(
             &mut self.all,
             &mut self.next,
@@ -108,9 +111,9 @@ impl Ports {
         let Some(place) = self.all.get_mut(number as usize) else {
             return;
         };
-        let before = kept(hub, number);
+        let before = place.port.unfinished(hub, number);
         place.port.give_up(hub, desk.alloc, number);
-        desk.weigh(before, kept(hub, number));
+        desk.weigh(before, place.port.unfinished(hub, number));
         settle(
             &mut self.all,
             &mut self.next,
