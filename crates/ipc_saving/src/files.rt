@@ -51,6 +51,12 @@ fn parted(path: &str) -> (&str, &str) {
     }
 }
 
+/// The same file, by a descriptor behind those of the standard streams. Where one of these was closed at the start its descriptor is the
+/// next that a file gets, and what is printed would go into the file.
+pub fn beside_streams(file: &File) -> io::Result<File> {
+    file.try_clone()
+}
+
 /// Locks the file, as long as this process has it open. `WouldBlock` where another has.
 pub fn lock(file: &File) -> io::Result<()> {
     match file.try_lock() {

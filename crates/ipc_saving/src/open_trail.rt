@@ -1,6 +1,6 @@
 //! The file of a trail that is being written.
 
-use crate::files::{lock, path_at, remove, sync_folder};
+use crate::files::{beside_streams, lock, path_at, remove, sync_folder};
 use ipc_log::{Head, TrailWriter};
 use ipc_program::TrailFile;
 use std::alloc::{AllocError, Global};
@@ -128,8 +128,9 @@ impl OpenTrail {
         synced
     }
 
-    /// Begins another file, where that is wanted after so many bytes and this one has all that is spelled. At an `Err` this one goes on,
-    /// and the next try comes after as many bytes more.
+    /// Begins another file, where that is wanted after so many bytes and this one has all that is spelled. This one is synced before, so
+    /// that a loss of power leaves no file without those that it goes on from. At an `Err` this one goes on, and the next try comes after
+    /// as many bytes more.
     pub fn turn<R: AllocGlobal + Files<File = File>>(&mut self, rt: &R) -> io::Result<()> {
         let Some(segments) = &self.segments else {
             return Ok(());
@@ -138,6 +139,9 @@ impl OpenTrail {
             return Ok(());
         }
         self.grown = 0;
+        if !self.is_synced {
+            self.file.sync_data()?;
+        }
         let (file, writer) = segments.make(rt, self.writer.spelled(), self.is_synced)?;
         let before = std::mem::replace(&mut self.file, file);
         if self.first.is_none() {
@@ -158,13 +162,13 @@ fn make<R: AllocGlobal + Files<File = File>>(
     let Ok(mut writer) = TrailWriter::new(rt.alloc(), head) else {
         return Err(io::Error::from(ErrorKind::OutOfMemory));
     };
-    let mut file = File::options()
+    let file = File::options()
         .write(true)
         .create_new(true)
         .mode(OWNER_S_MODE)
         .open(rt, path)?;
-    match begin(rt, path, &mut file, &mut writer, is_synced) {
-        Ok(()) => Ok((file, writer)),
+    match begin(rt, path, &file, &mut writer, is_synced) {
+        Ok(file) => Ok((file, writer)),
         Err(error) => {
             let _ = remove(rt, path);
             Err(error)
@@ -172,19 +176,20 @@ fn make<R: AllocGlobal + Files<File = File>>(
     }
 }
 
-/// Locks the file, and writes the head.
+/// Locks the file, and writes the head. The file to go on with.
 fn begin<R: Files<File = File>>(
     rt: &R,
     path: &str,
-    file: &mut File,
+    file: &File,
     writer: &mut TrailWriter,
     is_synced: bool,
-) -> io::Result<()> {
-    lock(file)?;
-    writer.write(file)?;
+) -> io::Result<File> {
+    let mut file = beside_streams(file)?;
+    lock(&file)?;
+    writer.write(&mut file)?;
     if is_synced {
         file.sync_data()?;
         sync_folder(rt, path)?;
     }
-    Ok(())
+    Ok(file)
 }

@@ -1,6 +1,6 @@
 //! A trail that is in files already, and is gone on with.
 
-use crate::files::{lock, path_at, places_beside, remove};
+use crate::files::{beside_streams, lock, path_at, places_beside, remove, sync_folder};
 use crate::open_trail::{OpenTrail, Segments};
 use ipc_access::Users;
 use ipc_core::{Config, Limits};
@@ -79,6 +79,7 @@ fn open_old<R: Files<File = File>>(rt: &R, path: &str) -> io::Result<Option<File
     if !file.metadata()?.is_file() {
         return Err(io::Error::from(ErrorKind::InvalidInput));
     }
+    let file = beside_streams(&file)?;
     lock(&file)?;
     Ok(Some(file))
 }
@@ -236,7 +237,12 @@ fn whole_length(mut file: &File, rest: usize) -> Result<u64, ProgramFault> {
 impl OldTrail {
     /// Cuts off what isn't whole, and writes the hang-ups behind the records of the last file. At an `Err` that has whole records alone,
     /// if it can be cut. The head is the first file's.
-    pub fn go_on(self, alloc: Global, wanted: &TrailFile, head: &Head) -> io::Result<OpenTrail> {
+    pub fn go_on<R: AllocGlobal + Files<File = File>>(
+        self,
+        rt: &R,
+        wanted: &TrailFile,
+        head: &Head,
+    ) -> io::Result<OpenTrail> {
         let OldTrail {
             first,
             last,
@@ -247,11 +253,16 @@ impl OldTrail {
             whole,
             is_torn: _,
         } = last;
-        let segments = Segments::wanted(alloc, wanted, head)?;
+        let segments = Segments::wanted(rt.alloc(), wanted, head)?;
         file.set_len(whole)?;
         file.seek(SeekFrom::Start(whole))?;
         let mut trail = OpenTrail::new(first, file, whole, writer, segments, wanted.is_synced);
-        match trail.put() {
+        let written = match trail.put() {
+            // Who made the last file may not have asked for its name to be on the disk.
+            Ok(()) if wanted.is_synced => sync_folder(rt, wanted.path.as_str()),
+            other => other,
+        };
+        match written {
             Ok(()) => Ok(trail),
             Err(error) => {
                 trail.cut(whole);

@@ -169,7 +169,7 @@ fn serve_and_save<R: AllocGlobal + Files<File = File> + Print + Eprint + Wait + 
 ) -> Result<(), ProgramFault> {
     let Goal { wanted, head, old } = trail;
     let opened = match old {
-        Some(old) => old.go_on(rt.alloc(), wanted, &head),
+        Some(old) => old.go_on(rt, wanted, &head),
         None => OpenTrail::create(rt, wanted, &head),
     };
     let trail = match opened {
