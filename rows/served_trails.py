@@ -210,8 +210,6 @@ def full_disk(programs, place, *words):
 
 def no_sync(programs, place, *words):
     """A sync that fails ends the server, and what it was to keep isn't answered."""
-    if not words or not shutil.which("cc"):
-        return
     source, library = place.room / "no_sync.c", place.room / "no_sync.so"
     source.write_text("int fdatasync(int fd);\nint calls;\nint fdatasync(int fd) { (void)fd; return ++calls > 2 ? -1 : 0; }\n")
     subprocess.run(["cc", "-shared", "-fPIC", "-o", library, source], check=True)
@@ -391,6 +389,7 @@ def one_at_a_time(programs, place, *words):
         is_same("opened", asked(programs, place, "ka1", "mq-open /jobs rw --create"), [b"opened 0\n"])
         second = Place(place.room)
         second.address = f"unix:{place.room}/other"
+        settled(place.trail, 3)     # the client's hang-up is recorded behind its end
         files = place.trail.read_bytes()
         command = programs.command("mqserve", ["serve", str(USERS), second.address, *ONE_THREAD, "--trail-file", str(place.trail), *words])
         ended = subprocess.run(command, stdout=subprocess.PIPE, stderr=subprocess.PIPE, timeout=SECONDS)
@@ -398,6 +397,25 @@ def one_at_a_time(programs, place, *words):
         is_same("whether the file is as it was", place.trail.read_bytes() == files, True)
         is_same("sent", asked(programs, place, "ka1", "send /jobs 1 on"), [b"sent\n"])
     is_legal(programs, place.trail)
+
+
+def without_streams(programs, place, *words):
+    """What is printed goes into no file, also where a standard stream was closed at the start: without an output no server starts, and
+    without an error one serves."""
+    command = programs.command("mqserve", ["serve", str(USERS), place.address, *ONE_THREAD, "--trail-file", str(place.trail), *words])
+    for count in (0, 3):
+        closed = subprocess.run(command, stderr=subprocess.PIPE, timeout=SECONDS, preexec_fn=lambda: os.close(1))
+        is_same("fault and status", (closed.stderr, closed.returncode), (b"mqserve: write\n", 4))
+        is_same("how many records", len(place.records()), count)
+        with subprocess.Popen(command + ["--stop-after", "1"], stdout=subprocess.PIPE, preexec_fn=lambda: os.close(2)) as server:
+            try:
+                is_same("what it says", server.stdout.readline().split()[:1], [b"serving"])
+                asked(programs, place, "ka1", "umask 0")
+                is_same("the last line and status", (server.communicate(timeout=SECONDS)[0], server.returncode), (b"served 1\n", 0))
+            finally:
+                server.kill()
+        is_same("how many records", len(place.records()), count + 3)
+    is_legal(programs, *place.files())
 
 
 class Both(Client):
@@ -553,10 +571,8 @@ FAULTS = [
 LEGAL = [["life"], ["long"], ["empty"], ["first", "second"]]
 
 
-def known(programs, place, *words):
+def known(programs, place):
     """Trails whose fault is known, or that have none."""
-    if words:
-        return
     users = place.room / "users"
     users.write_bytes(trails.user_file(trails.USERS))
     for name, content in trails.trails().items():
@@ -572,10 +588,8 @@ def known(programs, place, *words):
         is_same(f"status and fault by {name}", told_of(programs, users, place.trail, trails.trails()["life"])[:2], wanted)
 
 
-def damaged(programs, place, *words):
+def damaged(programs, place):
     """A file that is cut at any byte has the records that are whole, and is legal; one with any byte changed has a fault with its place."""
-    if words:
-        return
     users = place.room / "users"
     users.write_bytes(trails.user_file(trails.USERS))
     life, ends = trails.trails()["life"], [len(trails.head())]
@@ -608,11 +622,20 @@ CASES = {
     "a torn file": torn,
     "files that are not started from": not_started_from,
     "a second server": one_at_a_time,
+    "closed streams": without_streams,
     "kills, and going on": killed_and_gone_on,
     "more than one file": in_more_files,
     "no next file": no_next_file,
     "kills, and going on in more files": killed_in_more_files,
 }
+# Those to which --trail-sync says nothing, and the one that is nothing without it.
+WITHOUT_SYNC, WITH_SYNC = {known, damaged}, {no_sync}
+
+
+def ways_of(case):
+    """The words of the servers that the case is tried with."""
+    ways = [] if case in WITH_SYNC else [[]]
+    return ways if case in WITHOUT_SYNC else [*ways, ["--trail-sync"]]
 
 
 def judged(programs, case, words):
@@ -629,7 +652,10 @@ def main():
     programs = servers.programs_given(__doc__)
     failed = count = 0
     for name, case in CASES.items():
-        for words in ([], ["--trail-sync"]):
+        if case is no_sync and not shutil.which("cc"):
+            print(f"trail: {name}: no C compiler here; passed over")
+            continue
+        for words in ways_of(case):
             difference = judged(programs, case, words)
             failed, count = failed + bool(difference), count + 1
             print(f"trail: {' '.join([name, *words])}: {difference or 'as it must be'}", flush=True)

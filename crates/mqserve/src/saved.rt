@@ -10,6 +10,7 @@ use ipc_saving::OpenTrail;
 use ipc_terms::Uid;
 use ipc_trail::Trail;
 use std::alloc::Global;
+use std::collections::BTreeSet;
 use std::fs::File;
 use std::io;
 use std::io::ErrorKind;
@@ -20,8 +21,11 @@ use std::time::{Clock, Duration};
 /// So many bytes are spelled ahead of what the file takes, and no record more.
 const MOST_AHEAD: usize = 1_048_576;
 
-/// How many milliseconds a wait takes at most while the file lacks records.
+/// How many milliseconds a wait takes at most while the file takes nothing.
 const LONGEST_WAIT: u64 = 100;
+
+/// How many milliseconds a wait takes at most while the file has all that is spelled, and more is to be spelled.
+const SHORTEST_WAIT: u64 = 1;
 
 /// Sockets of a server whose trail goes into a file. A link takes no bytes before the file has the records that they answer.
 #[derive(Drop)]
@@ -37,7 +41,7 @@ pub struct SavedSockets<'a, R> {
     /// The link that is offered what it was answered since the last wait.
     next: Option<u64>,
     /// Links that took no bytes since the file lacked records, and aren't told of yet.
-    refused: Vec<u64>,
+    refused: BTreeSet<u64>,
     /// The last write or sync failed, and standard error was told.
     has_failed: bool,
 }
@@ -58,17 +62,20 @@ impl<'a, R> SavedSockets<'a, R> {
             made_before: saved,
             saved,
             next: None,
-            refused: Vec::new(alloc),
+            refused: BTreeSet::new(alloc),
             has_failed: false,
         }
     }
 
-    /// Notes that the link took nothing. Where there is no memory for that it is offered the bytes again at once, as if a signal had
-    /// come.
+    /// Notes that the link took nothing. Where there is no memory for that it is offered the bytes again in this round, as if a signal
+    /// had come. Others may come in between, so until the next wait nobody takes what the file lacks, whoever is offered it.
     fn refuse(&mut self, number: u64) -> io::Error {
-        match self.refused.push(number) {
-            Ok(()) => io::Error::from(ErrorKind::WouldBlock),
-            Err(_) => io::Error::from(ErrorKind::Interrupted),
+        match self.refused.insert(number) {
+            Ok(_) => io::Error::from(ErrorKind::WouldBlock),
+            Err(_) => {
+                self.made_before = self.made;
+                io::Error::from(ErrorKind::Interrupted)
+            }
         }
     }
 
@@ -80,7 +87,12 @@ impl<'a, R> SavedSockets<'a, R> {
     /// The longest wait now.
     fn shorten(&self, pause: Option<Duration>) -> Option<Duration> {
         let longest = if self.saved < self.made {
-            Duration::from_millis(LONGEST_WAIT)
+            let takes_all = self.trail.writer.is_empty() && !self.has_failed;
+            Duration::from_millis(if takes_all {
+                SHORTEST_WAIT
+            } else {
+                LONGEST_WAIT
+            })
         } else if self.refused.is_empty() {
             return pause;
         } else {
@@ -202,7 +214,7 @@ impl<R: AllocGlobal + Files<File = File> + Print + Eprint + Wait + Clock> Host
 
     fn next_ready(&mut self) -> Option<Ready> {
         if self.has_caught_up() {
-            if let Some(number) = self.refused.pop() {
+            if let Some(number) = self.refused.pop_first() {
                 return Some(Ready::Link {
                     number,
                     is_readable: false,
