@@ -15,6 +15,7 @@ import struct
 import subprocess
 import sys
 import tempfile
+import threading
 import time
 
 sys.dont_write_bytecode = True
@@ -26,7 +27,7 @@ VALUE = r'"(?:[^"\\\n]|\\\\|\\"|\\n)*"'
 SAMPLE = re.compile(rf"({NAME})(?:\{{((?:{LABEL}={VALUE},)*(?:{LABEL}={VALUE})?)\}})? (\S+)")
 COMMENT = re.compile(rf"# (HELP|TYPE) ({NAME}) (.*)")
 KINDS = ("counter", "gauge", "histogram", "summary", "untyped")
-MOST_SCRAPERS = 8
+MOST_SCRAPERS, FEW_FILES = 8, 24
 MODE_DENIED, BAD_KEY = 15, 31
 RULES = 33
 GET = b"GET /metrics HTTP/1.1\r\nHost: here\r\n\r\n"
@@ -113,8 +114,8 @@ class Place:
         self.address = f"unix:{room}/socket" if kind == "a file" else f"127.0.0.1:{free_port()}"
         self.numbers = f"unix:{room}/numbers" if kind == "a file" else f"127.0.0.1:{free_port()}"
 
-    def serving(self, programs, served, *words):
-        return serving(programs, self.address, "--stop-after", str(served), *ONE_THREAD, "--metrics", self.numbers, *words)
+    def serving(self, programs, served, *words, **how):
+        return serving(programs, self.address, "--stop-after", str(served), *ONE_THREAD, "--metrics", self.numbers, *words, **how)
 
 
 def greeted(place, key=b"ka1"):
@@ -241,6 +242,42 @@ def many_pages(programs, place):
         ends(server, 1)
 
 
+def ends_beside_others(programs, place):
+    """A server ends though others go on connecting to its numbers: each that comes closes one before it, which lingers."""
+    with place.serving(programs, 1) as server, contextlib.ExitStack() as stack:
+        stop = threading.Event()
+
+        def come():
+            with contextlib.suppress(OSError):
+                while not stop.wait(0.1):
+                    stack.enter_context(connect(place.numbers))
+        others = threading.Thread(target=come)
+        others.start()
+        try:
+            time.sleep(2)
+            connect(place.address).close()
+            ends(server, 1)
+        finally:
+            stop.set()
+            others.join()
+
+
+def without_files(programs, place):
+    """Who asked while there were no files is answered once there are some."""
+    with place.serving(programs, FEW_FILES, files=FEW_FILES) as server, contextlib.ExitStack() as stack:
+        clients = []
+        for _ in range(FEW_FILES):
+            clients.append(stack.enter_context(connect(place.address)))
+        time.sleep(0.5)
+        with connect(place.numbers) as asking:
+            asking.sendall(GET)
+            time.sleep(0.5)
+            for client in clients:
+                client.close()
+            is_same("status", parted(all_of(asking))[0], 200)
+        ends(server, FEW_FILES)
+
+
 def file_and_its_end(programs, place):
     """The file at which numbers are shown is the server's user's alone, and goes at the end."""
     with place.serving(programs, 1) as server:
@@ -287,6 +324,8 @@ CASES = {
     "a request in pieces": in_pieces,
     "clients that send nothing": silent_ones,
     "many pages": many_pages,
+    "an end beside others": ends_beside_others,
+    "no files": without_files,
     "an address that is in use": in_use,
     "numbers in the log": told_to_the_log,
 }

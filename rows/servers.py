@@ -87,8 +87,10 @@ def started(programs, address, *words, prepare=None, users=USERS):
 
 
 @contextlib.contextmanager
-def serving(programs, address, *words, memory=None, mask=None, users=USERS):
-    """A server that says that it serves, within so many bytes of memory, and with this mask for files."""
+        if files:
+            resource.setrlimit(resource.RLIMIT_NOFILE, (files, files))
+def serving(programs, address, *words, memory=None, files=None, mask=None, users=USERS):
+    """A server that says that it serves, within so many bytes of memory and so many open files, and with this mask for files."""
 
     def prepare():
         if memory:

@@ -9,7 +9,7 @@ use std::alloc::Global;
 use std::io;
 use std::io::ErrorKind;
 use std::rt::Files;
-use std::time::Clock;
+use std::time::{Clock, Duration};
 
 /// How many are open at most: where one more comes, the first of them is closed. So who sends nothing is in nobody's way.
 const MOST_SCRAPERS: usize = 8;
@@ -19,6 +19,9 @@ const LISTENER: u64 = 1 << 62;
 
 /// How many bytes are read at a time.
 const PIECE: usize = 2_048;
+
+/// After how many milliseconds accepting is tried again where it failed.
+const NEXT_TRY: u64 = 100;
 
 /// A connection that asks for the page once, and is closed behind its answer.
 #[derive(Drop)]
@@ -34,6 +37,8 @@ struct Scraper {
     written: usize,
     /// Something may have come, or may be written.
     is_ready: bool,
+    /// There was no memory for its answer.
+    is_given_up: bool,
 }
 
 impl Scraper {
@@ -48,6 +53,9 @@ impl Scraper {
             return true;
         }
         self.is_ready = false;
+        if self.is_given_up {
+            return false;
+        }
         if matches!(self.asked, Asked::Unfinished) {
             return self.read();
         }
@@ -106,6 +114,8 @@ pub struct Scrapers {
     open: Vec<Scraper>,
     /// Somebody may be waiting to be accepted.
     may_accept: bool,
+    /// Accepting failed, as for want of files, though somebody may be waiting.
+    has_failed: bool,
 }
 
 impl Scrapers {
@@ -119,6 +129,7 @@ impl Scrapers {
             last: LISTENER,
             open: Vec::with_capacity(alloc, MOST_SCRAPERS)?,
             may_accept: true,
+            has_failed: false,
         })
     }
 
@@ -127,9 +138,16 @@ impl Scrapers {
         self.files = Some(files);
     }
 
-    /// Whether somebody may be waiting to be accepted.
-    pub fn may_accept(&self) -> bool {
-        self.may_accept
+    /// The pause, or less where somebody may be waiting to be accepted.
+    pub fn shorten(&self, pause: Option<Duration>) -> Option<Duration> {
+        if !self.may_accept {
+            return pause;
+        }
+        let most = Duration::from_millis(if self.has_failed { NEXT_TRY } else { 0 });
+        match pause {
+            Some(pause) => Some(pause.min(most)),
+            None => Some(most),
+        }
     }
 
     /// Notes that the listener, or the connection, of this number is ready. Says whether there is such a one.
@@ -158,9 +176,16 @@ impl Scrapers {
             if !self.may_accept {
                 break;
             }
-            match self.listener.accept() {
+            let accepted = self.listener.accept();
+            self.has_failed = false;
+            match accepted {
                 Ok(stream) => self.add(rt, registry, stream, lingering),
-                Err(_) => self.may_accept = false,
+                Err(error) if error.kind() == ErrorKind::WouldBlock => self.may_accept = false,
+                Err(_) => {
+                    // The listener isn't told of again for who waits already.
+                    self.has_failed = true;
+                    break;
+                }
             }
         }
         self.close_ended(rt, lingering);
@@ -191,6 +216,7 @@ impl Scrapers {
             answer: Vec::new(self.alloc),
             written: 0,
             is_ready: true,
+            is_given_up: false,
         });
     }
 
@@ -223,7 +249,7 @@ impl Scrapers {
             }
             match response(self.alloc, scraper.asked, page) {
                 Ok(answer) => scraper.answer = answer,
-                Err(_) => scraper.asked = Asked::Unfinished,
+                Err(_) => scraper.is_given_up = true,
             }
             scraper.is_ready = true;
         }

@@ -227,7 +227,8 @@ impl<R: Files + Clock> Sockets<'_, R> {
         if let Some(files) = self.files.take() {
             files.remove(self.rt);
         }
-        if let Some(scrapers) = &mut self.scrapers {
+        // Else whoever goes on connecting there could keep streams lingering.
+        if let Some(mut scrapers) = self.scrapers.take() {
             scrapers.remove_files(self.rt);
         }
         for _ in 0..u64::MAX {
@@ -249,11 +250,11 @@ impl<R> Sockets<'_, R> {
         }
     }
 
-    /// Whether somebody may be waiting to ask for numbers.
-    fn may_be_asked(&self) -> bool {
+    /// The pause, or less where something may be ready before.
+    fn shorten(&self, pause: Option<Duration>) -> Option<Duration> {
         match &self.scrapers {
-            Some(scrapers) => scrapers.may_accept(),
-            None => false,
+            Some(scrapers) => scrapers.shorten(pause),
+            None => pause,
         }
     }
 
@@ -330,8 +331,9 @@ impl<R: Clock> Host for Sockets<'_, R> {
     }
 
     fn wait(&mut self, pause: Option<Duration>) -> io::Result<()> {
-        let pause = if self.ready.is_empty() && !self.may_be_asked() {
-            self.lingering.shorten(self.rt, pause)
+        let sooner = self.shorten(pause);
+        let pause = if self.ready.is_empty() {
+            self.lingering.shorten(self.rt, sooner)
         } else {
             // What is ready already is told at once.
             Some(Duration::ZERO)
