@@ -10,6 +10,9 @@ use std::io::Write;
 use std::sync::Wait;
 use std::sync::ledger::Ledger;
 
+/// The most room that the buffer of answers keeps while nothing is written: 64 KiB.
+const KEPT_ROOM: usize = 65_536;
+
 /// Writes what is untaken whenever the bell rings, until the reader is done and all is written, or a write fails.
 pub(crate) fn write_answers<L: Ledger, B: Origin, R: Wait, O: Write + Drop, G: Gate, J>(
     rt: &R,
@@ -20,7 +23,7 @@ pub(crate) fn write_answers<L: Ledger, B: Origin, R: Wait, O: Write + Drop, G: G
     for _ in rt.forever() {
         let seen = desk.bell.rings();
         let (answers, last, is_over) = take(rt, desk);
-        if spell(&mut bytes, &answers, &last).is_err() {
+        if spell(&mut bytes, answers, last).is_err() {
             desk.fail(rt, Ending::NoMemory);
             return;
         }
@@ -49,9 +52,9 @@ fn take<L: Ledger, B: Origin, R: Wait, G: Gate, J>(
     (answers, last, is_over)
 }
 
-/// Spells the answers at the end of the buffer.
-fn spell(bytes: &mut Vec<u8>, answers: &[Answer], last: &Option<Answer>) -> Result<(), NoMemory> {
-    for answer in answers.iter().chain(last) {
+/// Spells the answers at the end of the buffer, and drops them: a client may say nothing for long.
+fn spell(bytes: &mut Vec<u8>, answers: Vec<Answer>, last: Option<Answer>) -> Result<(), NoMemory> {
+    for answer in answers.iter().chain(&last) {
         if put_answer(bytes, answer).is_err() {
             return Err(NoMemory);
         }
@@ -59,7 +62,7 @@ fn spell(bytes: &mut Vec<u8>, answers: &[Answer], last: &Option<Answer>) -> Resu
     Ok(())
 }
 
-/// Writes the buffer and empties it. Says whether it was written.
+/// Writes the buffer and empties it; one that has grown large is given back. Says whether it was written.
 fn write<L: Ledger, B: Origin, O: Write + Drop, G: Gate, J>(
     desk: &Desk<'_, L, B, G, J>,
     writer: &mut O,
@@ -67,6 +70,10 @@ fn write<L: Ledger, B: Origin, O: Write + Drop, G: Gate, J>(
 ) -> bool {
     desk.gate.before_answer(desk.conn);
     let is_written = writer.write_all(bytes.as_slice()).is_ok() && writer.flush().is_ok();
-    bytes.clear();
+    if bytes.capacity() > KEPT_ROOM {
+        *bytes = Vec::new(desk.alloc);
+    } else {
+        bytes.clear();
+    }
     is_written
 }
