@@ -26,7 +26,7 @@ from servers import (HELLO, MASK, MQ_OPEN, MQ_SEND, ONE_THREAD, OPENED, RECEIVED
 ANN, BOB, EVE = 61101, 61102, 61103
 USERS = {"root": 0, "ann": ANN, "bob": BOB}
 MQ_RECEIVE, MODE_DENIED = 7, 15
-FLOOD = 200
+FLOOD, LEFT_OVER = 200, 20
 FEW_FILES, MANY_USERS = 24, 40
 LONGEST_PATH = 107
 
@@ -352,13 +352,18 @@ def by_mqctl(programs, folder):
     """`mqctl` takes no key: by a socket's path it is that user, and by the folder the user who runs it, whose socket it finds by its
     owner. Lines of standard input come behind the hello that the server says."""
     own = f"unix-user:{folder.path}"
-    with folder.serving(programs, "--stop-after", "4") as server:
+    with folder.serving(programs, "--stop-after", "5") as server:
         is_same("opened", servers.told(programs, f"{own}/ann", "mq-open", "/jobs", "rw", "--create", "--mode", "0600"), b"opened 0\n")
         is_same("whose it is", servers.told(programs, own, "stat", "mq", "/jobs"), b"stat %d %d 0600\n" % (ANN, ANN))
         is_same("another's", servers.told(programs, f"{own}/bob", "send", "/jobs", "5", "hi"), b"refused 15 EACCES ModeDenied\n")
         ended = subprocess.run(programs.command("mqctl", [own]), input=b"umask 077\numask 0\n", stdout=subprocess.PIPE, timeout=SECONDS)
         is_same("lines and status", (ended.stdout, ended.returncode), (b"mask 022\nmask 077\n", 0))
-        ends(server, 4)
+        # Whatever else is in the folder: what servers left, and a name that is no text.
+        for number in range(LEFT_OVER):
+            leave_behind(folder.socket(f"left{number}"))
+        pathlib.Path(os.fsdecode(os.fsencode(folder.path) + b"/\xff")).touch()
+        is_same("at the one that serves", servers.told(programs, own, "umask", "0"), b"mask 022\n")
+        ends(server, 5)
 
 
 def exchanged(programs, folder):

@@ -3,7 +3,7 @@
 ghost use Rattle.std.specs.Prelude.{◌≤◌, length};
 
 use crate::connection::{connect_over_tcp, connect_to_file};
-use crate::own_socket::own_path;
+use crate::own_socket::connect_as_owner;
 use ipc_client::{ClientFault, LONGEST_KEY, ProgramFault, WithoutFront, client_session};
 use std::alloc::{AllocError, Global};
 use std::io::{Read, Write};
@@ -33,8 +33,7 @@ pub fn talk_as_owner(
     if !is_one_line(command) {
         return Err(ProgramFault::Arguments);
     }
-    let path = own_path(rt, place)?;
-    let stream = connect_to_file(rt, path.as_str())?;
+    let stream = connect_as_owner(rt, place)?;
     let writer = WithoutFront {
         writer: &stream,
         left_out: EMPTY_HELLO,

@@ -5,7 +5,9 @@ ghost use Rattle.std.specs.Prelude.{◌≡◌, ◌≢◌, ◌++◌, ℕ, List, c
 use crate::connection::fault_of;
 use ipc_client::ClientFault;
 use std::fs::Metadata;
+use std::io::ErrorKind;
 use std::os::unix::fs::{FileTypeExt, MetadataExt};
+use std::os::unix::net::UnixStream;
 use std::{fs, io};
 
 /// The path behind `unix-user:`, where the address is of a user's own socket.
@@ -15,30 +17,50 @@ pub fn own_place(address: &str) -> Option<&str>
     address.strip_prefix("unix-user:")
 }
 
-/// The path of the socket: in a folder that of the socket which the program's user owns, and anything else is the socket.
-pub fn own_path(rt: &HostRuntime, place: &str) -> Result<String, ClientFault> {
-    match path_at(rt, place) {
-        Ok(Some(path)) => Ok(path),
-        Ok(None) => Err(ClientFault::Net),
+/// Connects to the socket: in a folder to one that the program's user owns and that somebody listens at, and anything else is the socket.
+pub fn connect_as_owner(rt: &HostRuntime, place: &str) -> Result<UnixStream, ClientFault> {
+    match connect_at(rt, place) {
+        Ok(stream) => Ok(stream),
         Err(error) => Err(fault_of(&error)),
     }
 }
 
-fn path_at(rt: &HostRuntime, place: &str) -> io::Result<Option<String>> {
-    if !fs::metadata(rt, place)?.is_dir() {
-        return Ok(Some(String::from_str(rt.alloc(), place)?));
+fn connect_at(rt: &HostRuntime, place: &str) -> io::Result<UnixStream> {
+    if fs::metadata(rt, place)?.is_dir() {
+        connect_within(rt, place)
+    } else {
+        UnixStream::connect(rt, place)
     }
-    for entry in fs::read_dir(rt, place)? {
-        let entry = entry?;
-        if is_own(&entry.metadata()?) {
-            let name = entry.file_name();
-            return Ok(Some(format!(in rt.alloc(); "{place}/{name}")?));
-        }
-    }
-    Ok(None)
 }
 
-/// Whether it is a socket that the program's user owns.
-fn is_own(file: &Metadata) -> bool {
-    file.file_type().is_socket() && file.uid() == libc::getuid()
+/// Connects to the first own socket of the folder that somebody listens at. A server that a signal ended left others.
+fn connect_within(rt: &HostRuntime, folder: &str) -> io::Result<UnixStream> {
+    let mut refusal = io::Error::from(ErrorKind::NotFound);
+    for entry in fs::read_dir(rt, folder)? {
+        let entry = match entry {
+            Ok(entry) => entry,
+            // A name that isn't UTF-8 is none of a server's.
+            Err(error) if error.kind() == ErrorKind::InvalidFilename => continue,
+            Err(error) => return Err(error),
+        };
+        if !is_own(entry.metadata())? {
+            continue;
+        }
+        let name = entry.file_name();
+        let path = format!(in rt.alloc(); "{folder}/{name}")?;
+        match UnixStream::connect(rt, path.as_str()) {
+            Ok(stream) => return Ok(stream),
+            Err(error) => refusal = error,
+        }
+    }
+    Err(refusal)
+}
+
+/// Whether it is a socket that the program's user owns. What is gone meanwhile is none.
+fn is_own(found: io::Result<Metadata>) -> io::Result<bool> {
+    match found {
+        Ok(file) => Ok(file.file_type().is_socket() && file.uid() == libc::getuid()),
+        Err(error) if error.kind() == ErrorKind::NotFound => Ok(false),
+        Err(error) => Err(error),
+    }
 }
