@@ -82,6 +82,7 @@ rows:
 	@rows/trails.py --check
 	@rows/run.py
 	@rows/servers.py
+	@rows/bounds.py
 	@rows/user_sockets.py
 	@rows/served_trails.py
 	@rows/metrics.py

@@ -26,20 +26,14 @@ TOP = pathlib.Path(__file__).resolve().parent.parent
 USERS = TOP / "rows" / "mqserve" / "two.users"
 SECONDS = 60
 SECONDS_OF_AN_ANSWER = 4
-LITTLE_MEMORY, FEW_CALLS = 64 << 20, 100_000
-# Less memory than as many semaphores take as may have names, and more.
-FULL_MEMORY, ENOUGH_MEMORY, MOST_SEMAPHORES = 32 << 20, 256 << 20, 65_536
-KEPT_MESSAGES, FEW_SEMAPHORES, AT_A_TIME = 8, 10_000, 64
-# More than little memory has room for, if all are kept.
-MANY_CALLS, FEW_RECORDS = 2_000_000, 1_000
 MANY = 200
 AT_ONCE, ROUNDS = 8, 5
 MUCH, MANY_REFUSED = 300_000, 40
 # As /proc/net/tcp has them.
 KEEPALIVE, MINUTE = 2, 6_000
 
-HELLO, UMASK, SEM_OPEN, SEM_CLOSE, STARTED, DONE, MASK = 1, 2, 11, 12, 65, 66, 68
-MQ_OPEN, MQ_SEND, MQ_RECEIVE, MQ_TIMED_RECEIVE = 3, 6, 7, 27
+HELLO, UMASK, SEM_OPEN, STARTED, MASK = 1, 2, 11, 65, 68
+MQ_OPEN, MQ_SEND, MQ_TIMED_RECEIVE = 3, 6, 27
 OPENED, SENT, RECEIVED, REFUSED = 67, 70, 71, 76
 BAD_KEY, TIMED_OUT = 31, 32
 ONE_THREAD = ["--one-thread"]
@@ -87,14 +81,14 @@ def started(programs, address, *words, prepare=None, users=USERS):
 
 
 @contextlib.contextmanager
-        if files:
-            resource.setrlimit(resource.RLIMIT_NOFILE, (files, files))
 def serving(programs, address, *words, memory=None, files=None, mask=None, users=USERS):
     """A server that says that it serves, within so many bytes of memory and so many open files, and with this mask for files."""
 
     def prepare():
         if memory:
             resource.setrlimit(resource.RLIMIT_AS, (memory, memory))
+        if files:
+            resource.setrlimit(resource.RLIMIT_NOFILE, (files, files))
         if mask is not None:
             os.umask(mask)
 
@@ -286,106 +280,6 @@ def in_two_parts(programs, address, *words):
             is_answer(stream, MASK)
         stack.close()
         ends(server, 2)
-
-
-def without_memory(programs, address, *words):
-    """A server that finds no memory for a hang-up ends after a second, and says why; an idle client doesn't change that."""
-    with serving(programs, address, *words, memory=LITTLE_MEMORY) as server, contextlib.ExitStack() as stack:
-        idle = stack.enter_context(connect(address))
-        idle.sendall(frame(HELLO, b"\0\3ka1"))
-        is_answer(idle, STARTED)
-        calls = call_without_end(address)
-        err = server.communicate(timeout=SECONDS)[1]
-        is_same("faults and status", (err, server.returncode), (b"mqserve: memory\n", 5))
-        if calls < FEW_CALLS:
-            raise Wrong(f"{calls} calls were answered in {LITTLE_MEMORY} bytes of memory")
-
-
-def keeps_the_newest(programs, address, *words):
-    """A server that keeps few records answers more calls than there is room for; an audit begins at the oldest that is kept."""
-    with serving(programs, address, "--stop-after", "2", *words, memory=LITTLE_MEMORY) as server:
-        with connect(address) as stream:
-            stream.sendall(frame(HELLO, b"\0\3ka1"))
-            is_answer(stream, STARTED)
-            for _ in range(0, MANY_CALLS, FEW_RECORDS):
-                stream.sendall(frame(UMASK, b"\0\0") * FEW_RECORDS)
-                exactly(stream, len(frame(MASK, b"\0\0")) * FEW_RECORDS)
-        shown = told(programs, address, "r00t", "audit", "0", "1")
-        found = re.match(rb"records 1 (\d+):0:umask:0:", shown)
-        # Beside the calls two hellos and a hang-up are recorded.
-        if not found or not 0 <= int(found[1]) - (MANY_CALLS - FEW_RECORDS) <= 3:
-            raise Wrong(f"the audit begins at {shown!r}")
-        ends(server, 2)
-
-
-def goes_on_when_full(programs, address, *words):
-    """Who creates semaphores until there is no memory for more is hung up, and so is the next who does. What others have stays,
-    and they are served. So too where there is memory, and as many semaphores have names as may."""
-    for memory in (FULL_MEMORY, ENOUGH_MEMORY):
-        goes_on(programs, address, memory, *words)
-
-
-def goes_on(programs, address, memory, *words):
-    with serving(programs, address, *words, memory=memory) as server, contextlib.ExitStack() as stack:
-        keeper, waiting = [stack.enter_context(connect(address)) for _ in range(2)]
-        for stream in (keeper, waiting):
-            stream.sendall(frame(HELLO, b"\0\4r00t") + frame(MQ_OPEN, b"\0\5/kept\3\1\1\x80\0"))
-            is_answer(stream, STARTED)
-            is_answer(stream, OPENED)
-        for number in range(KEPT_MESSAGES):
-            keeper.sendall(frame(MQ_SEND, struct.pack(">QI", 0, 0) + b"%d" % number))
-            is_answer(keeper, SENT)
-        first, second = [create_without_end(address, letter) for letter in (b"a", b"b")]
-        is_bound = first == MOST_SEMAPHORES and second == 0
-        if not is_bound and (memory == ENOUGH_MEMORY or first < FEW_SEMAPHORES or second >= FEW_SEMAPHORES):
-            raise Wrong(f"{first} and {second} semaphores were created in {memory} bytes of memory")
-        for number in range(KEPT_MESSAGES):
-            keeper.sendall(frame(MQ_RECEIVE, struct.pack(">QI", 0, 8192)))
-            is_same("message", is_answer(keeper, RECEIVED), bytes(4) + b"%d" % number)
-        waiting.sendall(frame(MQ_RECEIVE, struct.pack(">QI", 1, 8192)))
-        is_silent("a receive from an empty queue", waiting)
-        keeper.sendall(frame(MQ_SEND, struct.pack(">QI", 0, 7) + b"on"))
-        is_answer(keeper, SENT)
-        is_same("message", is_answer(waiting, RECEIVED), struct.pack(">I", 7) + b"on")
-        is_same("unlinked", told(programs, address, "r00t", "sem-unlink", name_of(b"a", 0).decode()), b"done\n")
-        is_same("whether it has ended", server.poll(), None)
-
-
-def name_of(letter, number):
-    return b"/%s%0199d" % (letter, number)
-
-
-def create_without_end(address, letter):
-    """Creates semaphores, and closes each, until the server hangs up. Returns how many it created."""
-    created = 0
-    with connect(address) as stream:
-        stream.sendall(frame(HELLO, b"\0\3ka1"))
-        is_answer(stream, STARTED)
-        with contextlib.suppress(ConnectionError, HungUp):
-            while True:
-                names = [name_of(letter, number) for number in range(created, created + AT_A_TIME)]
-                fields = [struct.pack(">H", len(name)) + name + b"\1\1\x80" + bytes(4) for name in names]
-                stream.sendall(b"".join(frame(SEM_OPEN, field) for field in fields))
-                descs = [is_answer(stream, OPENED) for _ in names]
-                created += AT_A_TIME
-                stream.sendall(b"".join(frame(SEM_CLOSE, desc) for desc in descs))
-                for _ in descs:
-                    is_answer(stream, DONE)
-    return created
-
-
-def call_without_end(address):
-    """Makes calls until the server answers no more. Returns how many it answered."""
-    many, answered = 1_000, 0
-    with connect(address) as stream:
-        stream.sendall(frame(HELLO, b"\0\3ka1"))
-        is_answer(stream, STARTED)
-        with contextlib.suppress(ConnectionError, HungUp):
-            while True:
-                stream.sendall(frame(UMASK, b"\0\0") * many)
-                exactly(stream, len(frame(MASK, b"\0\0")) * many)
-                answered += many
-    return answered
 
 
 def send_apart(stream, data):
@@ -650,21 +544,13 @@ def no_socket(programs, address, *words):
 
 KINDS = {"workers": [], "one thread": ONE_THREAD}
 ONE_AT_A_TIME = {"workers": ["--workers", "1"], "one thread": [*ONE_THREAD, "--connections", "1"]}
-# A record of a umask counts as 128 bytes.
-FEW_KEPT = {
-    "by number": [*ONE_THREAD, "--keep-records", str(FEW_RECORDS)],
-    "by bytes": [*ONE_THREAD, "--keep-bytes", str(128 * FEW_RECORDS)],
-}
 ANYWHERE = {
     "two clients": (two_clients, KINDS),
     f"{MANY} clients at once": (many_at_once, {"one thread": ONE_THREAD}),
     "a third client waits": (third_waits, {"workers": ["--workers", "2"], "one thread": [*ONE_THREAD, "--connections", "2"]}),
     "a client that leaves at once": (leaves, ONE_AT_A_TIME),
     "a receive until a moment": (timed, KINDS),
-    "no memory": (without_memory, {"one thread": ONE_THREAD}),
     "a stream in two parts": (in_two_parts, {"workers": ["--workers", "2"], "one thread": ONE_THREAD}),
-    "few records are kept": (keeps_the_newest, FEW_KEPT),
-    "semaphores without end": (goes_on_when_full, {"one thread": [*ONE_THREAD, "--keep-records", str(FEW_RECORDS)]}),
     "a log at the end of a file": (log, KINDS),
     "a log in a FIFO": (log_in_a_fifo, KINDS),
     "much behind a bad key": (much_behind, {"one thread": ONE_THREAD}),
@@ -718,17 +604,16 @@ def programs_given(about):
     return Programs(given.programs and given.programs.resolve(), shlex.split(given.calls))
 
 
-def main():
-    programs = programs_given(__doc__)
-    cases = list(all_cases())
-    failed = 0
+def told_of(programs, cases):
+    """Prints what comes of each case, and the counts. The status."""
+    counts = [0, 0]
     for name, case, place, words in cases:
         difference = judged(programs, case, place, words)
-        failed += bool(difference)
+        counts[bool(difference)] += 1
         print(f"server: {name}: {difference or 'as it must be'}", flush=True)
-    print(f"{len(cases) - failed} as they must be, {failed} not")
-    return 1 if failed else 0
+    print(f"{counts[0]} as they must be, {counts[1]} not")
+    return 1 if counts[1] else 0
 
 
 if __name__ == "__main__":
-    sys.exit(main())
+    sys.exit(told_of(programs_given(__doc__), all_cases()))

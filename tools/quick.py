@@ -32,6 +32,7 @@ WRONG_LAYOUT = ("rt: formatted ", "rt: note: must-fail/")
 BY_PROVED = {
     "rows of proved programs": "rows/run.py",
     "servers": "rows/servers.py",
+    "bounds of servers": "rows/bounds.py",
     "users' sockets": "rows/user_sockets.py",
     "trails of servers": "rows/served_trails.py",
     "numbers of servers": "rows/metrics.py",
@@ -209,10 +210,10 @@ def main():
     parts = [part for part in parts_for(asked.crate) if asked.part in (None, part.name)]
     if not parts:
         parser.error(f"there is no part {asked.part} here")
-    failed, passed = run_all(parts, asked.jobs)
     if not asked.part and not shutil.which("rt"):
         print(NO_KIT, file=sys.stderr)
         return 1
+    failed, passed = run_all(parts, asked.jobs)
     if not asked.part:
         say_left_out(asked.crate)
     for part in failed:
