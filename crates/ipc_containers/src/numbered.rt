@@ -16,7 +16,8 @@ use std::marker::Model;
 
 /// Values at the numbers that they were given in turn. Those from `base` on have a slot each, so they are found by an
 /// index. Where there are over 64 slots and most are empty, two go with each value that leaves: nothing is left of an empty
-/// one, and a value enters the map. So there are at most 64 slots and two for each value, unless the map is refused memory.
+/// one, and a value enters the map. So there are at most 64 slots and two for each value, unless the map is refused memory,
+/// and room for at most 200 and 6 for each value.
 #[derive(Drop)]
 pub struct Numbered<V: Drop> {
     older: BTreeMap<usize, V>,
