@@ -7,8 +7,9 @@ USERS = demo/users
 ADDRESS = 127.0.0.1:7000
 OPTIONS =
 
-# How many crates `make build` proves at a time. A proof takes up to 3 GB of memory.
-JOBS = 4
+# How many crates `make build` proves at a time; where nothing is given as many as there are cores, but at most 4. A proof takes up
+# to 8 GB of memory.
+JOBS =
 
 # A server on loopback and two clients in Python, and what mqctl shows: seconds over proved programs. Where no server is proved it
 # is one rt try, which takes a minute or two.

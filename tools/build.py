@@ -14,6 +14,8 @@ from programs import CRATES, NAMES, NO_KIT, TOP, below, uses
 
 ROOM = (TOP / ".git" if (TOP / ".git").is_dir() else TOP / "out") / "build"
 PARTS = ["src", "specs", "proofs"]
+# So many crates are proved at a time at most, where nothing is asked for: a proof takes up to 8 GB of memory.
+MOST_JOBS = 4
 # What each program does once it is built.
 RUNS = {"mqserve": ["rt", "run", "--", "--version"], "mqctl": ["rt", "run"]}
 
@@ -54,7 +56,7 @@ def take(name):
 
 
 def main(words):
-    jobs = words[0] if words else str(os.cpu_count())
+    jobs = words[0] if words else str(min(len(os.sched_getaffinity(0)), MOST_JOBS))
     if not shutil.which("rt"):
         print(NO_KIT, file=sys.stderr)
         return 1
