@@ -14,11 +14,11 @@ TOP = pathlib.Path(__file__).resolve().parent.parent
 CRATES = TOP / "crates"
 NAMES = ["mqserve", "mqctl"]
 
-# How long `make build` takes on two cores; docs/WORKING.md says how that was measured.
-BUILD_TAKES = "70 minutes"
+# How long `make build` takes on four cores; docs/WORKING.md says how that was measured.
+BUILD_TAKES = "54 minutes"
 NOT_PROVED = (
     "Not proved: `rt try` builds this server with checks, and it serves in a minute or two. "
-    f"`make build` proves it (two cores: {BUILD_TAKES})."
+    f"`make build` proves it (four cores: {BUILD_TAKES})."
 )
 NO_KIT = "there is no rt, the command of Rattle's kit, on the PATH"
 # The longest that such a server runs: a day.
