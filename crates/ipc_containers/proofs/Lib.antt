@@ -7,3 +7,4 @@ pub mod BoxesLemmas
 pub mod CallsLemmas
 pub mod TreeAt
 pub mod KeptPlaces
+pub mod NextKeys

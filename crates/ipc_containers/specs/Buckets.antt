@@ -44,3 +44,8 @@ IsFirstOfGreatest {T} items (Some (key, item)) = ((rest : List T) × (items key 
 abbrev pub IsGreatestLeft : {T : Type 0} → (ℕ → List T) → Buckets T → Option T → Type 0
 IsGreatestLeft items others None = ((key : ℕ) → items key ≡ []) × Holds others items
 IsGreatestLeft items others (Some item) = (key : ℕ) × IsFirstOfGreatest items (Some (key, item)) × Holds others (λ q. if q == key then drop 1 (items q) else items q)
+
+-- the least key from this one on that has items; none where no key from there on has any
+abbrev pub IsNextKey : {T : Type 0} → (ℕ → List T) → ℕ → Option ℕ → Type 0
+IsNextKey items from None = (key : ℕ) → from ≤ key → items key ≡ []
+IsNextKey {T} items from (Some next) = (from ≤ next) × ((item : T) × (rest : List T) × (items next ≡ item ∷ rest)) × ((key : ℕ) → from ≤ key → key < next → items key ≡ [])

@@ -1,6 +1,6 @@
 //! The items of one key.
 
-ghost use Rattle.std.specs.Prelude.{◌≡◌, ◌↔◌, ◌-◌, ◌^◌, min, [], ◌∷◌, ◌++◌, drop, IsTrue, OnOk, OnErr, IsOk};
+ghost use Rattle.std.specs.Prelude.{◌≡◌, ◌↔◌, ◌-◌, ◌^◌, min, [], ◌∷◌, ◌++◌, drop, slice_get, IsTrue, OnOk, OnErr, IsOk};
 ghost use Rattle.std.specs.List.{sum_by};
 ghost use Rattle.std.specs.Option.{option_copied};
 ghost use Rattle.ipc_terms.specs.Lists.{first};
@@ -70,6 +70,16 @@ impl<T: Drop> Bucket<T> {
         ensures { option_copied result ≡ first self.now }
     {
         self.first.as_ref()
+    }
+
+    /// The item at this index, counted from 0 in order of entry.
+    pub fn get(&self, index: usize) -> Option<&T>
+        ensures { option_copied result ≡ slice_get self.now index }
+    {
+        match index.checked_sub(1) {
+            Some(other) => self.others.get(other),
+            None => self.first.as_ref(),
+        }
     }
 
     /// Whether there are no items.

@@ -1,10 +1,10 @@
 //! Items in buckets.
 
-ghost use Rattle.std.specs.Prelude.{◌≡◌, ◌==◌, ◌-◌, ◌^◌, min, ℕ, List, [], filter, None, if◌then◌else◌, OnOk, OnErr};
+ghost use Rattle.std.specs.Prelude.{◌≡◌, ◌==◌, ◌-◌, ◌^◌, min, ℕ, List, [], filter, slice_get, None, if◌then◌else◌, OnOk, OnErr};
 ghost use Rattle.std.specs.List.{sum_by};
 ghost use Rattle.std.specs.Option.{unwrap_or, option_copied, option_map};
 ghost use Rattle.ipc_terms.specs.Lists.{first};
-ghost use Rattle.ipc_containers.specs.Buckets.{bucket_at, with_last, without_front, OthersAreFilled, EmptyStandsAlone, Holds, IsFirstOfGreatest, IsGreatestLeft};
+ghost use Rattle.ipc_containers.specs.Buckets.{bucket_at, with_last, without_front, OthersAreFilled, EmptyStandsAlone, Holds, IsFirstOfGreatest, IsGreatestLeft, IsNextKey};
 
 use crate::bucket::Bucket;
 use crate::measured::Measured;
@@ -101,6 +101,26 @@ impl<T: Drop> Buckets<T> {
         ensures { option_copied result ≡ first (unwrap_or (bucket_at self.now key) []) }
     {
         self.buckets.get(&key)?.first()
+    }
+
+    /// The least key from this one on that has items; `None` where none has any.
+    pub fn next_from(&self, key: u64) -> Option<u64>
+        ensures { (items : ℕ → List T) → Holds self.now items → IsNextKey items key result }
+    {
+        if let Some((next, bucket)) = self.buckets.range(key..).next() {
+            if bucket.is_empty() {
+                return None;
+            }
+            return Some(*next);
+        }
+        None
+    }
+
+    /// The item at this index of the key's bucket, counted from 0 in order of entry.
+    pub fn item(&self, key: u64, index: usize) -> Option<&T>
+        ensures { option_copied result ≡ slice_get (unwrap_or (bucket_at self.now key) []) index }
+    {
+        self.buckets.get(&key)?.get(index)
     }
 
     /// The greatest key that has items, and the first of them; `None` where no key has any.

@@ -1,6 +1,7 @@
 //! The directory of a family.
 
-ghost use Rattle.std.specs.Prelude.{◌≡◌, [], ◌∷◌, ◌++◌, None, OnOk, OnErr, IfOk, length};
+ghost use Rattle.std.specs.Prelude.{◌≡◌, [], ◌∷◌, ◌++◌, None, OnOk, OnErr, IfOk, length, slice_get};
+ghost use Rattle.std.specs.Option.{option_map};
 ghost use Rattle.ipc_terms.specs.Pages.{page};
 ghost use Rattle.ipc_names.specs.Directory.{first_directory, object_named, without_name, names_object, bound_names};
 
@@ -104,6 +105,14 @@ impl NameDir {
         let object = self.objects.shift_remove(name)?;
         counts::lower(&mut self.counts, object);
         Some(object)
+    }
+
+    /// The name that was bound at this turn of those that are bound, counted from 0, and its object.
+    pub fn binding(&self, index: usize) -> Option<(&Name, u64)>
+        ensures { option_map (λ b. record { name = b.0.now; object = b.1 }) result ≡ slice_get self.now.bindings index }
+    {
+        let (name, object) = self.objects.as_slice().get_index(index)?;
+        Some((name, *object))
     }
 
     /// A page of the names that are bound, the first bound first: from the position `start` on,

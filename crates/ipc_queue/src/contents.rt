@@ -1,7 +1,9 @@
 //! The messages of a queue.
 
-ghost use Rattle.std.specs.Prelude.{◌≡◌, ◌<◌, ◌-◌, ◌^◌, min, [], ◌∷◌, ◌++◌, length, Some, IfOk, OnOk, OnErr};
+ghost use Rattle.std.specs.Prelude.{◌≡◌, ◌<◌, ◌-◌, ◌^◌, min, [], ◌∷◌, ◌++◌, length, slice_get, Some, IfOk, OnOk, OnErr};
 ghost use Rattle.std.specs.Option.{option_copied};
+ghost use Rattle.ipc_containers.specs.Buckets.{IsNextKey};
+ghost use Rattle.ipc_queue.specs.Contents.{of_priority};
 ghost use Rattle.ipc_queue.specs.Tickets.{bytes_in, next_ticket, next_place, without_next};
 
 use crate::queue::Ticket;
@@ -78,6 +80,20 @@ impl Contents {
     {
         let (_, ticket) = self.buckets.greatest()?;
         Some(ticket)
+    }
+
+    /// The least priority from this one on of which there are messages.
+    pub fn next_priority(&self, priority: u64) -> Option<u64>
+        ensures { IsNextKey (λ p. of_priority p self.now) priority result }
+    {
+        self.buckets.next_from(priority)
+    }
+
+    /// Of the messages of this priority the one at this index, counted from 0 in order of entry.
+    pub fn message(&self, priority: u64, index: usize) -> Option<&Ticket>
+        ensures { option_copied result ≡ slice_get (of_priority priority self.now) index }
+    {
+        self.buckets.item(priority, index)
     }
 
     /// A message enters behind all others. An `Err` leaves all as it was.

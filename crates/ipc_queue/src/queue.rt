@@ -1,8 +1,10 @@
 //! The queue.
 
-ghost use Rattle.std.specs.Prelude.{◌≡◌, ◌<◌, ◌≤◌, ◌-◌, ◌^◌, min, [], None, is_none, length, OnOk, OnErr, IfOk, IsOk};
+ghost use Rattle.std.specs.Prelude.{◌≡◌, ◌<◌, ◌≤◌, ◌-◌, ◌^◌, min, [], None, is_none, length, slice_get, OnOk, OnErr, IfOk, IsOk};
 ghost use Rattle.std.specs.Option.{option_copied, option_map};
 ghost use Rattle.ipc_terms.specs.Lists.{first};
+ghost use Rattle.ipc_containers.specs.Buckets.{IsNextKey};
+ghost use Rattle.ipc_queue.specs.Contents.{of_priority};
 ghost use Rattle.ipc_queue.specs.Tickets.{IsQueue, bytes_in, next_ticket, next_place, is_full_of, fired, outcome_by_receiver, send_outcome, sent_to, sent, receive_outcome, received, is_parked, withdrawn, with_registration, without_registration};
 
 use crate::contents::Contents;
@@ -310,6 +312,20 @@ impl Queue {
         ensures { option_copied result ≡ next_ticket self.now.tickets }
     {
         self.contents.next()
+    }
+
+    /// The least priority from this one on of which the queue has messages.
+    pub fn next_priority(&self, priority: u64) -> Option<u64>
+        ensures { IsNextKey (λ p. of_priority p self.now.tickets) priority result }
+    {
+        self.contents.next_priority(priority)
+    }
+
+    /// Of the queue's messages of this priority the one at this index, counted from 0 in order of entry.
+    pub fn message(&self, priority: u64, index: usize) -> Option<&Ticket>
+        ensures { option_copied result ≡ slice_get (of_priority priority self.now.tickets) index }
+    {
+        self.contents.message(priority, index)
     }
 
     /// How many messages the queue has; parked sends aren't in it.

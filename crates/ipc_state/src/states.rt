@@ -6,6 +6,7 @@ ghost use Rattle.ipc_terms.specs.Timed.{plain};
 ghost use Rattle.ipc_policy.specs.Decides.Bodies.{due};
 ghost use Rattle.ipc_policy.specs.Decides.Rules.{would_park};
 ghost use Rattle.ipc_policy.specs.Decides.Sessions.{live};
+ghost use Rattle.ipc_policy.specs.Decides.Timed.{now};
 ghost use Rattle.ipc_policy.specs.Decides.Verdict.{verdict, Legal};
 ghost use Rattle.ipc_state.specs.Ranges.{first_bad};
 ghost use Rattle.ipc_state.specs.StateView.{with_event};
@@ -122,6 +123,13 @@ impl State {
         ensures { IsOnTime self.now.config self.now.history result.now }
     {
         &self.clock
+    }
+
+    /// The time: the greatest moment of the accepted ticks, and 0 before them.
+    pub fn time(&self) -> u64
+        ensures { result ≡ now self.now.history }
+    {
+        self.clock.time
     }
 
     /// The session whose call a tick of this moment ends, if there is one.

@@ -123,6 +123,12 @@ impl Tables {
         self.objects.rows.get(number as usize)
     }
 
+    /// The least number from this one on whose object is alive.
+    pub fn next_object(&self, number: u64) -> Option<u64> {
+        let next = self.objects.rows.next_from(number as usize)?;
+        Some(next as u64)
+    }
+
     /// How many queues and semaphores are alive, and how many messages stand in the queues, with how many bytes. Looks at each
     /// object that is alive, and at each message. Takes no memory.
     pub fn counts(&self) -> Counts
