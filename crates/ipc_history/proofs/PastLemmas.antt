@@ -22,6 +22,7 @@ reader_no_record place (fault.Head f) why bytes = absurd why
 reader_no_record place (fault.BadConfig field) why bytes = absurd why
 reader_no_record place fault.OtherUsers why bytes = absurd why
 reader_no_record place fault.OtherLimits why bytes = absurd why
+reader_no_record place fault.OtherRetelling why bytes = absurd why
 reader_no_record place (fault.OtherPlace first) why bytes = absurd why
 reader_no_record place (fault.Record at f) why bytes = absurd why
 reader_no_record place (fault.Differs at) why bytes = absurd why
@@ -34,6 +35,7 @@ reader_no_head (fault.Head f) why bytes = absurd why
 reader_no_head (fault.BadConfig field) why bytes = absurd why
 reader_no_head fault.OtherUsers why bytes = absurd why
 reader_no_head fault.OtherLimits why bytes = absurd why
+reader_no_head fault.OtherRetelling why bytes = absurd why
 reader_no_head (fault.OtherPlace first) why bytes = absurd why
 reader_no_head (fault.Record at f) why bytes = absurd why
 reader_no_head (fault.Differs at) why bytes = absurd why
@@ -47,6 +49,7 @@ no_record_ends c h (fault.Head f) rest left none = none
 no_record_ends c h (fault.BadConfig field) rest left none = none
 no_record_ends c h fault.OtherUsers rest left none = none
 no_record_ends c h fault.OtherLimits rest left none = none
+no_record_ends c h fault.OtherRetelling rest left none = none
 no_record_ends c h (fault.OtherPlace place) rest left none = none
 no_record_ends c h (fault.Record place f) rest left none = none
 no_record_ends c h (fault.Differs place) rest left none = absurd none
@@ -60,6 +63,7 @@ unstepped_ends c h r (fault.Head f) rest left next why = absurd why
 unstepped_ends c h r (fault.BadConfig field) rest left next why = absurd why
 unstepped_ends c h r fault.OtherUsers rest left next why = absurd why
 unstepped_ends c h r fault.OtherLimits rest left next why = absurd why
+unstepped_ends c h r fault.OtherRetelling rest left next why = absurd why
 unstepped_ends c h r (fault.OtherPlace place) rest left next why = absurd why
 unstepped_ends c h r (fault.Record place f) rest left next why = absurd why
 unstepped_ends c h r (fault.Differs place) rest left next (is, other) = (is, (r, left, next, other))
@@ -71,16 +75,17 @@ unstepped_ends c h r fault.NoMemory rest left next why = tt
 -- they stand in front of the bytes, each at its place behind those of the past
 pub record Stepped (past longer : PastView) (bytes rest : List ℕ) : Type 0 where
   pub config_is : longer.config ≡ past.config
+  pub retelling_is : longer.retelling ≡ past.retelling
   pub read : List Record
   pub history_is : longer.history ≡ read ++ past.history
   pub stand : Stand (length past.history) read bytes rest
 
 pub none_stepped : (past : PastView) (bytes : List ℕ) → Stepped past past bytes bytes
-none_stepped past bytes = record { config_is = refl; read = []; history_is = refl; stand = refl }
+none_stepped past bytes = record { config_is = refl; retelling_is = refl; read = []; history_is = refl; stand = refl }
 
 pub stepped_open : (past longer : PastView) → IsOpen (Stepped past longer)
 stepped_open past longer bytes rest more s =
-    record { config_is = s.config_is; read = s.read; history_is = s.history_is; stand = stand_open (length past.history) s.read bytes rest more s.stand }
+    record { config_is = s.config_is; retelling_is = s.retelling_is; read = s.read; history_is = s.history_is; stand = stand_open (length past.history) s.read bytes rest more s.stand }
 
 -- one more
 pub one_more : (past longer next : PastView) (r : Record) (bytes rest : List ℕ) → next ≡ record longer { history = r ∷ longer.history }
@@ -89,6 +94,7 @@ one_more past longer next r bytes rest is (between, s, found) =
     let place : length longer.history ≡ length s.read + length past.history = ap length s.history_is ∙ length-append s.read past.history in
     rw is (record {
       config_is = s.config_is;
+      retelling_is = s.retelling_is;
       read = r ∷ s.read;
       history_is = ap (λ (h : List Record). r ∷ h) s.history_is;
       stand = (between, s.stand, subst (λ (n : ℕ). IsNext n r between rest) place found);
@@ -98,7 +104,7 @@ one_more past longer next r bytes rest is (between, s, found) =
 pub stepped_ends : (past longer : PastView) (result : Result Unit HistoryFault) (bytes left : List ℕ)
     → ReadThen (Stepped past longer) (Ends longer.config longer.history result) bytes left → Continues past longer result bytes left
 stepped_ends past longer result bytes left (rest, s, ends) =
-    record { config_is = s.config_is; read = s.read; history_is = s.history_is; rest = rest; stand = s.stand; ends = ends }
+    record { config_is = s.config_is; retelling_is = s.retelling_is; read = s.read; history_is = s.history_is; rest = rest; stand = s.stand; ends = ends }
 
 -- ---- the same, of a reader
 

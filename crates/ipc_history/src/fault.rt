@@ -29,6 +29,9 @@ pub enum HistoryFault {
     /// The head has other limits than that of the first file.
     #[error("head: other limits")]
     OtherLimits,
+    /// The head tells of another retelling than that of the first file.
+    #[error("head: other retelling")]
+    OtherRetelling,
     /// The file begins at this place, and not where the records before it end.
     #[error("head: begins at {0}")]
     OtherPlace(u64),

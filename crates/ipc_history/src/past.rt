@@ -7,7 +7,7 @@ ghost use Rattle.ipc_policy.specs.Decides.Verdict.{verdict, Legal};
 ghost use Rattle.ipc_replay.specs.HangingUp.{all_hung_up};
 ghost use Rattle.ipc_history.specs.Counts.{AreCounts};
 ghost use Rattle.ipc_history.specs.Incoming.{IsBounded, Reads, incoming, unread, waiting};
-ghost use Rattle.ipc_history.specs.Pasts.{IsFirst, IsNoFirst, GoesOn, GoesNotOn, IsNotStepped, config_of, limits_of};
+ghost use Rattle.ipc_history.specs.Pasts.{IsFirst, IsNoFirst, GoesOn, GoesNotOn, IsNotStepped, before_all, limits_of};
 ghost use Rattle.ipc_history.specs.Replays.{Continues};
 
 use crate::counts::Counts;
@@ -15,7 +15,7 @@ use crate::fault::HistoryFault;
 use crate::trail_reader::TrailReader;
 use crate::user_sums::users_sum;
 use ipc_access::Users;
-use ipc_log::Head;
+use ipc_log::{Head, Retelling};
 use ipc_policy::{Config, Limits};
 use ipc_replay::Replay;
 use ipc_state::State;
@@ -30,6 +30,7 @@ pub struct Past {
     replay: Replay,
     /// The sum of the users.
     users: u64,
+    retelling: Retelling,
     counts: Counts,
 }
 
@@ -41,7 +42,7 @@ impl Model for Past {
 
     ghost Value = { PastView };
 
-    ghost view = { λ a. record { config = a.replay.config; history = a.replay.history } };
+    ghost view = { λ a. record { config = a.replay.config; history = a.replay.history; retelling = a.retelling } };
 
     ghost invariant = { λ a. (a.users ≡ users_sum a.replay.config.users) × (a.replay.first ≡ length a.replay.history) × AreCounts a.counts a.replay.history };
 }
@@ -49,7 +50,7 @@ impl Model for Past {
 impl Past {
     /// Nothing happened yet. The head must be that of a first file, by these users. An `Err` drops them.
     pub fn new(alloc: Global, users: Users, head: &Head) -> Result<Past, HistoryFault>
-        ensures ok { IfOk result (λ past. past ≡ record { config = config_of users head.now; history = [] }) }
+        ensures ok { IfOk result (λ past. past ≡ before_all users head.now) }
         ensures first { OnOk result (IsFirst users head.now) }
         ensures fault { IfErr result (IsNoFirst users head.now) }
     {
@@ -65,11 +66,13 @@ impl Past {
         Ok(Past {
             replay,
             users: sum,
+            retelling: head.retelling,
             counts: Counts::new(),
         })
     }
 
-    /// Whether this is the head of a file that goes on where the records so far end, by the same users and limits.
+    /// Whether this is the head of a file that goes on where the records so far end, by the same users and limits, and of the same
+    /// retelling.
     pub fn goes_on(&self, head: &Head) -> Result<(), HistoryFault>
         ensures ok { OnOk result (GoesOn self.now head.now) }
         ensures fault { IfErr result (GoesNotOn self.now head.now) }
@@ -79,6 +82,9 @@ impl Past {
         }
         if limits_of(head) != self.replay.state().config().limits {
             return Err(HistoryFault::OtherLimits);
+        }
+        if head.retelling != self.retelling {
+            return Err(HistoryFault::OtherRetelling);
         }
         if head.first != self.place() {
             return Err(HistoryFault::OtherPlace(head.first));
@@ -107,6 +113,13 @@ impl Past {
         ensures { result ≡ length self.now.history }
     {
         self.replay.trail().len() as u64
+    }
+
+    /// Which trail the first records retell.
+    pub fn retelling(&self) -> Retelling
+        ensures { result ≡ self.now.retelling }
+    {
+        self.retelling
     }
 
     /// What the records count up to.

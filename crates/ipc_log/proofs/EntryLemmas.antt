@@ -5,13 +5,21 @@ use Rattle.std.proofs.lemmas.List.{append-nil}
 use Rattle.ipc_terms.specs.declared.record.Record.{Record}
 use Rattle.ipc_fields.specs.Field.{Field, u32, u64, seen, ◌⊗◌}
 use Rattle.ipc_fields.proofs.FieldLemmas.{IsExact, IsExactBody, u32_exact, u64_exact, seen_exact, pair_exact, only_exact}
-use Rattle.ipc_log.specs.Fields.{head_of, head_parts, head_field, verdict_field, event_field, record_of, record_parts, record_field, entry, plain_event, plain_record, event_fits, record_fits}
+use Rattle.ipc_log.specs.Fields.{digest_of, digest_parts, digest_field, retelling_of, retelling_parts, retelling_field, head_of, head_parts, head_field, verdict_field, event_field, record_of, record_parts, record_field, entry, plain_event, plain_record, event_fits, record_fits}
 use Rattle.ipc_log.proofs.VerdictLemmas.{verdict_exact}
 use Rattle.ipc_log.proofs.EventLemmas.{ReadsAs, exact_reads, pair_reads, event_reads, event_exact}
 
+digest_exact : IsExact digest_field
+unfolding digest_field
+digest_exact = seen_exact digest_of digest_parts (u64 ⊗ u64 ⊗ u64 ⊗ u64) (λ x. refl) (λ d. refl) (pair_exact u64 _ u64_exact (pair_exact u64 _ u64_exact (pair_exact u64 _ u64_exact u64_exact)))
+
+retelling_exact : IsExact retelling_field
+unfolding retelling_field
+retelling_exact = seen_exact retelling_of retelling_parts (u64 ⊗ u64 ⊗ u64 ⊗ digest_field) (λ x. refl) (λ r. refl) (pair_exact u64 _ u64_exact (pair_exact u64 _ u64_exact (pair_exact u64 _ u64_exact digest_exact)))
+
 pub head_exact : IsExact head_field
 unfolding head_field
-head_exact = seen_exact head_of head_parts (u64 ⊗ u32 ⊗ u32 ⊗ u32 ⊗ u64) (λ x. refl) (λ h. refl) (pair_exact u64 _ u64_exact (pair_exact u32 _ u32_exact (pair_exact u32 _ u32_exact (pair_exact u32 _ u32_exact u64_exact))))
+head_exact = seen_exact head_of head_parts (u64 ⊗ u32 ⊗ u32 ⊗ u32 ⊗ u64 ⊗ retelling_field) (λ x. refl) (λ h. refl) (pair_exact u64 _ u64_exact (pair_exact u32 _ u32_exact (pair_exact u32 _ u32_exact (pair_exact u32 _ u32_exact (pair_exact u64 _ u64_exact retelling_exact)))))
 
 record_exact : IsExact record_field
 unfolding record_field

@@ -8,7 +8,7 @@ use Rattle.ipc_fields.proofs.FieldLemmas.{some_is, join_some, only_exact}
 use Rattle.ipc_log.specs.declared.fault.LogFault.{LogFault}
 use Rattle.ipc_log.specs.declared.head.Head.{Head}
 use Rattle.ipc_log.specs.Summed.{sum_of, summed, same_bytes, summed_at}
-use Rattle.ipc_log.specs.Fields.{head_field}
+use Rattle.ipc_log.specs.Fields.{digest_field, retelling_field, head_field}
 use Rattle.ipc_log.specs.Trail.{and_then, magic, head_len, summed_text, spell_head, head_read, head_front}
 use Rattle.ipc_log.proofs.SumLemmas.{same_self, sum_len, summed_again, summed_short}
 use Rattle.ipc_log.proofs.EntryLemmas.{head_exact}
@@ -24,8 +24,8 @@ summed_some : (o : Option (List ℕ)) (text : List ℕ) → summed_text o ≡ So
 summed_some None text e = absurd cc
 summed_some (Some x) text e = (x, refl, sym (some_is _ _ e))
 
-fields_len : (h : Head) (fields : List ℕ) → head_field.spell h ≡ Some fields → length fields ≡ 28
-unfolding head_field
+fields_len : (h : Head) (fields : List ℕ) → head_field.spell h ≡ Some fields → length fields ≡ 84
+unfolding head_field retelling_field digest_field
 fields_len h fields e = ap length (sym (some_is _ _ e))
 
 head_some : (h : Head) (text : List ℕ) → spell_head h ≡ Some text → IsHead h text
@@ -82,7 +82,7 @@ head_cut_is_awaited h n text e lt =
     ]
 
 pub head_is_spelled : (h : Head) → (text : List ℕ) × (spell_head h ≡ Some text)
-unfolding spell_head head_field
+unfolding spell_head head_field retelling_field digest_field
 head_is_spelled h = (_, refl)
 
 pub found_within : (w : List ℕ) (result : Result (Option (Head × ℕ)) LogFault) → head_len + 4 ≤ length w → IfOk result (λ found. IfSome found (λ x. x.1 ≡ head_len + 4)) → IfOk result (λ found. IfSome found (λ x. x.1 ≤ length w))

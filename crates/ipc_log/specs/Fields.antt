@@ -15,18 +15,38 @@ use Rattle.ipc_wire.specs.declared.request.Request.TheVariants as request
 use Rattle.ipc_wire.specs.Requests.{is_plain, plain, fits}
 use Rattle.ipc_wire.specs.Answers.{rule_of}
 use Rattle.ipc_wire.specs.Streams.{spell, front}
+use Rattle.ipc_log.specs.declared.retelling.TrailDigest.{TrailDigest}
 use Rattle.ipc_log.specs.declared.head.Head.{Head}
+use Rattle.ipc_log.specs.declared.retelling.Retelling.{Retelling}
 
 -- ---- a head
 
-abbrev pub head_of : ℕ × (ℕ × (ℕ × (ℕ × ℕ))) → Head
-head_of x = record { first = x.0; msg_max = x.1.0; msgsize_max = x.1.1.0; queues_max = x.1.1.1.0; users = x.1.1.1.1 }
+abbrev pub digest_of : ℕ × (ℕ × (ℕ × ℕ)) → TrailDigest
+digest_of x = record { 0 = x.0; 1 = x.1.0; 2 = x.1.1.0; 3 = x.1.1.1 }
 
-abbrev pub head_parts : Head → ℕ × (ℕ × (ℕ × (ℕ × ℕ)))
-head_parts h = (h.first, (h.msg_max, (h.msgsize_max, (h.queues_max, h.users))))
+abbrev pub digest_parts : TrailDigest → ℕ × (ℕ × (ℕ × ℕ))
+digest_parts d = (d.0, (d.1, (d.2, d.3)))
+
+unfoldable pub digest_field : Field TrailDigest
+digest_field = seen digest_of digest_parts (u64 ⊗ u64 ⊗ u64 ⊗ u64)
+
+abbrev pub retelling_of : ℕ × (ℕ × (ℕ × TrailDigest)) → Retelling
+retelling_of x = record { generation = x.0; records = x.1.0; old_records = x.1.1.0; old_digest = x.1.1.1 }
+
+abbrev pub retelling_parts : Retelling → ℕ × (ℕ × (ℕ × TrailDigest))
+retelling_parts r = (r.generation, (r.records, (r.old_records, r.old_digest)))
+
+unfoldable pub retelling_field : Field Retelling
+retelling_field = seen retelling_of retelling_parts (u64 ⊗ u64 ⊗ u64 ⊗ digest_field)
+
+abbrev pub head_of : ℕ × (ℕ × (ℕ × (ℕ × (ℕ × Retelling)))) → Head
+head_of x = record { first = x.0; msg_max = x.1.0; msgsize_max = x.1.1.0; queues_max = x.1.1.1.0; users = x.1.1.1.1.0; retelling = x.1.1.1.1.1 }
+
+abbrev pub head_parts : Head → ℕ × (ℕ × (ℕ × (ℕ × (ℕ × Retelling))))
+head_parts h = (h.first, (h.msg_max, (h.msgsize_max, (h.queues_max, (h.users, h.retelling)))))
 
 unfoldable pub head_field : Field Head
-head_field = seen head_of head_parts (u64 ⊗ u32 ⊗ u32 ⊗ u32 ⊗ u64)
+head_field = seen head_of head_parts (u64 ⊗ u32 ⊗ u32 ⊗ u32 ⊗ u64 ⊗ retelling_field)
 
 -- ---- a record
 

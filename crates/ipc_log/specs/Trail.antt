@@ -19,11 +19,11 @@ and_then (Ok (Some x)) f = f x
 -- ---- the head
 
 abbrev pub magic : List ℕ
-magic = codes "MQTRAIL1"
+magic = codes "MQTRAIL2"
 
 -- how many bytes stand in front of the head's sum
 abbrev pub head_len : ℕ
-head_len = 36
+head_len = 92
 
 abbrev pub summed_text : Option (List ℕ) → Option (List ℕ)
 summed_text None = None

@@ -8,14 +8,15 @@ ghost use Rattle.ipc_log.specs.Trail.{head_len, spell_head, head_read, head_fron
 ghost use Rattle.ipc_log.specs.Given.{Finds};
 
 use crate::fault::{LogFault, TrailFault};
+use crate::retelling::{Retelling, put_retelling, retelling_at};
 use crate::summed::{SUM_LEN, put_sum, summed_at};
 use ipc_fields::{ReadFault, WriteFault, alone, put_bytes, put_u32, put_u64, u32_at, u64_at};
 
 /// What a trail of this version begins with.
-const MAGIC: [u8; 8] = *b"MQTRAIL1";
+const MAGIC: [u8; 8] = *b"MQTRAIL2";
 
 /// How many bytes stand in front of a head's sum.
-const SUMMED_LEN: usize = 36;
+const SUMMED_LEN: usize = 92;
 
 /// How many bytes a head has.
 pub const HEAD_LEN: usize = SUMMED_LEN + SUM_LEN;
@@ -31,6 +32,7 @@ pub struct Head {
     pub queues_max: u32,
     /// A sum of the user file, by which another one is known. This crate doesn't read it.
     pub users: u64,
+    pub retelling: Retelling,
 }
 
 #[tactic(auto, using(ipc_fields::proofs::Joins::joins), unfolding(crate::specs::Fields::head_field))]
@@ -42,7 +44,8 @@ fn put_fields(out: &mut Vec<u8>, head: &Head) -> Result<(), WriteFault>
     put_u32(out, head.msg_max)?;
     put_u32(out, head.msgsize_max)?;
     put_u32(out, head.queues_max)?;
-    put_u64(out, head.users)
+    put_u64(out, head.users)?;
+    put_retelling(out, head.retelling)
 }
 
 fn put_summed(out: &mut Vec<u8>, head: &Head) -> Result<(), WriteFault>
@@ -81,12 +84,14 @@ fn fields_of(bytes: &[u8]) -> Result<Head, ReadFault>
     let (msgsize_max, rest) = u32_at(rest)?;
     let (queues_max, rest) = u32_at(rest)?;
     let (users, rest) = u64_at(rest)?;
+    let (retelling, rest) = retelling_at(rest)?;
     let head = Head {
         first,
         msg_max,
         msgsize_max,
         queues_max,
         users,
+        retelling,
     };
     alone(head, rest)
 }

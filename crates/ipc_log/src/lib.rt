@@ -8,6 +8,7 @@ pub mod laws;
 mod record_reading;
 mod record_writing;
 mod remainders;
+mod retelling;
 mod summed;
 mod trail_writer;
 
@@ -17,5 +18,6 @@ pub use head::{HEAD_LEN, Head, put_head, read_head};
 pub use ipc_fields::WriteFault;
 pub use record_reading::read_record;
 pub use record_writing::put_record;
+pub use retelling::{NO_RETELLING, Retelling, TrailDigest};
 pub use summed::MAX_RECORD;
 pub use trail_writer::TrailWriter;

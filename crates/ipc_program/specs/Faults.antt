@@ -6,9 +6,11 @@ use Rattle.std.specs.declared.io.ErrorKind.{ErrorKind}
 use Rattle.std.specs.declared.io.ErrorKind.TheVariants.{OutOfMemory}
 use Rattle.ipc_history.specs.declared.fault.HistoryFault.{HistoryFault}
 use Rattle.ipc_history.specs.declared.fault.HistoryFault.TheVariants.{NoMemory, Read as NoRead}
-use Rattle.ipc_script.specs.declared.fault.ScriptFault.TheVariants.{Memory, Read, Write}
+use Rattle.ipc_living.specs.declared.fault.CompactFault.{CompactFault}
+use Rattle.ipc_living.specs.declared.fault.CompactFault.TheVariants.{Config as BadLimit, NoMemory as NoPlace, Write as NoWrite}
+use Rattle.ipc_script.specs.declared.fault.ScriptFault.TheVariants.{Config, Memory, Read, Write}
 use Rattle.ipc_program.specs.declared.fault.ProgramFault.{ProgramFault}
-use Rattle.ipc_program.specs.declared.fault.ProgramFault.TheVariants.{Arguments, Net, NoTrail, NotUtf8, Script, Trail}
+use Rattle.ipc_program.specs.declared.fault.ProgramFault.TheVariants.{Arguments, Net, NoTrail, NotUtf8, Retelling, Script, Trail}
 
 -- what the parser of the arguments refuses
 abbrev pub of_arguments : Error → ArgumentKind → ProgramFault
@@ -46,3 +48,10 @@ abbrev pub of_history : HistoryFault → ProgramFault
 of_history NoRead = Script Read
 of_history NoMemory = Script Memory
 of_history fault = Trail fault
+
+-- where a trail isn't retold
+abbrev pub of_compact : CompactFault → ProgramFault
+of_compact NoWrite = NoTrail
+of_compact NoPlace = Script Memory
+of_compact (BadLimit field) = Script (Config field)
+of_compact fault = Retelling fault

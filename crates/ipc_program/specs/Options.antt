@@ -27,9 +27,10 @@ limit_options = value_option (codes "msg-max") ∷ value_option (codes "msgsize-
 abbrev pub thread_options : List Rule
 thread_options = flag (codes "one-thread") ∷ value_option (codes "connections") ∷ value_option (codes "keep-records") ∷ value_option (codes "keep-bytes") ∷ flag (codes "keep-all") ∷ []
 
--- `[--trail-file FILE] [--trail-sync] [--trail-segment N]`
+-- `[--trail-file FILE] [--trail-sync] [--trail-segment N] [--trail-compact N] [--trail-keep]`
 abbrev pub trail_options : List Rule
-trail_options = value_option (codes "trail-file") ∷ flag (codes "trail-sync") ∷ value_option (codes "trail-segment") ∷ []
+trail_options =
+    value_option (codes "trail-file") ∷ flag (codes "trail-sync") ∷ value_option (codes "trail-segment") ∷ value_option (codes "trail-compact") ∷ flag (codes "trail-keep") ∷ []
 
 -- these, and `[--workers N] [--stop-after N] [--log FILE] [--socket-mode OCTAL]`
 abbrev pub server_options : List Rule
@@ -57,13 +58,22 @@ serve_shape = record (new_shape (codes "serve")) {
 abbrev pub replay_shape : Shape
 replay_shape = record (new_shape (codes "replay")) { rules = place (codes "users") ∷ places (codes "files") ∷ line_options }
 
+-- `USERS NEW OLD.. [--to USERS]`, with the limits
+abbrev pub retold_words : List Rule
+retold_words = place (codes "users") ∷ place (codes "new") ∷ places (codes "files") ∷ value_option (codes "to") ∷ limit_options
+
+-- `compact`, or `same`, with these words
+abbrev pub retold_shape : Text → Shape
+retold_shape name = record (new_shape name) { rules = retold_words }
+
 -- `mqserve`, without subcommands
 abbrev pub bare_program : App
 bare_program = record { top = record (new_shape (codes "mqserve")) { has_version = true }; subs = [] }
 
 -- `mqserve`, with these subcommands
 abbrev pub app_of_program : App
-app_of_program = with_subcommand (with_subcommand (with_subcommand bare_program script_shape) serve_shape) replay_shape
+app_of_program =
+    with_subcommand (with_subcommand (with_subcommand (with_subcommand (with_subcommand bare_program script_shape) serve_shape) replay_shape) (retold_shape (codes "compact"))) (retold_shape (codes "same"))
 
 -- the command with these behind its other arguments
 abbrev pub with_rules : List Rule → App → App

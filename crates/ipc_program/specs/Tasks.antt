@@ -11,13 +11,14 @@ use Rattle.ipc_words.specs.Readings.{Meaning, ◌>>=◌, is_given, of_argument, 
 use Rattle.ipc_program.specs.Addresses.{is_endpoint, is_unix, is_unix_users, mode_of_word}
 use Rattle.ipc_program.specs.Options.{app_of_program}
 use Rattle.ipc_program.specs.Servers.{Serving}
-use Rattle.ipc_program.specs.Trails.{Replaying, TrailFile}
+use Rattle.ipc_program.specs.Trails.{Replaying, Retold, TrailFile}
 use Rattle.ipc_program.specs.declared.tasks.Kept.{Kept}
+use Rattle.ipc_program.specs.declared.tasks.NewLimits.{NewLimits}
 use Rattle.ipc_program.specs.declared.tasks.Places.{Places}
 use Rattle.ipc_program.specs.declared.tasks.Threading.{Threading}
 use Rattle.ipc_program.specs.declared.tasks.Threading.TheVariants.{OneThread, Workers}
 use Rattle.ipc_program.specs.declared.tasks.Task.{Task}
-use Rattle.ipc_program.specs.declared.tasks.Task.TheVariants.{Replay, Script, Serve}
+use Rattle.ipc_program.specs.declared.tasks.Task.TheVariants.{Compact, Compare, Replay, Script, Serve}
 
 -- the number of an option, and where it isn't given the standard one
 abbrev pub limit_at : ℕ → Text → List Row → Meaning ℕ
@@ -141,18 +142,32 @@ large_enough bytes = if option_map_or (nat_le 4096) bytes true then Ok bytes els
 abbrev pub segment_given : List Row → Meaning (Option ℕ)
 segment_given rows = option_at (decimal_within (2 ^ 64 - 1)) (codes "trail-segment") rows >>= large_enough
 
+-- old files are kept where a start retells
+abbrev pub kept_where : Bool → Option ℕ → Meaning (Option ℕ)
+kept_where is_kept compact = if is_kept && not (is_some compact) then Err (codes "trail-keep") else Ok compact
+
+-- from how many bytes on a start retells the trail, if one does
+abbrev pub compact_given : List Row → Meaning (Option ℕ)
+compact_given rows = option_at (decimal_within (2 ^ 64 - 1)) (codes "trail-compact") rows >>= kept_where (is_given (codes "trail-keep") rows)
+
 -- a file that a trail is written to, which one thread alone does
 abbrev pub trail_at : Threading → List Row → Text → Meaning (Option TrailFile)
 trail_at threading rows path =
     if is_one_thread threading
-    then (segment_given rows >>= λ segment. Ok (Some (record { path = path; is_synced = is_given (codes "trail-sync") rows; segment = segment })))
+    then (
+    segment_given rows >>= λ segment.
+    compact_given rows >>= λ compact.
+    Ok (Some (record { path = path; is_synced = is_given (codes "trail-sync") rows; segment = segment; compact = compact; is_kept = is_given (codes "trail-keep") rows }))
+    )
     else Err (codes "trail-file")
 
 -- without such a file nothing is told of one
 abbrev pub no_trail : List Row → Meaning (Option TrailFile)
 no_trail rows =
     if is_given (codes "trail-sync") rows then Err (codes "trail-sync")
-    else (if has (codes "trail-segment") rows then Err (codes "trail-segment") else Ok None)
+    else (if has (codes "trail-segment") rows then Err (codes "trail-segment")
+    else (if has (codes "trail-compact") rows then Err (codes "trail-compact")
+    else (if is_given (codes "trail-keep") rows then Err (codes "trail-keep") else Ok None)))
 
 -- the file that a trail is written to, where one is given
 abbrev pub trail_given : Threading → List Row → Meaning (Option TrailFile)
@@ -205,12 +220,31 @@ replaying_given rows =
     words_at (codes "files") rows >>= λ files.
     Ok (record { users = users; files = files; audit = audit; answers = answers })
 
+-- the limits of the options that stand in the rows, and none for the others
+abbrev pub new_limits_given : List Row → Meaning NewLimits
+new_limits_given rows =
+    option_at (decimal_within (2 ^ 32 - 1)) (codes "msg-max") rows >>= λ msg_max.
+    option_at (decimal_within (2 ^ 32 - 1)) (codes "msgsize-max") rows >>= λ msgsize_max.
+    option_at (decimal_within (2 ^ 32 - 1)) (codes "queues-max") rows >>= λ queues_max.
+    Ok (record { msg_max = msg_max; msgsize_max = msgsize_max; queues_max = queues_max })
+
+-- what the words of `compact` and `same` tell
+abbrev pub retold_given : List Row → Meaning Retold
+retold_given rows =
+    word_at (codes "users") rows >>= λ users.
+    word_at (codes "new") rows >>= λ new.
+    new_limits_given rows >>= λ limits.
+    words_at (codes "files") rows >>= λ old.
+    Ok (record { users = users; new = new; old = old; to = first_of (codes "to") rows; limits = limits })
+
 -- the task of a subcommand by its name and what stands behind it
 abbrev pub task_of : Text × List Row → Meaning Task
 task_of (name, rows) =
     if bytes_eq name (codes "serve") then (serving_given rows >>= λ serving. Ok (Serve serving))
     else (if bytes_eq name (codes "replay") then (replaying_given rows >>= λ replaying. Ok (Replay replaying))
-    else (limits_given rows >>= λ limits. Ok (Script limits)))
+    else (if bytes_eq name (codes "compact") then (retold_given rows >>= λ retold. Ok (Compact retold))
+    else (if bytes_eq name (codes "same") then (retold_given rows >>= λ retold. Ok (Compare retold))
+    else (limits_given rows >>= λ limits. Ok (Script limits)))))
 
 -- and where none is named a script within the standard limits
 abbrev pub task_given : Option (Text × List Row) → Meaning Task

@@ -6,7 +6,7 @@ ghost use Rattle.clap.specs.Walk.{first_of, rule_of, rows_of};
 ghost use Rattle.clap.specs.Words.{found_of};
 ghost use Rattle.ipc_words.specs.Grammar.{flag};
 ghost use Rattle.ipc_words.specs.Readings.{Reads, is_given};
-ghost use Rattle.ipc_program.specs.Options.{Adds, IsSubcommand, app_of_program, limit_options, line_options, metrics_options, place, places, replay_shape, script_shape, serve_shape, server_options, thread_options, trail_options, value_option};
+ghost use Rattle.ipc_program.specs.Options.{Adds, IsSubcommand, app_of_program, limit_options, line_options, metrics_options, place, places, replay_shape, retold_shape, retold_words, script_shape, serve_shape, server_options, thread_options, trail_options, value_option};
 ghost use Rattle.ipc_program.specs.Servers.{IsEnough, IsWithin};
 ghost use Rattle.ipc_program.specs.Tasks.{connections_given, crew_given, has, kept_given, limits_given, newest_given, serves, threading_at, threading_given, serving_given, socket_mode_given, task_asked, task_given, task_of, workers_given};
 
@@ -14,7 +14,7 @@ use crate::addresses::{is_unix, is_unix_users, read_mode};
 use crate::fault::ProgramFault;
 use crate::metrics::{metrics_of, stats_of};
 use crate::tasks::{Kept, Serving, Task, Threading};
-use crate::trails::{replaying_of, trail_of};
+use crate::trails::{replaying_of, retold_of, trail_of};
 use clap::error::ErrorKind;
 use clap::{Arg, ArgAction, ArgMatches, Command};
 use ipc_core::Limits;
@@ -29,9 +29,14 @@ mqserve [script [--msg-max <N>] [--msgsize-max <N>] [--queues-max <N>]]
                      [--keep-records <N>] [--keep-bytes <N>] [--keep-all]
                      [--stop-after <N>] [--socket-mode <OCTAL>]
                      [--log <FILE> [--stats <SECONDS>]] [--metrics <ADDRESS>]
-                     [--trail-file <FILE> [--trail-sync] [--trail-segment <N>]]
+                     [--trail-file <FILE> [--trail-sync] [--trail-segment <N>]
+                     [--trail-compact <N> [--trail-keep]]]
                      [--msg-max <N>] [--msgsize-max <N>] [--queues-max <N>]
-       mqserve replay <USERS> <FILE>.. [--audit [--from <N>] [--to <N>] | --answers <SID>]";
+       mqserve replay <USERS> <FILE>.. [--audit [--from <N>] [--to <N>] | --answers <SID>]
+       mqserve compact <USERS> <NEW> <OLD>.. [--to <USERS>]
+                       [--msg-max <N>] [--msgsize-max <N>] [--queues-max <N>]
+       mqserve same <USERS> <NEW> <OLD>.. [--to <USERS>]
+                    [--msg-max <N>] [--msgsize-max <N>] [--queues-max <N>]";
 
 const USERS_HELP: &str = "The user file";
 
@@ -73,6 +78,18 @@ const TRAIL_SYNC_HELP: &str = "With --trail-file: records are on the disk before
 const TRAIL_SEGMENT_HELP: &str =
     "With --trail-file: bytes after which another file is begun, 4096 or more [default: never]";
 
+const TRAIL_COMPACT_HELP: &str =
+    "With --trail-file: bytes from which on a start retells the trail as a short one [default: never]";
+
+const TRAIL_KEEP_HELP: &str =
+    "With --trail-compact: keep the old files as FILE~0, FILE~1 and so on";
+
+const NEW_HELP: &str = "The file that retells";
+
+const OLD_HELP: &str = "The files of the trail that is retold, in their order";
+
+const NEW_USERS_HELP: &str = "The user file under which it is retold [default: the first one]";
+
 const FILES_HELP: &str = "The files of a trail, in their order";
 
 const AUDIT_HELP: &str = "Print a line of each record";
@@ -88,6 +105,14 @@ const MSG_MAX_HELP: &str = "Messages that a queue may have, 1 to 65536 [default:
 const MSGSIZE_MAX_HELP: &str = "Bytes that a message may have, 1 to 16777216 [default: 8192]";
 
 const QUEUES_MAX_HELP: &str = "Queues that there may be, 0 to 65536 [default: 256]";
+
+const NEW_MSG_MAX_HELP: &str =
+    "Messages that a queue may have from now on [default: the trail's own]";
+
+const NEW_MSGSIZE_MAX_HELP: &str =
+    "Bytes that a message may have from now on [default: the trail's own]";
+
+const NEW_QUEUES_MAX_HELP: &str = "Queues that there may be from now on [default: the trail's own]";
 
 /// The workers of a server that isn't told how many.
 const STANDARD_WORKERS: u32 = 4;
@@ -111,18 +136,18 @@ const STANDARD_MODE: u32 = 0o600;
 /// The task that the program's words ask for, of which the first is its name: `mqserve` alone, `mqserve script`, or
 /// `mqserve serve USERS ADDRESS`, with `--one-thread [--connections N] [--keep-records N] [--keep-bytes N] [--keep-all]` or
 /// `[--workers N]`, and with `[--stop-after N] [--log FILE] [--socket-mode OCTAL]` and
-/// `[--trail-file FILE [--trail-sync] [--trail-segment N]]`; behind the
+/// `[--trail-file FILE [--trail-sync] [--trail-segment N] [--trail-compact N [--trail-keep]]]`; behind the
 /// last two the limits, `[--msg-max N] [--msgsize-max N] [--queues-max N]`. Or `mqserve replay USERS FILE..`, with
-/// `[--audit [--from N] [--to N]]`. A limit that isn't given is the standard one, and none is tested against its range. `help`
+/// `[--audit [--from N] [--to N]]`, or `mqserve compact USERS NEW OLD..` or `mqserve same USERS NEW OLD..`, with `[--to USERS]` and limits. A limit that isn't given is the standard one, and none is tested against its range. `help`
 /// stands at the end of the help text.
 ///
 /// # Errors
 ///
 /// `Arguments` where the words are anything else, an N isn't decimal without sign and leading zeros, at most
-/// 4,294,967,295, or of `--stop-after`, the two of records, `--trail-segment` and places 18,446,744,073,709,551,615, that of `--workers` isn't 1 to 64,
+/// 4,294,967,295, or of `--stop-after`, the two of records, `--trail-segment`, `--trail-compact` and places 18,446,744,073,709,551,615, that of `--workers` isn't 1 to 64,
 /// that of `--connections` is 0, that of `--keep-records` is below 1,000, that of `--trail-segment` below 4,096, or OCTAL isn't a zero and three octal digits; where
 /// `--workers` stands beside `--one-thread`, `--connections`, what tells of records or `--trail-file` without it, `--keep-all`
-/// beside the other two, `--trail-sync` or `--trail-segment` without `--trail-file`, `--socket-mode` at an address that isn't `unix:PATH`,
+/// beside the other two, `--trail-sync`, `--trail-segment` or `--trail-compact` without `--trail-file`, `--trail-keep` without `--trail-compact`, `--socket-mode` at an address that isn't `unix:PATH`,
 /// `unix-users:DIR` without `--one-thread`, or `--from` or `--to` without `--audit`; and where they ask for help or the version.
 pub fn task_of_words<'a, S: AsStr>(
     alloc: Global,
@@ -182,6 +207,9 @@ fn what_is_wanted(fault: WordFault) -> &'static str {
         WordFault::BadValue("trail-sync") => "it stands with --trail-file",
         WordFault::BadValue("trail-segment") =>
             "N is 4096 or more, decimal, without sign and leading zeros, and stands with --trail-file",
+        WordFault::BadValue("trail-compact") =>
+            "N is decimal, without sign and leading zeros, at most 18446744073709551615, and stands with --trail-file",
+        WordFault::BadValue("trail-keep") => "it stands with --trail-compact",
         WordFault::BadValue("from" | "to") =>
             "N is decimal, without sign and leading zeros, at most 18446744073709551615, and stands with --audit",
         WordFault::BadValue("answers") =>
@@ -196,6 +224,8 @@ fn program<'a>(alloc: Global, help: &'a str) -> Result<Command<'a>, AllocError>
     let script = script(alloc, help)?;
     let serve = serve(alloc, help)?;
     let replay = replay(alloc, help)?;
+    let compact = compact(alloc, help)?;
+    let same = same(alloc, help)?;
     Command::new(alloc, "mqserve")
         .version("0.1.0")
         .about("Serves POSIX message queues and named semaphores")
@@ -203,7 +233,9 @@ fn program<'a>(alloc: Global, help: &'a str) -> Result<Command<'a>, AllocError>
         .after_help(help)
         .subcommand(script)?
         .subcommand(serve)?
-        .subcommand(replay)
+        .subcommand(replay)?
+        .subcommand(compact)?
+        .subcommand(same)
 }
 
 fn script<'a>(alloc: Global, help: &'a str) -> Result<Command<'a>, AllocError>
@@ -238,6 +270,36 @@ fn replay<'a>(alloc: Global, help: &'a str) -> Result<Command<'a>, AllocError>
         .arg(place(alloc, "users", "USERS", USERS_HELP))?
         .arg(places(alloc, "files", "FILE", FILES_HELP))?;
     with_line_options(alloc, replay)
+}
+
+fn compact<'a>(alloc: Global, help: &'a str) -> Result<Command<'a>, AllocError>
+    ensures { IfOk result (λ command. IsSubcommand (retold_shape (codes "compact")) command) }
+{
+    let compact = Command::new(alloc, "compact")
+        .about("Retell a trail as a short one in which the same lives")
+        .after_help(help);
+    with_retold_words(alloc, compact)
+}
+
+fn same<'a>(alloc: Global, help: &'a str) -> Result<Command<'a>, AllocError>
+    ensures { IfOk result (λ command. IsSubcommand (retold_shape (codes "same")) command) }
+{
+    let same = Command::new(alloc, "same")
+        .about("Compare a trail with the one that it retells")
+        .after_help(help);
+    with_retold_words(alloc, same)
+}
+
+/// Adds the words that tell which trail is retold, and where.
+fn with_retold_words<'a>(alloc: Global, command: Command<'a>) -> Result<Command<'a>, AllocError>
+    ensures { IfOk result (λ added. Adds retold_words command.entry added) }
+{
+    let command = command
+        .arg(place(alloc, "users", "USERS", USERS_HELP))?
+        .arg(place(alloc, "new", "NEW", NEW_HELP))?
+        .arg(places(alloc, "files", "OLD", OLD_HELP))?
+        .arg(value(alloc, "to", "USERS", NEW_USERS_HELP))?;
+    with_new_limits(alloc, command)
 }
 
 /// Adds what one thread is told.
@@ -282,7 +344,9 @@ fn with_trail_options<'a>(alloc: Global, command: Command<'a>) -> Result<Command
     let command = command
         .arg(value(alloc, "trail-file", "FILE", TRAIL_FILE_HELP))?
         .arg(flag(alloc, "trail-sync", TRAIL_SYNC_HELP))?
-        .arg(value(alloc, "trail-segment", "N", TRAIL_SEGMENT_HELP))?;
+        .arg(value(alloc, "trail-segment", "N", TRAIL_SEGMENT_HELP))?
+        .arg(value(alloc, "trail-compact", "N", TRAIL_COMPACT_HELP))?
+        .arg(flag(alloc, "trail-keep", TRAIL_KEEP_HELP))?;
     Ok(command)
 }
 
@@ -306,6 +370,17 @@ fn with_limits<'a>(alloc: Global, command: Command<'a>) -> Result<Command<'a>, A
         .arg(value(alloc, "msg-max", "N", MSG_MAX_HELP))?
         .arg(value(alloc, "msgsize-max", "N", MSGSIZE_MAX_HELP))?
         .arg(value(alloc, "queues-max", "N", QUEUES_MAX_HELP))?;
+    Ok(command)
+}
+
+/// Adds the options for the limits of a trail that is retold.
+fn with_new_limits<'a>(alloc: Global, command: Command<'a>) -> Result<Command<'a>, AllocError>
+    ensures { IfOk result (λ added. Adds limit_options command.entry added) }
+{
+    let command = command
+        .arg(value(alloc, "msg-max", "N", NEW_MSG_MAX_HELP))?
+        .arg(value(alloc, "msgsize-max", "N", NEW_MSGSIZE_MAX_HELP))?
+        .arg(value(alloc, "queues-max", "N", NEW_QUEUES_MAX_HELP))?;
     Ok(command)
 }
 
@@ -376,6 +451,12 @@ fn task_named(alloc: Global, name: &str, options: &ArgMatches) -> Result<Task, W
     if name == "replay" {
         return Ok(Task::Replay(replaying_of(alloc, options)?));
     }
+    if name == "compact" {
+        return Ok(Task::Compact(retold_of(alloc, options)?));
+    }
+    if name == "same" {
+        return Ok(Task::Compare(retold_of(alloc, options)?));
+    }
     Ok(Task::Script(limits_of(options)?))
 }
 
@@ -392,7 +473,7 @@ fn serving_of(alloc: Global, options: &ArgMatches) -> Result<Serving, WordFault>
     let threading = threading_at(options, address)?;
     let stop_after = optional_number(options, "stop-after")?;
     let stats = stats_of(options, threading)?;
-    let log = log_of(alloc, options)?;
+    let log = copied_word(alloc, options, "log")?;
     let metrics = metrics_of(alloc, options, threading)?;
     let trail = trail_of(alloc, options, threading)?;
     let socket_mode = socket_mode_of(options, address)?;
@@ -411,14 +492,18 @@ fn serving_of(alloc: Global, options: &ArgMatches) -> Result<Serving, WordFault>
     })
 }
 
-/// The path of the log, where one is asked for.
-fn log_of(alloc: Global, options: &ArgMatches) -> Result<Option<String>, AllocError>
-    ensures { IfOk result (λ log. option_map string_bytes log ≡ first_of (codes "log") (rows_of (found_of options.now))) }
+/// The word of an argument, if it is given.
+pub fn copied_word(
+    alloc: Global,
+    options: &ArgMatches,
+    argument: &str,
+) -> Result<Option<String>, AllocError>
+    ensures { IfOk result (λ word. option_map string_bytes word ≡ first_of argument.now (rows_of (found_of options.now))) }
 {
-    let Some(path) = optional_word(options, "log") else {
+    let Some(word) = optional_word(options, argument) else {
         return Ok(None);
     };
-    Ok(Some(String::from_str(alloc, path)?))
+    Ok(Some(String::from_str(alloc, word)?))
 }
 
 /// On what threads this address is served. Users' sockets are served by one thread.

@@ -5,11 +5,12 @@ ghost use Rattle.std.specs.IoError.{error_kind};
 ghost use Rattle.clap.specs.Words.{kind_of};
 ghost use Rattle.ipc_script.specs.declared.fault.ScriptFault.TheVariants.{Memory};
 ghost use Rattle.ipc_program.specs.declared.fault.ProgramFault.TheVariants.{Script};
-ghost use Rattle.ipc_program.specs.Faults.{of_address, of_arguments, of_file, of_history, of_output, of_reading, of_trail_file, or_memory};
+ghost use Rattle.ipc_program.specs.Faults.{of_address, of_arguments, of_compact, of_file, of_history, of_output, of_reading, of_trail_file, or_memory};
 ghost use Rattle.ipc_program.specs.Statuses.{status_of_arguments, status_of_fault, status_of_trail};
 
 use clap::error::ErrorKind;
 use ipc_history::HistoryFault;
+use ipc_living::CompactFault;
 use ipc_script::ScriptFault;
 use std::alloc::AllocError;
 use std::{fmt, io};
@@ -31,6 +32,9 @@ pub enum ProgramFault {
     Trail(HistoryFault),
     /// A file of a trail ends within the record of this place, counted from 0, and isn't the last one.
     CutOff(u64),
+    /// A trail isn't retold, or not by this file. A write that failed is `NoTrail`, and limits out of their ranges and want of
+    /// memory are the script's.
+    Retelling(CompactFault),
 }
 
 impl ProgramFault {
@@ -45,6 +49,7 @@ impl ProgramFault {
             ProgramFault::Net | ProgramFault::NoTrail => 4,
             ProgramFault::Trail(fault) => status_of_trail(*fault),
             ProgramFault::CutOff(_) => 6,
+            ProgramFault::Retelling(_) => 7,
         }
     }
 
@@ -97,6 +102,7 @@ impl fmt::Display for ProgramFault {
             ProgramFault::NoTrail => f.write_str("mqserve: trail\n"),
             ProgramFault::Trail(fault) => writeln!(f, "mqserve: trail {fault}"),
             ProgramFault::CutOff(place) => writeln!(f, "mqserve: trail record {place}: cut off"),
+            ProgramFault::Retelling(fault) => writeln!(f, "mqserve: retelling: {fault}"),
         }
     }
 }
@@ -178,6 +184,19 @@ impl From<HistoryFault> for ProgramFault {
             HistoryFault::Read => ProgramFault::Script(ScriptFault::Read),
             HistoryFault::NoMemory => ProgramFault::Script(ScriptFault::Memory),
             _ => ProgramFault::Trail(fault),
+        }
+    }
+}
+
+impl From<CompactFault> for ProgramFault {
+    ghost from_gives = { λ fault made. made ≡ of_compact fault };
+
+    fn from(fault: CompactFault) -> Self {
+        match fault {
+            CompactFault::Write => ProgramFault::NoTrail,
+            CompactFault::NoMemory => ProgramFault::Script(ScriptFault::Memory),
+            CompactFault::Config(field) => ProgramFault::Script(ScriptFault::Config(field)),
+            _ => ProgramFault::Retelling(fault),
         }
     }
 }

@@ -13,5 +13,5 @@ mod users;
 pub use arguments::task_of_words;
 pub use fault::ProgramFault;
 pub use output::{print_line, say};
-pub use tasks::{Kept, Places, Replaying, Serving, Task, Threading, TrailFile};
+pub use tasks::{Kept, NewLimits, Places, Replaying, Retold, Serving, Task, Threading, TrailFile};
 pub use users::{users_at, users_of};

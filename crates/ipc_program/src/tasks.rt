@@ -12,6 +12,10 @@ pub enum Task {
     Serve(Serving),
     /// Step the records of a trail again.
     Replay(Replaying),
+    /// Retell a trail.
+    Compact(Retold),
+    /// Compare a trail with the one that it retells.
+    Compare(Retold),
 }
 
 /// Whom a server serves, where, and how.
@@ -46,6 +50,10 @@ pub struct TrailFile {
     pub is_synced: bool,
     /// After how many bytes another file is begun, if one is: 4,096 or more.
     pub segment: Option<u64>,
+    /// From how many bytes on a start retells the trail, if one does.
+    pub compact: Option<u64>,
+    /// Whether the files of a trail that was retold are kept.
+    pub is_kept: bool,
 }
 
 /// On what threads connections are served.
@@ -78,6 +86,28 @@ pub struct Replaying {
     pub answers: Option<u64>,
 }
 
+/// Which trail is retold, and where.
+#[derive(Drop)]
+pub struct Retold {
+    /// The path of the user file.
+    pub users: String,
+    /// The path of the file that retells.
+    pub new: String,
+    /// The paths of the trail's files in their order, one or more.
+    pub old: Vec<String>,
+    /// The path of the user file under which it is retold, if that is another one.
+    pub to: Option<String>,
+    pub limits: NewLimits,
+}
+
+/// The limits under which a trail is retold. One that isn't given is the trail's own.
+#[derive(Clone, Copy, PartialEq, Eq, Drop)]
+pub struct NewLimits {
+    pub msg_max: Option<u32>,
+    pub msgsize_max: Option<u32>,
+    pub queues_max: Option<u32>,
+}
+
 /// The places from one to another, with both. Places count from 0.
 #[derive(Clone, Copy, PartialEq, Eq, Drop)]
 pub struct Places {
@@ -91,7 +121,7 @@ impl Model for TrailFile {
 
     ghost Value = { TrailFile };
 
-    ghost view = { λ t. record { path = string_bytes t.path; is_synced = t.is_synced; segment = t.segment } };
+    ghost view = { λ t. record { path = string_bytes t.path; is_synced = t.is_synced; segment = t.segment; compact = t.compact; is_kept = t.is_kept } };
 }
 
 impl Model for Replaying {
@@ -101,6 +131,15 @@ impl Model for Replaying {
     ghost Value = { Replaying };
 
     ghost view = { λ r. record { users = string_bytes r.users; files = map string_bytes r.files.items; audit = r.audit; answers = r.answers } };
+}
+
+impl Model for Retold {
+    ghost use Rattle.std.specs.Prelude.{map, option_map, string_bytes};
+    ghost use Rattle.ipc_program.specs.Trails.{Retold};
+
+    ghost Value = { Retold };
+
+    ghost view = { λ r. record { users = string_bytes r.users; new = string_bytes r.new; old = map string_bytes r.old.items; to = option_map string_bytes r.to; limits = r.limits } };
 }
 
 impl Model for Serving {

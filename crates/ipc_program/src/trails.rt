@@ -4,12 +4,12 @@ ghost use Rattle.std.specs.Prelude.{◌≡◌, IfErr, IfOk, Ok, codes, map, opti
 ghost use Rattle.clap.specs.Walk.{all_of, rows_of};
 ghost use Rattle.clap.specs.Words.{found_of};
 ghost use Rattle.ipc_words.specs.Readings.{IsFaultOf, Reads};
-ghost use Rattle.ipc_program.specs.Tasks.{answers_given, audit_given, is_one_thread, no_trail, places_given, replaying_given, segment_given, trail_given, words_at};
+ghost use Rattle.ipc_program.specs.Tasks.{answers_given, audit_given, compact_given, is_one_thread, new_limits_given, no_trail, places_given, replaying_given, retold_given, segment_given, trail_given, words_at};
 
-use crate::arguments::{is_flag_given, is_option_given};
-use crate::tasks::{Places, Replaying, Threading, TrailFile};
+use crate::arguments::{copied_word, is_flag_given, is_option_given};
+use crate::tasks::{NewLimits, Places, Replaying, Retold, Threading, TrailFile};
 use clap::ArgMatches;
-use ipc_words::{WordFault, optional_number, optional_word};
+use ipc_words::{WordFault, optional_count, optional_number, optional_word};
 use std::alloc::{AllocError, Global};
 
 /// After how many bytes another file may be begun: less would be a file for a few records.
@@ -30,10 +30,13 @@ pub fn trail_of(
         return Err(WordFault::BadValue("trail-file"));
     }
     let segment = segment_of(options)?;
+    let compact = compact_of(options)?;
     Ok(Some(TrailFile {
         path: String::from_str(alloc, path)?,
         is_synced: is_flag_given(options, "trail-sync"),
         segment,
+        compact,
+        is_kept: is_flag_given(options, "trail-keep"),
     }))
 }
 
@@ -47,6 +50,12 @@ fn no_trail(options: &ArgMatches) -> Result<Option<TrailFile>, WordFault>
     if is_option_given(options, "trail-segment") {
         return Err(WordFault::BadValue("trail-segment"));
     }
+    if is_option_given(options, "trail-compact") {
+        return Err(WordFault::BadValue("trail-compact"));
+    }
+    if is_flag_given(options, "trail-keep") {
+        return Err(WordFault::BadValue("trail-keep"));
+    }
     Ok(None)
 }
 
@@ -59,6 +68,17 @@ fn segment_of(options: &ArgMatches) -> Result<Option<u64>, WordFault>
         Some(bytes) if bytes < SMALLEST_SEGMENT => Err(WordFault::BadValue("trail-segment")),
         _ => Ok(segment),
     }
+}
+
+/// From how many bytes on a start retells the trail, if one does. Old files are kept with that alone.
+fn compact_of(options: &ArgMatches) -> Result<Option<u64>, WordFault>
+    ensures { Reads (compact_given (rows_of (found_of options.now))) result }
+{
+    let compact = optional_number(options, "trail-compact")?;
+    if is_flag_given(options, "trail-keep") && compact.is_none() {
+        return Err(WordFault::BadValue("trail-keep"));
+    }
+    Ok(compact)
 }
 
 pub(crate) fn is_one_thread(threading: Threading) -> bool
@@ -85,6 +105,39 @@ pub fn replaying_of(alloc: Global, options: &ArgMatches) -> Result<Replaying, Wo
         files,
         audit,
         answers,
+    })
+}
+
+/// Which trail is retold, where, and under which configuration.
+pub fn retold_of(alloc: Global, options: &ArgMatches) -> Result<Retold, WordFault>
+    ensures { Reads (retold_given (rows_of (found_of options.now))) result }
+{
+    let Some(users) = optional_word(options, "users") else {
+        return Err(WordFault::BadValue("users"));
+    };
+    let Some(new) = optional_word(options, "new") else {
+        return Err(WordFault::BadValue("new"));
+    };
+    let limits = new_limits_of(options)?;
+    let old = files_of(alloc, options)?;
+    let to = copied_word(alloc, options, "to")?;
+    Ok(Retold {
+        users: String::from_str(alloc, users)?,
+        new: String::from_str(alloc, new)?,
+        old,
+        to,
+        limits,
+    })
+}
+
+/// The limits that are given.
+fn new_limits_of(options: &ArgMatches) -> Result<NewLimits, WordFault>
+    ensures { Reads (new_limits_given (rows_of (found_of options.now))) result }
+{
+    Ok(NewLimits {
+        msg_max: optional_count(options, "msg-max")?,
+        msgsize_max: optional_count(options, "msgsize-max")?,
+        queues_max: optional_count(options, "queues-max")?,
     })
 }
 

@@ -1,5 +1,8 @@
 //! The users of a user file.
 
+ghost use Rattle.std.specs.Prelude.{◌≡◌, IfOk};
+ghost use Rattle.ipc_access.specs.UserFile.{lines_of, users_of};
+
 use crate::fault::ProgramFault;
 use ipc_access::Users;
 use ipc_script::ScriptFault;
@@ -20,7 +23,9 @@ pub fn users_at<R: AllocGlobal + Files<File = File>>(
 }
 
 /// Those of a file of these bytes.
-pub fn users_of(alloc: Global, file: &[u8]) -> Result<Users, ProgramFault> {
+pub fn users_of(alloc: Global, file: &[u8]) -> Result<Users, ProgramFault>
+    ensures { IfOk result (λ users. users ≡ users_of (lines_of file.now)) }
+{
     match Users::read(alloc, file) {
         Ok(users) => Ok(users),
         Err(fault) => Err(ScriptFault::from(fault).into()),

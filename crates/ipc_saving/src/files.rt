@@ -5,12 +5,26 @@ use ipc_words::read_decimal;
 use std::alloc::{AllocError, Global};
 use std::fs::{File, TryLockError};
 use std::io::ErrorKind;
+use std::os::unix::fs::MetadataExt;
 use std::rt::Files;
 use std::{fs, io};
+
+/// The permission bits of a new file: its owner alone may read and write it.
+pub const OWNER_S_MODE: u32 = 0o600;
 
 /// The path of the file in which the trail of this path goes on at the place.
 pub fn path_at(alloc: Global, path: &str, place: u64) -> Result<String, AllocError> {
     format!(in alloc; "{path}.{place}")
+}
+
+/// The path at which the trail of this path is retold, before that takes its place.
+pub fn path_of_new(alloc: Global, path: &str) -> Result<String, AllocError> {
+    format!(in alloc; "{path}~new")
+}
+
+/// The path at which the first file of the trail of this path is kept that was retold so often.
+pub fn path_of_kept(alloc: Global, path: &str, generation: u64) -> Result<String, AllocError> {
+    format!(in alloc; "{path}~{generation}")
 }
 
 /// The places at which the trail of this path goes on in other files, in rising order.
@@ -64,6 +78,12 @@ pub fn lock(file: &File) -> io::Result<()> {
         Err(TryLockError::WouldBlock) => Err(io::Error::from(ErrorKind::WouldBlock)),
         Err(TryLockError::Error(error)) => Err(error),
     }
+}
+
+/// Whether this file has this path.
+pub fn is_at<R: Files>(rt: &R, file: &File, path: &str) -> io::Result<bool> {
+    let (own, there) = (file.metadata()?, fs::metadata(rt, path)?);
+    Ok(own.dev() == there.dev() && own.ino() == there.ino())
 }
 
 /// Removes a file, and has the system put on the disk that it is gone: were it there again, the trail would seem to go on in it.

@@ -1,6 +1,6 @@
 //! The file of a trail that is being written.
 
-use crate::files::{beside_streams, lock, path_at, remove, sync_folder};
+use crate::files::{OWNER_S_MODE, beside_streams, lock, path_at, remove, sync_folder};
 use ipc_log::{Head, TrailWriter};
 use ipc_program::TrailFile;
 use std::alloc::{AllocError, Global};
@@ -9,9 +9,6 @@ use std::io;
 use std::io::ErrorKind;
 use std::os::unix::fs::OpenOptionsExt;
 use std::rt::Files;
-
-/// The permission bits of a new file: its owner alone may read and write it.
-const OWNER_S_MODE: u32 = 0o600;
 
 /// Files in which a trail goes on.
 #[derive(Drop)]

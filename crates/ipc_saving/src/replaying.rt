@@ -13,6 +13,9 @@ use std::rt::Files;
 /// How many bytes are read at a time.
 const PIECE: usize = 65_536;
 
+/// What stands in front of the lines of a record that is retold.
+const RETOLD: &str = "~";
+
 /// A file of a trail, as it is read.
 type Reading = TrailReader<BufReader<File>>;
 
@@ -50,6 +53,9 @@ fn go_through<R: AllocGlobal + Files<File = File> + Print>(
         }
         reader = open(rt, path.as_str())?;
         go_on(rt, past, &mut reader, shown)?;
+    }
+    if past.place() < past.retelling().records {
+        return Err(ProgramFault::CutOff(past.place()));
     }
     tell(rt, past, reader.is_torn())
 }
@@ -117,16 +123,25 @@ fn show<R: AllocGlobal + Print>(
         let Ok(texts) = texts_of(alloc, past.state(), place, &next, shown) else {
             return Err(HistoryFault::NoMemory.into());
         };
+        let mark = if place < past.retelling().records {
+            RETOLD
+        } else {
+            ""
+        };
         past.step(alloc, next)?;
-        print_all(rt, &texts)?;
+        print_all(rt, mark, &texts)?;
     }
     // Memory ends long before.
     Err(HistoryFault::NoMemory.into())
 }
 
-fn print_all<R: Print>(rt: &R, texts: &[String]) -> Result<(), ProgramFault> {
+/// Prints these lines, each behind the mark.
+fn print_all<R: Print>(rt: &R, mark: &str, texts: &[String]) -> Result<(), ProgramFault> {
     for text in texts {
-        print_line(rt, text.as_str())?;
+        match println!(rt; "{mark}{text}") {
+            Ok(()) => {}
+            Err(error) => return Err(ProgramFault::of_output(&error)),
+        }
     }
     Ok(())
 }
@@ -135,6 +150,10 @@ fn print_all<R: Print>(rt: &R, texts: &[String]) -> Result<(), ProgramFault> {
 fn tell<R: Print>(rt: &R, past: &Past, is_torn: bool) -> Result<(), ProgramFault> {
     let counts = past.counts();
     say(rt, "records", past.place())?;
+    let retold = past.retelling().records;
+    if retold > 0 {
+        say(rt, "retold", retold)?;
+    }
     say(rt, "calls", counts.calls)?;
     say(rt, "sessions", counts.sessions)?;
     say(rt, "refused hellos", counts.refused_hellos)?;

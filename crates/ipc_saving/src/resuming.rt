@@ -1,30 +1,29 @@
 //! A trail that is in files already, and is gone on with.
 
-use crate::files::{beside_streams, lock, path_at, places_beside, remove, sync_folder};
+use crate::files::{beside_streams, is_at, lock, path_at, places_beside, remove, sync_folder};
 use crate::open_trail::{OpenTrail, Segments};
+use crate::reading::{reader_of, whole_length};
+use crate::shortening::current_places;
 use ipc_access::Users;
 use ipc_core::{Config, Limits};
 use ipc_history::{HistoryFault, Past, TrailReader, replay_next};
-use ipc_log::{Head, TrailWriter};
+use ipc_log::{Head, Retelling, TrailWriter};
 use ipc_program::{ProgramFault, TrailFile};
 use ipc_script::ScriptFault;
 use ipc_state::State;
 use std::alloc::Global;
 use std::fs::File;
 use std::io;
-use std::io::{BufReader, ErrorKind, Seek, SeekFrom};
+use std::io::{ErrorKind, Seek, SeekFrom};
 use std::rt::Files;
-
-/// How many bytes are read at a time.
-const PIECE: usize = 65_536;
 
 /// A trail that is there.
 #[derive(Drop)]
 pub struct FoundTrail {
     /// Its first file, locked.
-    file: File,
+    pub file: File,
     /// The places at which it goes on in other files, in rising order.
-    places: Vec<u64>,
+    pub places: Vec<u64>,
 }
 
 /// A file of a trail, read to its end.
@@ -43,16 +42,19 @@ pub struct OldTrail {
     /// Its first file, where the last is another.
     first: Option<File>,
     last: ReadFile,
+    retelling: Retelling,
     /// The records that come behind these: the hang-ups of the sessions that were live.
     writer: TrailWriter,
 }
 
-/// The trail whose first file has this path, locked. None where there is none. A file of it without the first one is a fault, and
-/// so is a first one that another process has locked, or that is no plain file.
+/// The trail that is wanted, its first file locked. None where there is none. A file of it without the first one is a fault, and so
+/// is a first one that another process has locked, or that is no plain file. Files that go on a trail that the first one retells are
+/// put out of the way.
 pub fn find_old<R: AllocGlobal + Clone + Drop + Files<File = File>>(
     rt: &R,
-    path: &str,
+    wanted: &TrailFile,
 ) -> Result<Option<FoundTrail>, ProgramFault> {
+    let path = wanted.path.as_str();
     let found = match open_old(rt, path) {
         Ok(found) => found,
         Err(error) => return Err(ProgramFault::of_trail_file(&error)),
@@ -64,13 +66,16 @@ pub fn find_old<R: AllocGlobal + Clone + Drop + Files<File = File>>(
     match (found, places.first()) {
         (None, None) => Ok(None),
         (None, Some(place)) => Err(HistoryFault::OtherPlace(*place).into()),
-        (Some(file), _) => Ok(Some(FoundTrail { file, places })),
+        (Some(file), _) => {
+            let places = current_places(rt, wanted, &file, places)?;
+            Ok(Some(FoundTrail { file, places }))
+        }
     }
 }
 
 /// Opens a file that is there, and locks it. None where nothing has this path. `WouldBlock` where another process has it
-/// locked, and `InvalidInput` where it is no plain file.
-fn open_old<R: Files<File = File>>(rt: &R, path: &str) -> io::Result<Option<File>> {
+/// locked, or has put another file in its place since, and `InvalidInput` where it is no plain file.
+pub fn open_old<R: Files<File = File>>(rt: &R, path: &str) -> io::Result<Option<File>> {
     let file = match File::options().read(true).write(true).open(rt, path) {
         Ok(file) => file,
         Err(error) if error.kind() == ErrorKind::NotFound => return Ok(None),
@@ -81,6 +86,9 @@ fn open_old<R: Files<File = File>>(rt: &R, path: &str) -> io::Result<Option<File
     }
     let file = beside_streams(&file)?;
     lock(&file)?;
+    if !is_at(rt, &file, path)? {
+        return Err(io::Error::from(ErrorKind::WouldBlock));
+    }
     Ok(Some(file))
 }
 
@@ -96,6 +104,10 @@ pub fn replay_old<R: AllocGlobal + Files<File = File>>(
     let Config { users, limits } = config;
     let (mut past, read) = read_first(alloc, file, users, limits)?;
     let (first, last) = read_others(rt, path, &places, &mut past, read)?;
+    if past.place() < past.retelling().records {
+        return Err(ProgramFault::CutOff(past.place()));
+    }
+    let retelling = past.retelling();
     let mut writer = TrailWriter::behind(alloc, past.place());
     let Ok(state) = past.resume(alloc) else {
         return Err(ScriptFault::Memory.into());
@@ -106,6 +118,7 @@ pub fn replay_old<R: AllocGlobal + Files<File = File>>(
     let old = OldTrail {
         first,
         last,
+        retelling,
         writer,
     };
     Ok((state, old))
@@ -212,31 +225,9 @@ fn removed<R: Files<File = File>>(rt: &R, path: &str) -> Result<Option<ReadFile>
     }
 }
 
-fn reader_of<'a>(
-    alloc: Global,
-    file: &'a File,
-) -> Result<TrailReader<BufReader<&'a File>>, ProgramFault> {
-    match BufReader::with_capacity(alloc, PIECE, file) {
-        Ok(reader) => Ok(TrailReader::new(alloc, reader)),
-        Err(error) => Err(ProgramFault::of_file(&error)),
-    }
-}
-
-/// How long the file is without so many bytes at its end, where it was read up to there.
-fn whole_length(mut file: &File, rest: usize) -> Result<u64, ProgramFault> {
-    let end = match file.seek(SeekFrom::Current(0)) {
-        Ok(end) => end,
-        Err(error) => return Err(ProgramFault::of_file(&error)),
-    };
-    match end.checked_sub(rest as u64) {
-        Some(whole) => Ok(whole),
-        None => Err(HistoryFault::Read.into()),
-    }
-}
-
 impl OldTrail {
     /// Cuts off what isn't whole, and writes the hang-ups behind the records of the last file. At an `Err` that has whole records alone,
-    /// if it can be cut. The head is the first file's.
+    /// if it can be cut. The head is the first file's, but for what it says of a retelling.
     pub fn go_on<R: AllocGlobal + Files<File = File>>(
         self,
         rt: &R,
@@ -246,6 +237,7 @@ impl OldTrail {
         let OldTrail {
             first,
             last,
+            retelling,
             writer,
         } = self;
         let ReadFile {
@@ -253,7 +245,8 @@ impl OldTrail {
             whole,
             is_torn: _,
         } = last;
-        let segments = Segments::wanted(rt.alloc(), wanted, head)?;
+        let head = Head { retelling, ..*head };
+        let segments = Segments::wanted(rt.alloc(), wanted, &head)?;
         file.set_len(whole)?;
         file.seek(SeekFrom::Start(whole))?;
         let mut trail = OpenTrail::new(first, file, whole, writer, segments, wanted.is_synced);

@@ -16,7 +16,7 @@ mod watch;
 use guidance::{help_text, hint};
 use ipc_core::Limits;
 use ipc_program::{ProgramFault, Task, task_of_words};
-use ipc_saving::replay_trail;
+use ipc_saving::{compact_trail, compare_trails, replay_trail};
 use ipc_script::run_script;
 use serving::serve;
 use std::env;
@@ -27,6 +27,8 @@ fn main(rt: HostRuntime) -> ExitCode {
         Ok(Task::Script(limits)) => script(&rt, limits),
         Ok(Task::Serve(serving)) => serve(&rt, &serving),
         Ok(Task::Replay(replaying)) => replay_trail(&rt, &replaying),
+        Ok(Task::Compact(retold)) => compact_trail(&rt, &retold),
+        Ok(Task::Compare(retold)) => compare_trails(&rt, &retold),
         Err(fault) => Err(fault),
     };
     match outcome {

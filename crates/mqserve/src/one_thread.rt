@@ -7,12 +7,11 @@ use crate::tally::Tally;
 use crate::watch::{Watch, Watched};
 use ipc_access::Users;
 use ipc_core::{Config, Core};
-use ipc_history::users_sum;
 use ipc_hub::Hub;
-use ipc_log::Head;
+use ipc_log::{Head, NO_RETELLING};
 use ipc_loop::{Keeping, Server};
 use ipc_program::{Kept, ProgramFault, Serving, TrailFile, say};
-use ipc_saving::{OldTrail, OpenTrail, find_old, replay_old};
+use ipc_saving::{OldTrail, OpenTrail, find_old, head_of, replay_old, shorten};
 use ipc_script::ScriptFault;
 use ipc_sockets::{Sockets, UserSocket, folder_of, sockets_of};
 use ipc_terms::NoMemory;
@@ -101,16 +100,19 @@ fn start<'a, R: AllocGlobal + Clone + Drop + Files<File = File>>(
         let server = new_server(alloc, config, connections, stop_after)?;
         return Ok((server, None));
     };
-    let head = head_of(alloc, &config)?;
+    let head = head_of(alloc, &config, NO_RETELLING)?;
     let mut goal = Goal {
         wanted,
         head,
         old: None,
     };
-    let Some(found) = find_old(rt, wanted.path.as_str())? else {
+    let Some(mut found) = find_old(rt, wanted)? else {
         let server = new_server(alloc, config, connections, stop_after)?;
         return Ok((server, Some(goal)));
     };
+    if let Some(bytes) = wanted.compact {
+        found = shorten(rt, serving.users.as_str(), wanted, bytes, found)?;
+    }
     let (state, old) = replay_old(rt, wanted.path.as_str(), found, config)?;
     goal.old = Some(old);
     let hub = Hub::of_core(alloc, Core::of_state(alloc, state));
@@ -131,20 +133,6 @@ fn new_server(
         Ok(server) => Ok(server),
         Err(fault) => Err(ScriptFault::from(fault).into()),
     }
-}
-
-/// What stands in front of the trail's records.
-fn head_of(alloc: Global, config: &Config) -> Result<Head, ProgramFault> {
-    let Ok(users) = users_sum(alloc, &config.users) else {
-        return Err(ScriptFault::Memory.into());
-    };
-    Ok(Head {
-        first: 0,
-        msg_max: config.limits.msg_max,
-        msgsize_max: config.limits.msgsize_max,
-        queues_max: config.limits.queues_max,
-        users,
-    })
 }
 
 /// Serves, and keeps the trail in memory alone.

@@ -69,8 +69,8 @@ fn a_record_of_another_place_is_at_fault(rt: HostRuntime) -> Result<(), Fail> {
 #[test]
 fn another_file_is_known_by_its_first_bytes(rt: HostRuntime) -> Result<(), Fail> {
     assert!(rt; matches!(read_head(b"MQTRAIL"), Ok(None)));
-    assert!(rt; matches!(read_head(b"MQTRAIL1 and no sum"), Ok(None)));
-    let next = read_file(rt.alloc(), b"MQTRAIL2")?;
+    assert!(rt; matches!(read_head(b"MQTRAIL2 and no sum"), Ok(None)));
+    let next = read_file(rt.alloc(), b"MQTRAIL1")?;
     assert!(rt; next.fault == Some(TrailFault::BadMagic));
     Ok(())
 }

@@ -1,14 +1,15 @@
 //! A file: whole, cut at each byte, with each byte changed, and without one of its records.
 
 use crate::made::{Found, read_file};
-use ipc_log::{HEAD_LEN, Head, TrailFault, put_head};
+use ipc_log::{HEAD_LEN, Head, Retelling, TrailDigest, TrailFault, put_head};
 use std::alloc::Global;
 use std::test::Fail;
 
 /// A file, in parts: its head, and seven records.
 static PARTS: [&[u8]; 8] = [
-    // The head: from place 5 on, limits of 10, 8,192 and 256, and a user file's sum.
-    b"MQTRAIL1\0\0\0\0\0\0\0\x05\0\0\0\x0a\0\0 \0\0\0\x01\0\x01#Eg\x89\xab\xcd\xef\xac:\xa7C",
+    // The head: from place 5 on, limits of 10, 8,192 and 256, a user file's sum, and a second retelling: 3 records of what were 9, and a
+    // digest.
+    b"MQTRAIL2\0\0\0\0\0\0\0\x05\0\0\0\x0a\0\0 \0\0\0\x01\0\x01#Eg\x89\xab\xcd\xef\0\0\0\0\0\0\0\x02\0\0\0\0\0\0\0\x03\0\0\0\0\0\0\0\x090123456789abcdefGHIJKLMNOPQRSTUV\xc6\xba\x1c\x81",
     // Place 5: a hello of user 1000.
     b"\0\0\0\x0f\x16tw\xe3\0\0\0\0\0\0\0\x05\0\x01\x01\0\0\x03\xe8\xb1\0w\xa3",
     // Place 6: session 0 opens `/q`.
@@ -60,6 +61,17 @@ fn a_head_is_spelled(rt: HostRuntime) -> Result<(), Fail> {
         msgsize_max: 8192,
         queues_max: 256,
         users: 0x0123_4567_89ab_cdef,
+        retelling: Retelling {
+            generation: 2,
+            records: 3,
+            old_records: 9,
+            old_digest: TrailDigest(
+                u64::from_be_bytes(*b"01234567"),
+                u64::from_be_bytes(*b"89abcdef"),
+                u64::from_be_bytes(*b"GHIJKLMN"),
+                u64::from_be_bytes(*b"OPQRSTUV"),
+            ),
+        },
     };
     let mut out = Vec::from_slice(rt.alloc(), b"before")?;
     put_head(&mut out, &head)?;

@@ -1,6 +1,6 @@
 //! A trail on its way to a disk that takes a few bytes at a time, and is full for a while.
 
-use ipc_log::{Head, TrailWriter, put_head, put_record};
+use ipc_log::{Head, NO_RETELLING, TrailWriter, put_head, put_record};
 use ipc_terms::{Event, NoMemory, Record};
 use ipc_trail::Trail;
 use std::alloc::Global;
@@ -14,6 +14,7 @@ const HEAD: Head = Head {
     msgsize_max: 8192,
     queues_max: 256,
     users: 7,
+    retelling: NO_RETELLING,
 };
 
 /// Takes seven bytes at a time, as long as there is room.

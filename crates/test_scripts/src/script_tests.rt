@@ -1,30 +1,13 @@
-//! What no script shows: the program's arguments, readers and writers that fail, the longest line, and
-//! when answers are written.
+//! What no script shows: readers and writers that fail, and when answers are written.
 
 use ipc_access::UserFault;
 use ipc_core::{Field, Limits};
-use ipc_program::{Task, task_of_words};
 use ipc_script::{ScriptFault, run_script, run_script_on};
-use std::alloc::{AllocError, Global};
+use std::alloc::Global;
 use std::cell::Cell;
 use std::io;
 use std::io::{ErrorKind, Read, Write};
 use std::test::Fail;
-
-/// A script whose fourth line is a comment of so many bytes, what it writes, and how it ends.
-static LONG_LINES: [(usize, &str, Result<(), ScriptFault>); 3] = [
-    (1_048_575, "a started 0\n", Ok(())),
-    (1_048_576, "a started 0\n", Ok(())),
-    (1_048_577, "", Err(ScriptFault::Line(3))),
-];
-
-fn script_with_comment(alloc: Global, length: usize) -> Result<Vec<u8>, AllocError> {
-    let comment = Vec::from_elem(alloc, b'#', length)?;
-    let mut script = Vec::from_slice(alloc, b"ann:ka1:1000:1000::\n.\n")?;
-    script.extend_from_slice(&comment)?;
-    script.extend_from_slice(b"\na hello ka1\n")?;
-    Ok(script)
-}
 
 /// Whether a run over the script writes this and ends so.
 fn runs(
@@ -50,132 +33,6 @@ fn limits_are_tested_after_users(rt: HostRuntime) {
     assert!(rt; runs(rt.alloc(), NO_MESSAGES, b".\n", "", bad_limit));
     let bad_line = Err(ScriptFault::Users(UserFault::BadLine(1)));
     assert!(rt; runs(rt.alloc(), NO_MESSAGES, b"bad\n.\n", "", bad_line));
-}
-
-/// The program's words, and the limits of its run or the status that it ends by.
-static ARGUMENTS: [(&[&str], Result<Limits, u8>); 30] = [
-    (&["mqserve"], Ok(Limits::STANDARD)),
-    (&["mqserve", "script"], Ok(Limits::STANDARD)),
-    (
-        &["mqserve", "script", "--msg-max", "1"],
-        Ok(Limits {
-            msg_max: 1,
-            ..Limits::STANDARD
-        }),
-    ),
-    (
-        &["mqserve", "script", "--msg-max", "65536"],
-        Ok(Limits {
-            msg_max: 65_536,
-            ..Limits::STANDARD
-        }),
-    ),
-    (
-        &["mqserve", "script", "--msgsize-max", "1"],
-        Ok(Limits {
-            msgsize_max: 1,
-            ..Limits::STANDARD
-        }),
-    ),
-    (
-        &["mqserve", "script", "--msgsize-max=16777216"],
-        Ok(Limits {
-            msgsize_max: 16_777_216,
-            ..Limits::STANDARD
-        }),
-    ),
-    (
-        &["mqserve", "script", "--queues-max", "0"],
-        Ok(Limits {
-            queues_max: 0,
-            ..Limits::STANDARD
-        }),
-    ),
-    (
-        &["mqserve", "script", "--queues-max", "65536"],
-        Ok(Limits {
-            queues_max: 65_536,
-            ..Limits::STANDARD
-        }),
-    ),
-    (
-        &[
-            "mqserve",
-            "script",
-            "--queues-max",
-            "3",
-            "--msgsize-max",
-            "2",
-            "--msg-max",
-            "4",
-        ],
-        Ok(Limits {
-            msg_max: 4,
-            msgsize_max: 2,
-            queues_max: 3,
-        }),
-    ),
-    (&["mqserve", "script", "--msg-max", "x"], Err(2)),
-    (&["mqserve", "script", "--msg-max", "+5"], Err(2)),
-    (&["mqserve", "script", "--msg-max", "05"], Err(2)),
-    (&["mqserve", "script", "--msg-max", ""], Err(2)),
-    (&["mqserve", "script", "--msg-max", "4294967296"], Err(2)),
-    (&["mqserve", "script", "--msg-max", "-1"], Err(2)),
-    (&["mqserve", "script", "--msgsize-max", "+5"], Err(2)),
-    (&["mqserve", "script", "--queues-max", "00"], Err(2)),
-    (
-        &["mqserve", "script", "--msg-max", "0", "--queues-max", "x"],
-        Err(2),
-    ),
-    (&["mqserve", "script", "--msg-max", "4294967295"], Err(3)),
-    (&["mqserve", "script", "--msg-max", "0"], Err(3)),
-    (&["mqserve", "script", "--msg-max", "65537"], Err(3)),
-    (&["mqserve", "script", "--msgsize-max", "0"], Err(3)),
-    (&["mqserve", "script", "--msgsize-max", "16777217"], Err(3)),
-    (&["mqserve", "script", "--queues-max", "65537"], Err(3)),
-    (&["mqserve", "--msg-max", "5"], Err(2)),
-    (&["mqserve", "script", "5"], Err(2)),
-    (
-        &["mqserve", "script", "--msg-max", "5", "--msg-max", "5"],
-        Err(2),
-    ),
-    (&["mqserve", "serve"], Err(2)),
-    (&["mqserve", "--help"], Err(0)),
-    (&["mqserve", "script", "--help"], Err(0)),
-];
-
-/// The limits of a run without users and steps, or the status that the program ends by.
-fn limits_or_status(alloc: Global, words: &'static [&'static str]) -> Result<Limits, u8> {
-    let limits = match task_of_words(alloc, "", words) {
-        Ok(Task::Script(limits)) => limits,
-        Ok(Task::Serve(_) | Task::Replay(_)) => return Err(0),
-        Err(fault) => return Err(fault.status()),
-    };
-    match run_script(alloc, limits, b".\n".as_slice(), Vec::new(alloc)) {
-        Ok(()) => Ok(limits),
-        Err(fault) => Err(fault.status()),
-    }
-}
-
-#[test]
-fn arguments_set_limits(rt: HostRuntime) -> Result<(), Fail> {
-    for (row, (words, wanted)) in ARGUMENTS.iter().enumerate() {
-        if limits_or_status(rt.alloc(), words) != *wanted {
-            return Err(Fail::new(format_args!("row {row}")));
-        }
-    }
-    Ok(())
-}
-
-#[test]
-fn a_line_has_at_most_1_048_576_bytes(rt: HostRuntime) -> Result<(), Fail> {
-    for (length, written, outcome) in &LONG_LINES {
-        let script = script_with_comment(rt.alloc(), *length)?;
-        if !runs(rt.alloc(), Limits::STANDARD, &script, written, *outcome) {
-            return Err(Fail::new(format_args!("with {length}")));
-        }
-    }
-    Ok(())
 }
 
 /// A script, and what it writes.

@@ -72,6 +72,6 @@ fn run(
     match task_of_words(alloc, "", words)? {
         Task::Script(limits) => Ok(run_script(alloc, limits, input, output)?),
         // No connection comes here, and no trail.
-        Task::Serve(_) | Task::Replay(_) => Err(ProgramFault::Net),
+        _ => Err(ProgramFault::Net),
     }
 }

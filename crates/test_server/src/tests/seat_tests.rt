@@ -160,9 +160,49 @@ fn is_bobs(answers: &[Answer]) -> bool {
     }
 }
 
-/// A seat with two answers untaken is full where two are the most: the call comes back, and is stepped once they are
-/// taken. A message that another sends to the blocked session rings its bell, which the book then gives up. Each seat has
-/// its own answers waiting.
+/// A new bell of the session.
+pub(crate) fn bell_of<L: Ledger, R: Wait>(
+    rt: &R,
+    alloc: Global,
+    book: &Shared<L>,
+    sid: Sid,
+) -> Result<Arc<Bell>, Fail> {
+    let bell = Arc::new(alloc, Bell::new())?;
+    book.add_bell(rt, sid, &bell)?;
+    Ok(bell)
+}
+
+/// A seat with two answers untaken is full where two are the most: the call comes back.
+fn offer_in_vain<L: Ledger, R: Wait + Abort>(
+    rt: &R,
+    alloc: Global,
+    book: &Shared<L>,
+    seat: &mut Seat<L>,
+) -> Result<Call, Fail> {
+    let (fault, call) = book
+        .offer(rt, alloc, seat, Call::Interrupt, 2)
+        .err()
+        .ok_or("no room")?;
+    assert!(rt; matches!((&fault, &call), (OfferFault::Full, Call::Interrupt)));
+    Ok(call)
+}
+
+/// A message that another seat sends to the blocked session rings its bell, which the book then gives up.
+fn send_and_ring<L: Ledger, R: Wait + Abort>(
+    rt: &R,
+    alloc: Global,
+    book: &Shared<L>,
+    blocked: Sid,
+) -> Result<Seat<L>, Fail> {
+    let bell = bell_of(rt, alloc, book, blocked)?;
+    let sent = calls_of_sender(alloc, Desc(1))?;
+    let other = act(rt, alloc, book, b"kb1", sent).ok_or("a sender")?;
+    book.remove_bell(rt, blocked);
+    assert!(rt; bell.rings() == 1 && Arc::strong_count(&bell) == 1);
+    Ok(other)
+}
+
+/// A call that came back is stepped once the answers are taken. Each seat has its own answers waiting.
 pub(crate) fn offer_one<L: Ledger, R: Wait + Abort>(
     rt: &R,
     alloc: Global,
@@ -170,20 +210,10 @@ pub(crate) fn offer_one<L: Ledger, R: Wait + Abort>(
 ) -> Result<(Seat<L>, Seat<L>), Fail> {
     let received = calls_of_receiver(alloc, Access::Both, Desc(0))?;
     let mut bob = act(rt, alloc, book, b"kb1", received).ok_or("a receiver")?;
-    let (fault, call) = book
-        .offer(rt, alloc, &mut bob, Call::Interrupt, 2)
-        .err()
-        .ok_or("no room")?;
-    assert!(rt; matches!((&fault, &call), (OfferFault::Full, Call::Interrupt)));
-    let bell = Arc::new(alloc, Bell::new())?;
-    let bobs = bob.sid().ok_or("a session")?;
-    book.add_bell(rt, bobs, &bell)?;
-    let sent = calls_of_sender(alloc, Desc(1))?;
-    let other = act(rt, alloc, book, b"kb1", sent).ok_or("a sender")?;
-    assert!(rt; bell.rings() == 1 && book.collect(rt, &bob).len() == 3);
-    assert!(rt; book.waiting(rt, &bob) == 0 && book.waiting(rt, &other) == 3);
-    book.remove_bell(rt, bobs);
-    assert!(rt; Arc::strong_count(&bell) == 1);
+    let call = offer_in_vain(rt, alloc, book, &mut bob)?;
+    let other = send_and_ring(rt, alloc, book, bob.sid().ok_or("a session")?)?;
+    assert!(rt; book.collect(rt, &bob).len() == 3 && book.waiting(rt, &bob) == 0);
+    assert!(rt; book.waiting(rt, &other) == 3);
     book.offer(rt, alloc, &mut bob, call, 2).ok().ok_or("room")?;
     Ok((bob, other))
 }

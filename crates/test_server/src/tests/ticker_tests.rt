@@ -3,18 +3,18 @@
 ghost use Rattle.std.specs.Prelude.{◌≡◌, None};
 
 use super::pairs::{Pair, closed_by};
-use super::seat_tests::act;
+use super::seat_tests::{act, bell_of};
 use super::signs::{MOST_TURNS, Sign, wait_a_turn};
 use super::streams::HELLO;
-use ipc_book::{Bell, Seat, Shared};
+use ipc_book::{Seat, Shared};
 use ipc_server::{Clock, Ending, OpenGate, Served, run_ticker, serve_connection};
 use ipc_terms::{Answer, Bytes, Call, Desc, Mode, Name, OpenFlags, Rule, SemaphoreOpen, Sid};
 use std::alloc::{AllocError, Global};
 use std::io::{ErrorKind, Read, Write};
 use std::process::Abort;
+use std::sync::Wait;
 use std::sync::atomic::{AtomicU32, Ordering};
 use std::sync::ledger::Ledger;
-use std::sync::{Arc, Wait};
 use std::test::*;
 use std::thread::Threads;
 use std::{io, thread, time};
@@ -109,33 +109,52 @@ fn tick_twice<L: Ledger, R: Wait + Abort>(
     Ok(seat)
 }
 
-/// Session 1 waits until the deadline, and a ticker ends that: the session is told, and its bell is rung, and not that of the
-/// session before it. A second wait, until a moment later, is not over.
+/// A seat that was left, and the one of session 1, which waits until the deadline.
+fn left_and_waiting<L: Ledger, R: Wait>(
+    rt: &R,
+    alloc: Global,
+    book: &Shared<L>,
+) -> Result<(Seat<L>, Seat<L>), Fail> {
+    let left = left_seat(rt, alloc, book).ok_or("a seat that was left")?;
+    let waiter = act(rt, alloc, book, b"kb1", calls_of_waiter(alloc)?).ok_or("a waiter")?;
+    Ok((left, waiter))
+}
+
+/// A ticker rings the bell of the session that waits, and not that of the session before it.
+fn tick_and_ring<L: Ledger, R: Wait + Abort>(
+    rt: &R,
+    alloc: Global,
+    book: &Shared<L>,
+    seat: Seat<L>,
+) -> Result<Seat<L>, Fail> {
+    let older = bell_of(rt, alloc, book, Sid(0))?;
+    let bell = bell_of(rt, alloc, book, Sid(1))?;
+    let ticker = tick_twice(rt, alloc, book, seat)?;
+    assert!(rt; older.rings() == 0 && bell.rings() == 1);
+    Ok(ticker)
+}
+
+/// Session 1 waits until the deadline, and a ticker ends that: the session is told, and its bell is rung. A second wait, until a
+/// moment later, is not over.
 pub(crate) fn tick_beside<L: Ledger, R: Wait + Abort>(
     rt: &R,
     alloc: Global,
     book: &Shared<L>,
 ) -> Result<(Seat<L>, Seat<L>), Fail> {
-    let seat = left_seat(rt, alloc, book).ok_or("a seat that was left")?;
-    let mut waiter = act(rt, alloc, book, b"kb1", calls_of_waiter(alloc)?).ok_or("a waiter")?;
-    let older = Arc::new(alloc, Bell::new())?;
-    let bell = Arc::new(alloc, Bell::new())?;
-    book.add_bell(rt, Sid(0), &older)?;
-    book.add_bell(rt, Sid(1), &bell)?;
-    let ticker = tick_twice(rt, alloc, book, seat)?;
-    assert!(rt; older.rings() == 0 && bell.rings() == 1);
-    assert!(rt; is_timed_out(book.collect(rt, &waiter).as_slice()));
+    let (left, mut waiter) = left_and_waiting(rt, alloc, book)?;
+    let ticker = tick_and_ring(rt, alloc, book, left)?;
     wait_again(rt, alloc, book, &mut waiter)?;
     Ok((waiter, ticker))
 }
 
-/// The session waits until a moment after the deadline: it is told nothing, and due then.
+/// The session was told that its wait is over. It waits until a moment after the deadline: it is told nothing, and due then.
 fn wait_again<L: Ledger, R: Wait + Abort>(
     rt: &R,
     alloc: Global,
     book: &Shared<L>,
     waiter: &mut Seat<L>,
 ) -> Result<(), Fail> {
+    assert!(rt; is_timed_out(book.collect(rt, waiter).as_slice()));
     let call = Call::SemTimedWait {
         desc: Desc(0),
         deadline: DEADLINE + 1,

@@ -12,6 +12,10 @@ returns c =
     ∙ ap₂ with_subcommand bare (ap (λ (a : App). a.top) c.in_ok-script.ensures.0) in
     let with_serve = c.in_ok-subcommand-2.ensures.shape c.in_ok-serve.ensures.1
     ∙ ap₂ with_subcommand with_script (ap (λ (a : App). a.top) c.in_ok-serve.ensures.0) in
-    IfOk-weaker c.subcommand-3.result _ _
-    (λ command added. added.shape c.in_ok-replay.ensures.1 ∙ ap₂ with_subcommand with_serve (ap (λ (a : App). a.top) c.in_ok-replay.ensures.0))
-    c.subcommand-3.ensures
+    let with_replay = c.in_ok-subcommand-3.ensures.shape c.in_ok-replay.ensures.1
+    ∙ ap₂ with_subcommand with_serve (ap (λ (a : App). a.top) c.in_ok-replay.ensures.0) in
+    let with_compact = c.in_ok-subcommand-4.ensures.shape c.in_ok-compact.ensures.1
+    ∙ ap₂ with_subcommand with_replay (ap (λ (a : App). a.top) c.in_ok-compact.ensures.0) in
+    IfOk-weaker c.subcommand-5.result _ _
+    (λ command added. added.shape c.in_ok-same.ensures.1 ∙ ap₂ with_subcommand with_compact (ap (λ (a : App). a.top) c.in_ok-same.ensures.0))
+    c.subcommand-5.ensures
