@@ -1,18 +1,22 @@
 /* calls.c: the calls that are answered at once. */
-#include "connection.h"
+#include "again.h"
 
 #include <errno.h>
 #include <limits.h>
 
-enum { LAST_MASK = 0777, SEM_VALUE_LAST = INT32_MAX };
+enum { LAST_MASK = 0777, SEM_VALUE_LAST = INT32_MAX, ABSENT = 13 };
 
 /* ---- Opens ---- */
 
-static int ask_open(struct mqs *c, struct request *r, uint64_t *description)
+static int ask_open(struct mqs *c, const struct request *r, struct opened *o, uint64_t *description)
 {
     struct answer a;
-    if (mqsi_ask(c, r, &a, OPENED) < 0) return -1;
-    *description = mqsi_get(a.fields, 8);
+    if (c->again && !o) return -1;
+    if (mqsi_ask(c, r, &a, OPENED) < 0) {
+        mqsi_free_opened(o);
+        return -1;
+    }
+    *description = mqsi_keep_opened(c, o, mqsi_get(a.fields, 8));
     return 0;
 }
 
@@ -37,7 +41,7 @@ int mqs_mq_open(struct mqs *c, const char *name, int access, int flags, unsigned
         mqsi_put(&r, given->messages, 4);
         mqsi_put(&r, given->message_size, 4);
     }
-    return ask_open(c, &r, description);
+    return ask_open(c, &r, mqsi_new_opened(c, MQS_QUEUES, name, access, flags), description);
 }
 
 int mqs_sem_open(struct mqs *c, const char *name, int flags, unsigned mode, uint32_t value, uint64_t *description)
@@ -48,15 +52,20 @@ int mqs_sem_open(struct mqs *c, const char *name, int flags, unsigned mode, uint
     mqsi_put(&r, (uint64_t)flags, 1);
     mqsi_put(&r, mode, 2);
     mqsi_put(&r, value, 4);
-    return ask_open(c, &r, description);
+    return ask_open(c, &r, mqsi_new_opened(c, MQS_SEMAPHORES, name, 0, 0), description);
 }
 
 /* ---- By name, and by description ---- */
 
-static int ask_by_name(struct mqs *c, enum request_op op, const char *name)
+/* If an earlier try may have been done, a name that is gone was removed by it. */
+static int unlink_name(struct mqs *c, enum request_op op, int family, const char *name)
 {
     struct request r;
-    return start_open(c, &r, op, name) < 0 ? -1 : mqsi_ask_done(c, &r);
+    if (start_open(c, &r, op, name) < 0) return -1;
+    if (mqsi_ask_done(c, &r) < 0 && !(c->rule == ABSENT && c->again && c->again->is_unknown)) return -1;
+    c->rule = 0;
+    mqsi_mark_unlinked(c, family, name);
+    return 0;
 }
 
 static int ask_by_description(struct mqs *c, enum request_op op, uint64_t description)
@@ -65,25 +74,45 @@ static int ask_by_description(struct mqs *c, enum request_op op, uint64_t descri
     return mqsi_ask_done(c, &r);
 }
 
-int mqs_mq_unlink(struct mqs *c, const char *name) { return ask_by_name(c, MQ_UNLINK, name); }
-int mqs_sem_unlink(struct mqs *c, const char *name) { return ask_by_name(c, SEM_UNLINK, name); }
-int mqs_mq_close(struct mqs *c, uint64_t description) { return ask_by_description(c, MQ_CLOSE, description); }
-int mqs_sem_close(struct mqs *c, uint64_t description) { return ask_by_description(c, SEM_CLOSE, description); }
+/* What a lost session had open is closed. */
+static int close_object(struct mqs *c, enum request_op op, int family, uint64_t description)
+{
+    const struct opened *o = mqsi_opened(c, description);
+    struct answer a;
+    if (!o || o->family != family) return ask_by_description(c, op, description);
+    struct request r = mqsi_by_description(op, o->at);
+    c->rule = 0;
+    if (o->is_here && !c->lost && mqsi_ask_once(c, &r, &a, DONE) < 0 && !c->lost) return -1;
+    mqsi_forget_opened(c, description);
+    return 0;
+}
+
+int mqs_mq_unlink(struct mqs *c, const char *name) { return unlink_name(c, MQ_UNLINK, MQS_QUEUES, name); }
+int mqs_sem_unlink(struct mqs *c, const char *name) { return unlink_name(c, SEM_UNLINK, MQS_SEMAPHORES, name); }
+int mqs_mq_close(struct mqs *c, uint64_t description) { return close_object(c, MQ_CLOSE, MQS_QUEUES, description); }
+int mqs_sem_close(struct mqs *c, uint64_t description) { return close_object(c, SEM_CLOSE, MQS_SEMAPHORES, description); }
 int mqs_sem_post(struct mqs *c, uint64_t description) { return ask_by_description(c, SEM_POST, description); }
 int mqs_sem_trywait(struct mqs *c, uint64_t description) { return ask_by_description(c, SEM_TRYWAIT, description); }
 
 int mqs_mq_notify(struct mqs *c, uint64_t description, int on)
 {
     struct request r = mqsi_by_description(MQ_NOTIFY, description);
+    struct opened *o = mqsi_opened(c, description);
+    int result;
     mqsi_put(&r, on != 0, 1);
-    return mqsi_ask_done(c, &r);
+    do result = mqsi_ask_done(c, &r);
+    while (result < 0 && mqsi_outlives(c));
+    if (result == 0 && o) o->is_registered = on != 0;
+    return result;
 }
 
 int mqs_mq_give(struct mqs *c, uint64_t description, uint64_t session)
 {
     struct request r = mqsi_by_description(MQ_GIVE, description);
     mqsi_put(&r, session, 8);
-    return mqsi_ask_done(c, &r);
+    if (mqsi_ask_done(c, &r) < 0) return -1;
+    mqsi_forget_opened(c, description);
+    return 0;
 }
 
 static int ask_attributes(struct mqs *c, struct request *r, struct mqs_state *state)
@@ -106,8 +135,11 @@ int mqs_mq_getattr(struct mqs *c, uint64_t description, struct mqs_state *state)
 int mqs_mq_setattr(struct mqs *c, uint64_t description, int nonblock, struct mqs_state *old)
 {
     struct request r = mqsi_by_description(MQ_SETATTR, description);
+    struct opened *o = mqsi_opened(c, description);
     mqsi_put(&r, nonblock != 0, 1);
-    return ask_attributes(c, &r, old);
+    if (ask_attributes(c, &r, old) < 0) return -1;
+    if (o) o->flags = nonblock ? MQS_NONBLOCK : 0;
+    return 0;
 }
 
 int mqs_sem_getvalue(struct mqs *c, uint64_t description, uint32_t *value)
@@ -130,7 +162,9 @@ int mqs_umask(struct mqs *c, unsigned mask)
     mqsi_put(&r, mask, 2);
     if (mqsi_ask(c, &r, &a, MASK) < 0) return -1;
     int old = (int)mqsi_get(a.fields, 2);
-    return old > LAST_MASK ? mqsi_lose(c, EPROTO) : old;
+    if (old > LAST_MASK) return mqsi_lose(c, EPROTO);
+    c->mask = (int)(mask & LAST_MASK);
+    return old;
 }
 
 static int put_target(struct mqs *c, struct request *r, int family, const char *name)

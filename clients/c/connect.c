@@ -1,5 +1,5 @@
 /* connect.c: how a connection begins and ends. */
-#include "connection.h"
+#include "again.h"
 
 #include <errno.h>
 #include <fcntl.h>
@@ -95,6 +95,15 @@ static void close_quietly(int fd)
     errno = error;
 }
 
+/* A connect to a port of this machine at which nobody listens may get that port for its own end, and is then connected to itself. */
+static int is_own_end(int fd)
+{
+    struct sockaddr_storage own = { 0 }, peer = { 0 };
+    socklen_t own_size = sizeof own, peer_size = sizeof peer;
+    if (getsockname(fd, (struct sockaddr *)&own, &own_size) < 0 || getpeername(fd, (struct sockaddr *)&peer, &peer_size) < 0) return 0;
+    return own_size == peer_size && !memcmp(&own, &peer, own_size);
+}
+
 /* Connects while the socket doesn't block, so that the bound holds, and then makes it block: a wait for an answer without
  * a moment is a recv, which a signal restarts or ends as its handler says. */
 static int connect_to(const struct addrinfo *one, int bound_ms, const struct timespec *end)
@@ -103,6 +112,7 @@ static int connect_to(const struct addrinfo *one, int bound_ms, const struct tim
     if (fd < 0) return -1;
     int r = connect(fd, one->ai_addr, one->ai_addrlen);
     if (r < 0 && (errno == EINPROGRESS || errno == EINTR)) r = await_connect(fd, bound_ms, end);
+    if (r == 0 && is_own_end(fd)) r = mqsi_fail(ECONNREFUSED);
     if (r == 0) r = fcntl(fd, F_SETFL, 0);
     if (r == 0) return fd;
     close_quietly(fd);
@@ -148,22 +158,61 @@ static int dial_path(const char *path, int bound_ms, struct timespec *end)
     return -1;
 }
 
+static int is_own_user(uid_t user) { return user == 0 || user == getuid() || user == geteuid(); }
+
+/* Whether the peer may have a key: a process of root's or the user's own, or of the socket's owner in a folder to which nobody else writes.
+ * In other folders any user may have put the socket there. */
+static int is_trusted(int fd, const char *path)
+{
+    struct ucred peer;
+    struct stat file, folder;
+    char place[sizeof ((struct sockaddr_un *)NULL)->sun_path];
+    socklen_t size = sizeof peer;
+    const char *slash = strrchr(path, '/');
+    if (getsockopt(fd, SOL_SOCKET, SO_PEERCRED, &peer, &size) < 0) return 0;
+    if (is_own_user(peer.uid)) return 1;
+    snprintf(place, sizeof place, "%.*s", slash == path ? 1 : slash ? (int)(slash - path) : 1, slash ? path : ".");
+    if (stat(path, &file) < 0 || stat(place, &folder) < 0) return 0;
+    return file.st_uid == peer.uid && !(folder.st_mode & (S_IWGRP | S_IWOTH));
+}
+
+static int dial_trusted(const char *path, int bound_ms, struct timespec *end)
+{
+    int fd = dial_path(path, bound_ms, end);
+    if (fd < 0 || is_trusted(fd, path)) return fd;
+    close(fd);
+    return mqsi_fail(EACCES);
+}
+
 static int dial_own(const char *place, int bound_ms, struct timespec *end)
 {
     char path[sizeof ((struct sockaddr_un *)NULL)->sun_path];
     return find_own(place, path, sizeof path) < 0 ? -1 : dial_path(path, bound_ms, end);
 }
 
-/* The bound begins behind the look-up of a name, and `end` is when it ends. */
+/* EINVAL is an open's word for a bad name of a queue. */
+static int error_of_look_up(int problem)
+{
+    switch (problem) {
+    case EAI_SYSTEM: return errno;
+    case EAI_MEMORY: return ENOMEM;
+    case EAI_AGAIN: return EAGAIN;
+    case EAI_SERVICE: return EINVAL;
+    default: return EHOSTUNREACH;
+    }
+}
+
+/* The bound begins after the look-up of a name, and `end` is when it ends. */
 static int dial(const char *address, int bound_ms, struct timespec *end)
 {
     struct place place;
     const char *own = behind_unix_user(address);
     if (own) return dial_own(own, bound_ms, end);
-    if (!strncmp(address, "unix:", 5)) return dial_path(address + 5, bound_ms, end);
+    if (!strncmp(address, "unix:", 5)) return dial_trusted(address + 5, bound_ms, end);
     if (split(address, &place) < 0) return -1;
     struct addrinfo hints = { .ai_socktype = SOCK_STREAM }, *all;
-    if (getaddrinfo(place.host, place.port, &hints, &all) != 0) return mqsi_fail(EINVAL);
+    int problem = getaddrinfo(place.host, place.port, &hints, &all);
+    if (problem) return mqsi_fail(error_of_look_up(problem));
     *end = end_of(bound_ms);
     int fd = -1;
     for (struct addrinfo *one = all; one && fd < 0; one = one->ai_next) fd = connect_to(one, bound_ms, end);
@@ -212,6 +261,17 @@ static void make_it_block(int fd)
     if (flags >= 0 && (flags & O_NONBLOCK)) fcntl(fd, F_SETFL, flags & ~O_NONBLOCK);
 }
 
+/* A server's machine that vanished is found while a call waits, as the server finds a client's: after two minutes. None of this succeeds
+ * if the socket isn't TCP, which is no matter. */
+static void probe(int fd)
+{
+    int on = 1, idle = 60, every = 10, times = 6;
+    setsockopt(fd, SOL_SOCKET, SO_KEEPALIVE, &on, sizeof on);
+    setsockopt(fd, IPPROTO_TCP, TCP_KEEPIDLE, &idle, sizeof idle);
+    setsockopt(fd, IPPROTO_TCP, TCP_KEEPINTVL, &every, sizeof every);
+    setsockopt(fd, IPPROTO_TCP, TCP_KEEPCNT, &times, sizeof times);
+}
+
 static struct mqs *attach(int fd, const char *key, int answer_ms, int hello_ms)
 {
     struct mqs *c = calloc(1, sizeof *c);
@@ -221,11 +281,13 @@ static struct mqs *attach(int fd, const char *key, int answer_ms, int hello_ms)
         return NULL;
     }
     c->fd = fd;
+    c->mask = -1;
     c->bound_ms = hello_ms;
     c->shares_clock = is_peer_here(fd);
     make_it_block(fd);
     int one = 1;
     setsockopt(fd, IPPROTO_TCP, TCP_NODELAY, &one, sizeof one);   /* fails where it isn't TCP, which is no matter */
+    probe(fd);
     if (start(c, key) == 0) {
         c->bound_ms = answer_ms;
         return c;
@@ -238,6 +300,17 @@ static struct mqs *attach(int fd, const char *key, int answer_ms, int hello_ms)
 
 struct mqs *mqs_attach(int fd, const char *key, int answer_ms) { return attach(fd, key, answer_ms, answer_ms); }
 
+/* What it takes to connect again. */
+static int keep_place(struct mqs *c, const char *address, const char *key)
+{
+    size_t size = strlen(address) + 1, key_size = key ? strlen(key) + 1 : 0;
+    c->address = malloc(size + key_size);
+    if (!c->address) return -1;
+    memcpy(c->address, address, size);
+    if (key) c->key = memcpy(c->address + size, key, key_size);
+    return 0;
+}
+
 struct mqs *mqs_connect(const char *address, const char *key, int answer_ms)
 {
     if (behind_unix_user(address)) key = NULL;
@@ -249,13 +322,18 @@ struct mqs *mqs_connect(const char *address, const char *key, int answer_ms)
     int fd = dial(address, answer_ms, &end);
     if (fd < 0) return NULL;
     int64_t left = answer_ms > 0 ? ms_left(&end) : 0;
-    return attach(fd, key, answer_ms, answer_ms > 0 && left <= 0 ? 1 : (int)left);
+    struct mqs *c = attach(fd, key, answer_ms, answer_ms > 0 && left <= 0 ? 1 : (int)left);
+    if (!c || keep_place(c, address, key) == 0) return c;
+    mqs_disconnect(c);
+    errno = ENOMEM;
+    return NULL;
 }
 
 void mqs_disconnect(struct mqs *c)
 {
     if (!c) return;
-    close(c->fd);
+    if (c->fd >= 0) close(c->fd);
+    mqsi_end_again(c);
     free(c->in);
     free(c);
 }
@@ -269,6 +347,7 @@ int mqs_move_fd(struct mqs *c, int least)
     return 0;
 }
 
+int mqs_version(void) { return MQS_VERSION_NUMBER; }
 int mqs_fd(const struct mqs *c) { return c->fd; }
 void mqs_set_bound(struct mqs *c, int answer_ms) { c->bound_ms = answer_ms; }
 uint64_t mqs_session(const struct mqs *c) { return c->session; }

@@ -1,5 +1,6 @@
 /* connection.c: frames out and in over one connection. Every length that the server sends is checked before it is used. */
-#include "connection.h"
+#include "again.h"
+#include "away.h"
 
 #include <errno.h>
 #include <limits.h>
@@ -26,7 +27,7 @@ int mqsi_lose(struct mqs *c, int error)
 
 /* ---- Time ---- */
 
-static int64_t now(void)
+deadline mqsi_now(void)
 {
     struct timespec t;
     clock_gettime(CLOCK_MONOTONIC, &t);
@@ -35,16 +36,17 @@ static int64_t now(void)
 
 deadline mqsi_deadline(const struct mqs *c)
 {
-    return c->bound_ms > 0 ? now() + c->bound_ms * INT64_C(1000000) : INT64_MAX;
+    return c->bound_ms > 0 ? mqsi_now() + c->bound_ms * INT64_C(1000000) : INT64_MAX;
 }
 
 /* Waits until the socket is ready, whatever signals come. */
 static int await(struct mqs *c, short events, deadline end)
 {
+    if (c->wait) return c->wait(c, events, end);
     for (;;) {
         int ms = -1;
         if (end != INT64_MAX) {
-            int64_t left = end - now();
+            int64_t left = end - mqsi_now();
             if (left <= 0) return mqsi_lose(c, ECONNABORTED);
             int64_t rounded = left / 1000000 + 1;
             ms = rounded > INT_MAX ? INT_MAX : (int)rounded;
@@ -84,6 +86,7 @@ struct request mqsi_request(enum request_op op)
 struct request mqsi_by_description(enum request_op op, uint64_t description)
 {
     struct request r = mqsi_request(op);
+    r.has_target = 1;
     mqsi_put(&r, description, 8);
     return r;
 }
@@ -115,6 +118,9 @@ static void advance(struct msghdr *message, size_t sent)
 int mqsi_write(struct mqs *c, struct request *r, deadline end)
 {
     if (c->lost) return mqsi_fail(c->lost);
+    c->op = r->head[4];
+    if (c->op != INTERRUPT) c->is_out = 0;
+    c->target = r->head_size >= HEAD + 8 ? mqsi_get(r->head + HEAD, 8) : 0;
     size_t around = r->head_size - 4 + r->tail_size;
     if (r->size > BODY_MAX - around) return mqsi_fail(EMSGSIZE);
     size_t body = around + r->size;
@@ -131,6 +137,7 @@ int mqsi_write(struct mqs *c, struct request *r, deadline end)
             if (await(c, POLLOUT, end) < 0) return -1;
         } else if (errno != EINTR) return mqsi_lose(c, ECONNRESET);
     }
+    c->is_out = 1;
     return 0;
 }
 
@@ -159,7 +166,7 @@ static int is_possible(const struct mqs *c, int op, size_t size)
 {
     if (op < STARTED || op > TAKEN) return 0;
     if (size < sizes[op - STARTED].least || size > sizes[op - STARTED].most) return 0;
-    return op != RECEIVED || (c->started == MQ_RECEIVE && size - 4 <= c->asked);
+    return op != RECEIVED || (c->started == MQ_RECEIVE && size - 4 <= c->asked) || mqsi_is_for_away(c, size - 4);
 }
 
 static size_t have(const struct mqs *c) { return c->to - c->from; }
@@ -175,7 +182,9 @@ static size_t frame_size(const struct mqs *c)
     return is_possible(c, head(c)[4], (size_t)body - 1) ? (size_t)body + 4 : 0;
 }
 
-static void keep_unasked(struct mqs *c, int what, uint64_t description)
+size_t mqsi_front_size(const struct mqs *c) { return frame_size(c); }
+
+void mqsi_keep_unasked(struct mqs *c, int what, uint64_t description)
 {
     if (c->count == UNASKED) {
         c->first = (c->first + 1) % UNASKED;
@@ -196,7 +205,7 @@ int mqsi_front(struct mqs *c)
         if (have(c) < size) return 0;
         int op = head(c)[4];
         if (op == NOTICE || op == TAKEN) {
-            keep_unasked(c, op, mqsi_get(head(c) + HEAD, 8));
+            mqsi_keep_unasked(c, op, mqsi_number_of(c, op, mqsi_get(head(c) + HEAD, 8)));
         } else if (c->stale == STALE_NEXT) {
             if (op != REFUSED || mqsi_get(head(c) + HEAD, 2) != NOT_IN_CALL) return mqsi_lose(c, EPROTO);
             c->stale = STALE_NONE;
@@ -232,6 +241,17 @@ static int make_room(struct mqs *c)
     if (c->to == capacity) capacity = 2 * capacity < want ? 2 * capacity : want;
     if (capacity == 0) capacity = FIRST_CAPACITY;
     return capacity == c->capacity || resize(c, capacity) == 0 ? 0 : mqsi_lose(c, ENOMEM);
+}
+
+/* Has a frame that was taken before stand in front again. */
+int mqsi_put_in_front(struct mqs *c, const uint8_t *frame, size_t size)
+{
+    move_to_front(c);
+    if (c->capacity - c->to < size && resize(c, c->to + size) < 0) return mqsi_lose(c, ENOMEM);
+    if (c->to > 0) memmove(c->in + size, c->in, c->to);
+    memcpy(c->in, frame, size);
+    c->to += size;
+    return 0;
 }
 
 /* Gives back the room of a big message that was taken. The next call doesn't, since that may be made by the handler of a signal. */
@@ -293,17 +313,17 @@ int mqsi_take(struct mqs *c, struct answer *a, enum answer_op op)
     return a->op == (int)op ? 0 : mqsi_lose(c, EPROTO);
 }
 
-int mqsi_ask(struct mqs *c, struct request *r, struct answer *a, enum answer_op op)
+int mqsi_ask_once(struct mqs *c, struct request *r, struct answer *a, enum answer_op op)
 {
     c->rule = 0;
     if (c->lost) return mqsi_fail(c->lost);
-    if (c->started) return mqsi_fail(EBUSY);
+    if (c->started || c->away) return mqsi_fail(EBUSY);
     deadline end = mqsi_deadline(c);
     if (mqsi_write(c, r, end) < 0 || mqsi_await_front(c, end) < 0) return -1;
     return mqsi_take(c, a, op);
 }
 
-int mqsi_ask_done(struct mqs *c, struct request *r)
+int mqsi_ask_done(struct mqs *c, const struct request *r)
 {
     struct answer a;
     return mqsi_ask(c, r, &a, DONE);
@@ -321,10 +341,10 @@ int mqs_next_unasked(struct mqs *c, int *what, uint64_t *description)
 {
     if (c->count == 0 && !c->lost) {
         int there = mqsi_front(c);
-        if (c->count == 0 && there == 0 && mqsi_fill(c) == 1) there = mqsi_front(c);
-        if (there < 0 && c->count == 0) return -1;
+        if (c->count == 0 && there == 0 && mqsi_fill(c) == 1) mqsi_front(c);
     }
-    if (c->count == 0) return c->lost ? mqsi_fail(c->lost) : 0;
+    if (c->count == 0 && c->lost && mqsi_renew(c) < 0) return -1;
+    if (c->count == 0) return 0;
     *what = c->unasked[c->first].what;
     *description = c->unasked[c->first].description;
     c->first = (c->first + 1) % UNASKED;

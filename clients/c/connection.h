@@ -30,10 +30,26 @@ enum { NOT_IN_CALL = 3, BAD_KEY = 31, TIMED_OUT = 32, LAST_RULE = 33 };
 /* The refusal of an Interrupt that came too late stands behind the answer of the call. */
 enum stale { STALE_NONE, STALE_NEXT, STALE_SECOND };
 
+struct away;
+struct again;
+
+/* A moment of CLOCK_MONOTONIC in nanoseconds; INT64_MAX is none. */
+typedef int64_t deadline;
+
 struct mqs {
-    int fd, lost, rule, bound_ms;
+    int fd, lost, rule, bound_ms;   /* fd: -1 where the program closed the socket */
     enum stale stale;
+    int is_stopped;             /* an Interrupt was answered, and the answer to the call is to come */
+    int (*wait)(struct mqs *c, short events, deadline end);   /* in place of the library's own wait, or NULL */
+    struct away *away;          /* a call whose thread doesn't wait just now: its answer comes before all others */
+    int is_checked;             /* a message is copied so that a bad buffer is EFAULT */
+    int op;                     /* the opcode of the newest request, and its description if it has one */
+    uint64_t target;
+    int is_out;                 /* it left as a whole: the server may do it */
     uint64_t session;
+    int mask;                   /* that the program has set, or -1 */
+    char *address, *key;        /* of mqs_connect, else NULL; the key may be NULL too */
+    struct again *again;        /* NULL: a loss is final */
     int shares_clock;           /* the server's clock is this machine's: it ends calls at their moments */
     int started;                /* the opcode without a moment of the call that was started and isn't finished, or 0 */
     int is_timed;               /* the server has that call's moment */
@@ -48,13 +64,11 @@ struct mqs {
 struct answer { int op; const uint8_t *fields; size_t size; };
 
 /* A request: numbers, bytes that the caller keeps, and numbers behind them. */
-struct request { uint8_t head[40], tail[40]; size_t head_size, tail_size, size; const void *data; };
-
-/* A moment of CLOCK_MONOTONIC in nanoseconds; INT64_MAX is none. */
-typedef int64_t deadline;
+struct request { uint8_t head[40], tail[40]; size_t head_size, tail_size, size; const void *data; int has_target; };
 
 int mqsi_fail(int error);
 int mqsi_lose(struct mqs *c, int error);
+deadline mqsi_now(void);
 deadline mqsi_deadline(const struct mqs *c);
 
 struct request mqsi_request(enum request_op op);
@@ -70,11 +84,15 @@ uint64_t mqsi_milliseconds(const struct timespec *until);
 
 int mqsi_write(struct mqs *c, struct request *r, deadline end);
 int mqsi_front(struct mqs *c);
+size_t mqsi_front_size(const struct mqs *c);
+int mqsi_put_in_front(struct mqs *c, const uint8_t *frame, size_t size);
 int mqsi_fill(struct mqs *c);
 int mqsi_await_front(struct mqs *c, deadline end);
 void mqsi_give_back_room(struct mqs *c);
 int mqsi_take(struct mqs *c, struct answer *a, enum answer_op op);
-int mqsi_ask(struct mqs *c, struct request *r, struct answer *a, enum answer_op op);
-int mqsi_ask_done(struct mqs *c, struct request *r);
+void mqsi_keep_unasked(struct mqs *c, int what, uint64_t description);
+int mqsi_ask_once(struct mqs *c, struct request *r, struct answer *a, enum answer_op op);
+int mqsi_ask(struct mqs *c, const struct request *r, struct answer *a, enum answer_op op);
+int mqsi_ask_done(struct mqs *c, const struct request *r);
 
 #endif

@@ -1,5 +1,5 @@
-/* jobs.c: jobs that come again, over the calls of mqserve.h alone. The protocol is that of python/mqserve_jobs.py; what of it
- * keeps a job from being lost is said in ../README.md.
+/* jobs.c: jobs that come again, over the calls of mqserve.h alone. The protocol is that of python/mqserve/jobs.py; what of it
+ * keeps a job from being lost is said in docs/dev/clients.md.
  *
  * A job's queue has a mode: PUTTING, that nobody can take it yet; READY, that it is a job; DEAD, that its tries are used up. Workers want
  * both rights, so they can open it where it is READY alone. Its registration is the lock: whoever publishes, takes, removes or
@@ -259,6 +259,7 @@ struct mqs_jobs *mqs_jobs_open(struct mqs *c, const char *name, unsigned tries, 
     }
     struct mqs_jobs *pool = calloc(1, sizeof *pool);
     if (!pool) return NULL;
+    mqs_set_reconnect(c, 0);    /* claims end with the session, and have to be seen to */
     pool->c = c;
     pool->tries = tries;
     pool->look_ms = look_ms;

@@ -1,14 +1,15 @@
 /* mqserve.h: calls to an mqserve server over one connection. A connection is one session of the server.
  *
  * Errors. A call that fails returns -1 (mqs_connect and mqs_attach: NULL) and sets errno. mqs_rule() then tells the number of
- * the rule that refused it, and 0 where it wasn't the server that refused. docs/MAP.md has the table of rules; mqs_errno() is
+ * the rule that refused it, and 0 where it wasn't the server that refused. mqserve-rules(7) says how to fix each; mqs_errno() is
  * the error of a rule. Each call names the rules that it can meet. Besides, any call can fail with
  *     ECONNRESET    the server ended the connection, or it broke
  *     ECONNABORTED  the server didn't take the request, or didn't answer it, within the connection's bound
  *     EPROTO        what came is no answer to this call
  *     ENOMEM        no memory for the answer
  *     EBUSY         (rule 0) a call was started and isn't finished
- * The first four lose the connection: each later call on it fails with the same error. Rules 1 and 2 don't come.
+ * The first four lose the connection: each later call on it fails with the same error, unless mqs_set_reconnect was called. Rules 1 and 2
+ * don't come.
  *
  * Ends. A call that doesn't block ends within the connection's bound. A call that blocks ends when it is served, by its moment
  * or by a signal; the server decides which came first, so a call that fails had no effect. Where a signal ends it, or this side's clock
@@ -23,6 +24,24 @@
  *
  * Units. `until` is a moment of CLOCK_REALTIME, or NULL for no end. Bounds are in milliseconds; 0 is no bound. Sizes are in bytes.
  * A description is the number that an open gave. It belongs to the session that opened it.
+ *
+ * After a restart. A server with a trail file still has all objects with names. Once mqs_set_reconnect was called, the connection goes on
+ * there: descriptions and the socket's number stay. Calls look for the end of the stream before they write, and connect again.
+ * - What never left is sent over the new connection. So is what does no harm twice, although it may have been done: opens without
+ *   MQS_EXCLUSIVE, closes, unlinks (a name that is gone then counts as removed), mqs_mq_notify, and all that reads or sets modes, owners,
+ *   masks, limits and attributes.
+ * - mqs_mq_receive is made again too, and mqs_receives_repeated counts it: each time one message may be lost, and none comes twice.
+ * - mqs_mq_send, mqs_sem_post, mqs_sem_wait, mqs_sem_trywait, mqs_mq_give, opens with MQS_EXCLUSIVE, and calls in parts whose start
+ *   succeeded fail once with ECONNABORTED: it is unknown whether they were done. A call in parts is over then; for a receive, a message may
+ *   be lost. The description stays usable.
+ * - A call that can't connect in time fails with ECONNRESET (had it perhaps been done, with ECONNABORTED), and a later call tries again. It
+ *   fails with mqs_connect's error if that is none that passes, as EACCES. A call with a moment ends two seconds after it at most. While it
+ *   connects, any handler of a signal ends a call that blocks.
+ * - A description comes back by its name when it is next used. If the name is gone, it fails with ENOENT for good. If this program unlinked
+ *   the name, or another session gave the description, it fails with ECONNRESET for good. If another program has made the name again, it is
+ *   that object's.
+ * - A registration is gone, and gives a last MQS_NOTICE: look at the queue, as after each notice, and register again. Rule 28 is waited out
+ *   for as long as calls go on, since the session before may live on for a while.
  *
  * Threads. A connection is for one thread at a time. Different connections are independent of each other. The library keeps
  * nothing besides them, starts no thread, and changes no signal's handling. After fork one process alone may use a connection;
@@ -41,6 +60,7 @@ extern "C" {
 #pragma GCC visibility push(default)
 
 #define MQS_VERSION "0.1.0"
+#define MQS_VERSION_NUMBER 100   /* 10,000 times the first number, 100 times the second, and the third */
 
 struct mqs;
 
@@ -51,10 +71,13 @@ struct mqs;
  * server that listens at unix-users:DIR: PATH is the socket, or the folder in which it has the user's name (getpwuid of getuid). Who can
  * open it is its user: `key` isn't used there, and may be NULL. `answer_ms` is the connection's bound, and that of this call but for
  * the look-up of a name.
- * Errors: EINVAL (address, a key of more than 65,535 bytes, or none where one is wanted), connect's (ECONNREFUSED also where PATH isn't
- * there; EACCES also where the socket is another user's), ENXIO (PATH is a folder, and the process's user has no passwd entry),
- * EACCES (rule 31: no user has the key),
- * ETIMEDOUT (no answer to the hello: all workers of the server are busy, or this is no server). */
+ * Errors: EINVAL (address, a key of more than 65,535 bytes, or none where one is wanted), EHOSTUNREACH (HOST has no address), EAGAIN (it
+ * can't be looked up just now), connect's (ECONNREFUSED also where PATH isn't there; EACCES also where the socket is another user's),
+ * ENXIO (PATH is a folder, and the process's user has no passwd entry), EACCES (rule 31: no user has the key), ETIMEDOUT (no answer to
+ * the hello: all workers of the server are busy, or this is no server).
+ * At unix:PATH the key is told to a process of root's or of this user, and to one of the socket's owner in a folder to which nobody else can
+ * write; else EACCES: any user may have put the socket there. A TCP connection is probed while the server says nothing, and ends with
+ * ECONNRESET two minutes after its machine vanished. */
 struct mqs *mqs_connect(const char *address, const char *key, int answer_ms);
 
 /* The same over a connected stream socket, which then belongs to the connection, and loses O_NONBLOCK; where the call fails it is closed.
@@ -64,7 +87,22 @@ struct mqs *mqs_attach(int fd, const char *key, int answer_ms);
 /* Ends the session: the server withdraws its call that blocks and closes all that it had open. NULL does nothing. */
 void mqs_disconnect(struct mqs *c);
 
-/* The socket, for poll: readable when an answer or something unasked may be there. Only for waiting. */
+/* For how many seconds a call goes on after a loss; 0, as at first: it doesn't. Call it before the opens, since what is open already doesn't
+ * come back. Errors: EINVAL (seconds isn't from 0 to 1e9; a connection of mqs_attach), ENOMEM. */
+int mqs_set_reconnect(struct mqs *c, double seconds);
+
+/* How often a receive was made again that may have been done. */
+unsigned long mqs_receives_repeated(const struct mqs *c);
+
+/* The socket, for poll alone. It is readable when more has come. A notice that came along with an answer isn't on it any more: no poll wakes.
+ * So call mqs_next_unasked until it gives 0 before each poll:
+ *     for (;;) {
+ *         while ((r = mqs_next_unasked(c, &what, &description)) == 1) handle(what, description);
+ *         if (r < 0) break;
+ *         struct pollfd p = { mqs_fd(c), POLLIN, 0 };
+ *         poll(&p, 1, -1);
+ *     }
+ * After a restart the same number is the new socket's; an epoll set has to be told of it once more. */
 int mqs_fd(const struct mqs *c);
 
 /* Moves the socket to a number of at least `least`. Errors: EMFILE, EINVAL as fcntl(F_DUPFD_CLOEXEC). */
@@ -78,11 +116,14 @@ void mqs_set_bound(struct mqs *c, int answer_ms);
  * as through a tunnel, and 1 of another machine whose clock agrees with this one's. Counts for calls that begin later. */
 void mqs_set_shared_clock(struct mqs *c, int is_shared);
 
-/* The session's number, by which others give it descriptions. */
+/* The session's number, by which others give it descriptions. It is another one after a restart. */
 uint64_t mqs_session(const struct mqs *c);
 
-/* 0, or the error with which the connection was lost. */
+/* 0, or the error with which the connection was lost, until it is there again. */
 int mqs_lost(const struct mqs *c);
+
+/* The MQS_VERSION_NUMBER of the library that runs, which may be later than that of the header. */
+int mqs_version(void);
 
 /* The rule that refused the last call on this connection, or 0. */
 int mqs_rule(const struct mqs *c);
@@ -165,7 +206,7 @@ int mqs_list(struct mqs *c, int family, uint32_t start, int (*each)(const char *
 int mqs_set_limit(struct mqs *c, uint32_t user, uint64_t bytes);
 
 /* One page of at most 1,000 records of the trail from place `start`, as mqs_list. session is UINT64_MAX for a hello, call
- * the number of docs/FRAMES.md, rule 0 where accepted. Rule 6. */
+ * the number of docs/ref/protocol.md, rule 0 where accepted. Rule 6. */
 int mqs_audit(struct mqs *c, uint64_t start, int (*each)(const struct mqs_record *record, void *arg), void *arg);
 
 /* ---- What comes unasked ---- */
@@ -173,7 +214,8 @@ int mqs_audit(struct mqs *c, uint64_t start, int (*each)(const struct mqs_record
 enum mqs_unasked { MQS_NOTICE = 78, MQS_TAKEN = 79 };
 
 /* The oldest thing that came unasked: 1 with *what, MQS_NOTICE (a message came to the empty queue) or MQS_TAKEN (another
- * session gave this description), and its description. 0 where there is none; doesn't wait. The newest 1,024 are kept. */
+ * session gave this description), and its description. 0 where there is none; doesn't wait, but to connect again where that is set. The
+ * newest 1,024 are kept. */
 int mqs_next_unasked(struct mqs *c, int *what, uint64_t *description);
 
 /* ---- Calls that block, in parts ----

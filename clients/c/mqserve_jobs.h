@@ -4,8 +4,9 @@
  * A job is a queue of its own, /POOL.job-<16 hexadecimal digits>, from the moment in which it is put until it is done: no process has
  * to live for it. A worker claims it by the queue's registration (mqs_mq_notify), which the server ends with the session. So nobody
  * has to be told that a worker died: its job is free, and who looks next claims it. Each try takes one copy of the data; a job
- * that kills its workers is dead once its tries are used up, and waits for mqs_jobs_bury or mqs_jobs_revive. clients/README.md says
- * why none is lost, and what a job costs. mqserve_jobs.py has the same names and formats: workers in C and Python share a pool.
+ * that kills its workers is dead once its tries are used up, and waits for mqs_jobs_bury or mqs_jobs_revive. docs/dev/clients.md
+ * says why none is lost, and docs/use/jobs.md what a job costs. The Python module mqserve.jobs has the same names and formats: workers in C and
+ * Python share a pool.
  *
  * What isn't promised: that a job is done once only, nor any order. A worker that hangs keeps its job, as one that is stopped: kill
  * it. A child of fork that keeps the connection's socket open keeps its claims: let it call mqs_disconnect, or exec. Over TCP the
@@ -18,7 +19,8 @@
  * their work goes on. A pool can't be used any more then: close it, connect anew and open it again.
  *
  * Connections. A pool is for one thread at a time, as its connection. Give it one of its own: notices for queues of the pool come on
- * it (mqs_next_unasked), which mean nothing. Its mask must leave 0600, as the first mask does. */
+ * it (mqs_next_unasked), which mean nothing. Its mask must leave 0600, as the first mask does. mqs_jobs_open sets mqs_set_reconnect to 0;
+ * leave it so: a claim that ended unseen could lose a job. */
 #ifndef MQSERVE_JOBS_H
 #define MQSERVE_JOBS_H
 

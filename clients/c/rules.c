@@ -1,4 +1,4 @@
-/* rules.c: the errors and names of the rules, by the table of docs/MAP.md. */
+/* rules.c: the errors and names of the rules, by the table of docs/use/rules.md. */
 #include "connection.h"
 
 #include <errno.h>

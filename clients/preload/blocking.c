@@ -3,10 +3,8 @@
 #include "preload.h"
 
 #include <errno.h>
-#include <sys/timerfd.h>
-#include <unistd.h>
 
-enum { WOULD_BLOCK = 29, FIRST_PAUSE_NS = 1000000, LAST_PAUSE_NS = 64000000 };
+enum { WOULD_BLOCK = 29, FIRST_PAUSE_NS = 1000000, LAST_PAUSE_NS = 64000000, GRACE_NS = 100000000, LATE_S = 2 };
 
 /* ---- On home ---- */
 
@@ -34,111 +32,81 @@ static void take_own_notice(struct mqs *c, uint64_t description)
 static ssize_t attempt(struct job *j, int *would_block)
 {
     *would_block = 0;
-    if (bring(j->object, HOME) < 0) return -1;
+    if (bring(j->object, HOME) < 0) {
+        innermost()->tries.loss = loss_at(HOME);
+        return -1;
+    }
     struct mqs *c = sides[HOME].connection;
     uint64_t description = j->object->at[HOME];
     ssize_t r = -1;
     if (j->operation == WAITS) r = mqs_sem_trywait(c, description);
     else if (start(c, description, j, NULL) == 0 && mqs_wait_bound(c) == 0) r = finish(c, j);
     int error = errno;
-    *would_block = r < 0 && mqs_rule(c) == WOULD_BLOCK;
+    if (r < 0) innermost()->tries.loss = loss_at(HOME);
+    *would_block = r < 0 && error == EAGAIN && mqs_rule(c) == WOULD_BLOCK;
     if (registrations && j->operation == SENDS && r == 0) take_own_notice(c, description);
     errno = error;
     return r;
 }
 
-/* ---- Cancellation ---- */
-
-struct blocked { struct job *job; int side, timer, has_keeper; };   /* a keeper: the thread of deadlines.c */
-
-/* Ends a call on a side whose wait is over. 1: it is withdrawn, and *why says why. 0: its answer is there. -1. */
-static int settle(struct blocked *b, int has_answer, int *why)
-{
-    struct mqs *c = sides[b->side].connection;
-    int is_asked = b->has_keeper && drop_deadline(b->side);
-    if (has_answer && !is_asked) return 0;
-    if (mqs_lost(c)) return fail(mqs_lost(c));
-    if (!is_asked) return mqs_stop(c);
-    *why = ETIMEDOUT;
-    return mqs_finish_stop(c);
-}
-
-/* A message is sent by home's description, or where that is for receives alone by one that is opened for it. */
-static void send_back(struct mqs *c, const struct job *j, ssize_t size)
-{
-    struct object *o = j->object;
-    uint64_t description = o->at[HOME];
-    int may_send = o->access & MQS_WRITE;
-    if (!may_send && (o->gone || mqs_mq_open(c, o->name, MQS_WRITE, MQS_NONBLOCK, 0, NULL, &description) < 0)) return;
-    if (mqs_start_send(c, description, j->data, (size_t)size, j->priority) == 0 && mqs_wait_bound(c) == 0) mqs_finish(c);
-    if (!may_send) mqs_mq_close(c, description);
-}
-
-/* What a call took in the moment in which it was cancelled is put back, a message behind others of its priority. */
-static void put_back(const struct job *j, ssize_t size)
-{
-    if (j->operation == SENDS || bring(j->object, HOME) < 0) return;
-    struct mqs *c = sides[HOME].connection;
-    if (j->operation == WAITS) mqs_sem_post(c, j->object->at[HOME]);
-    else send_back(c, j, size);
-}
-
-static void on_cancel(void *arg)
-{
-    struct blocked *b = arg;
-    struct entry e;
-    hold(&e);
-    if (b->side != HOME) {
-        int why;
-        if (settle(b, 0, &why) == 0) {
-            ssize_t size = finish(sides[b->side].connection, b->job);
-            if (size >= 0) put_back(b->job, size);
-        }
-        free_side(b->side);
-    }
-    if (b->timer >= 0) close(b->timer);
-    b->job->object->calls--;
-    drop(b->job->object);
-    leave(&e);
-}
-
 /* ---- On a side ---- */
 
-static int wait_open_to_signals(struct blocked *b, const struct timespec *until, const struct entry *e)
+/* Ends the call after its wait. 1: it is withdrawn. 0: its answer is there. -1: errno says why. If the server says nothing, the call is
+ * left. */
+static int settle(const struct blocked *b, int why, struct entry *e)
 {
-    int r, error;
     struct mqs *c = sides[b->side].connection;
-    pthread_cleanup_push(on_cancel, b);
-    let_signals_in(e);
-    r = mqsi_wait_timed(c, until);
-    error = errno;
-    keep_signals_out();
-    pthread_cleanup_pop(0);
-    errno = error;
-    return r;
+    deadline end = e->end;
+    if (mqs_lost(c)) return fail(mqs_lost(c));
+    e->end = mqsi_now() + GRACE_NS;
+    int r = mqs_stop(c);
+    e->end = end;
+    e->tries.is_over = mqs_lost(c) && why == EINTR;
+    if (r >= 0 || mqs_lost(c)) return r;
+    lock_state(e);
+    leave_side(b->side, b->job->object, b->job->operation);
+    unlock_state(e);
+    e->has_left_side = 1;
+    return fail(why);
 }
 
-/* The lock isn't held: the side is this call's alone. A queue's call waits without an end, so that it goes on after a signal as its handler
- * says: at its moment the server answers it, or a thread interrupts it where the server doesn't have the moment. A signal ends a wait of a
- * semaphore with a moment whatever its handler says, as it does on Linux; and a queue's call where no such thread can be had. */
-static ssize_t block_once(struct job *j, int side, const struct timespec *until, const struct entry *e)
+/* As on Linux, any handler ends a semaphore's wait with a moment, and a handler without SA_RESTART ends other calls. A server that has the
+ * moment is given two seconds more. If it is later than that, its clock is another, or it stands still. */
+static int wait_for_end(const struct blocked *b, const struct timespec *until, struct entry *e)
+{
+    struct mqs *c = sides[b->side].connection;
+    struct timespec last;
+    int restarts = !until || b->job->operation != WAITS;
+    if (wait_on_side(b->side, CLOCK_REALTIME, until, e, restarts) == 0) return 0;
+    if (errno != ETIMEDOUT || !mqsi_is_timed(c)) return -1;
+    clock_gettime(CLOCK_MONOTONIC, &last);
+    last.tv_sec += LATE_S;
+    if (wait_on_side(b->side, CLOCK_MONOTONIC, &last, e, restarts) == 0) return 0;
+    if (errno == ETIMEDOUT) mqs_set_shared_clock(c, 0);
+    return -1;
+}
+
+/* The lock isn't held: the side is this call's alone. */
+static ssize_t block_once(struct job *j, int side, const struct timespec *until, struct entry *e)
 {
     struct mqs *c = sides[side].connection;
-    struct blocked b = { .job = j, .side = side, .timer = -1 };
-    if (start(c, j->object->at[side], j, until) < 0) return -1;
-    int is_endless = until && j->operation != WAITS;
-    if (is_endless && !mqsi_is_timed(c)) is_endless = b.has_keeper = keep_deadline(side, until) == 0;
-    int has_answer = wait_open_to_signals(&b, is_endless ? NULL : until, e) == 0, why = errno;
-    int withdrawn = settle(&b, has_answer, &why);
-    if (withdrawn != 0) return withdrawn > 0 ? fail(why) : -1;
-    return finish(c, j);
+    struct blocked b = { .job = j, .side = side };
+    e->blocked = &b;
+    int r = start(c, j->object->at[side], j, until);
+    if (r == 0 && wait_for_end(&b, until, e) < 0) {
+        int why = errno;
+        r = e->is_left || e->forks != forks ? fail(why) : settle(&b, why, e);
+        if (r > 0) errno = why;
+    }
+    e->blocked = NULL;
+    return r == 0 ? finish(c, j) : -1;
 }
 
-static ssize_t block_on_side(struct job *j, int side, const struct timespec *until, const struct entry *e)
+static ssize_t block_on_side(struct job *j, int side, const struct timespec *until, struct entry *e)
 {
     ssize_t r;
     do r = block_once(j, side, until, e);
-    while (r < 0 && mqsi_was_early(sides[side].connection, until));
+    while (r < 0 && !e->is_left && !e->has_left_side && e->forks == forks && mqsi_was_early(sides[side].connection, until));
     return r;
 }
 
@@ -156,42 +124,33 @@ static int is_over(const struct timespec *until, long *pause_ns)
     return left <= 0;
 }
 
-/* A read of a timer goes on after a signal as the call itself would, by its handler's SA_RESTART. */
-static int pause_open_to_signals(struct blocked *b, long pause_ns, const struct entry *e)
+/* Home is another's meanwhile. A call that may not end goes on whatever signals come. */
+int pause_apart(long pause_ns, struct entry *e, int restarts)
 {
-    struct itimerspec once = { { 0, 0 }, { 0, pause_ns } };
-    uint64_t times;
-    ssize_t r;
-    int error;
-    timerfd_settime(b->timer, 0, &once, NULL);
-    unlock_home();
-    pthread_cleanup_push(on_cancel, b);
-    let_signals_in(e);
-    r = read(b->timer, &times, sizeof times);
-    error = errno;
-    keep_signals_out();
-    pthread_cleanup_pop(0);
-    lock_home();
-    errno = error;
-    return r < 0 ? -1 : 0;
+    struct timespec pause = { 0, pause_ns };
+    if (e->has_home) release_home(e);
+    unlock_state(e);
+    int found = pause_open(&pause, e);
+    lock_state(e);
+    if (e->is_left || (e->may_end && ((found & ENDING) || (!restarts && (found & HANDLERS))))) return fail(EINTR);
+    if (e->forks != forks) return fail(ECONNRESET);
+    int r;
+    do r = take_home(e);
+    while (r < 0 && !e->may_end && !e->is_left && e->forks == forks);
+    return r;
 }
 
-static ssize_t ask_again(struct job *j, const struct timespec *until, const struct entry *e)
+static ssize_t ask_again(struct job *j, const struct timespec *until, struct entry *e)
 {
-    struct blocked b = { .job = j, .side = HOME, .timer = timerfd_create(CLOCK_MONOTONIC, TFD_CLOEXEC) };
-    if (b.timer < 0) return -1;
     ssize_t r;
-    int would_block = 1;
+    int would_block = 1, restarts = !until || j->operation != WAITS;
     for (long pause_ns = FIRST_PAUSE_NS; would_block; pause_ns = pause_ns < LAST_PAUSE_NS ? 2 * pause_ns : pause_ns) {
         long this_pause = pause_ns;
         if (is_over(until, &this_pause)) r = fail(ETIMEDOUT);
-        else r = pause_open_to_signals(&b, this_pause, e);
+        else r = pause_apart(this_pause, e, restarts);
         if (r < 0) break;
         r = attempt(j, &would_block);
     }
-    int error = errno;
-    close(b.timer);
-    errno = error;
     return r;
 }
 
@@ -225,16 +184,20 @@ static ssize_t block(struct job *j, int side, const struct timespec *until, stru
 {
     if (!side) return ask_again(j, until, e);
     sides[side].busy = 1;
-    unlock_home();
+    release_home(e);
+    unlock_state(e);
     ssize_t r = block_on_side(j, side, until, e);
     int error = errno;
-    lock_home();
-    free_side(side);
+    lock_state(e);
+    if (!e->is_left && !e->has_left_side && e->forks == forks) {
+        if (r < 0) e->tries.loss = loss_at(side);
+        free_side(side);
+    }
     errno = error;
     return r;
 }
 
-ssize_t perform(struct job *j, const struct timespec *until, struct entry *e)
+static ssize_t perform_once(struct job *j, const struct timespec *until, struct entry *e)
 {
     struct object *o = j->object;
     int would_block, side = side_at_once(j, until);
@@ -246,10 +209,28 @@ ssize_t perform(struct job *j, const struct timespec *until, struct entry *e)
         if (is_over(until, &any_pause)) return fail(ETIMEDOUT);
         side = side_for(o);
     }
-    o->references++;
-    o->calls++;
-    ssize_t r = block(j, side, until, e);
-    o->calls--;
-    drop(o);
+    return block(j, side, until, e);
+}
+
+static ssize_t make_tries(struct job *j, const struct timespec *until, struct entry *e)
+{
+    ssize_t r;
+    begin_tries(e, settings.reconnect);
+    e->tries.ends_by_handlers = until && j->operation == WAITS;
+    do {
+        e->tries.loss = NOT_LOST;
+        r = e->has_home || take_home(e) == 0 ? perform_once(j, until, e) : -1;
+    } while (r < 0 && goes_on(e, j->operation == RECEIVES ? COUNTED : UNSAFE));
+    return r;
+}
+
+/* The handler of a signal may have forked: the call begins anew in the child, whose sessions are others. */
+ssize_t perform(struct job *j, const struct timespec *until, struct entry *e)
+{
+    ssize_t r;
+    do {
+        e->forks = forks;
+        r = make_tries(j, until, e);
+    } while (r < 0 && e->forks != forks && !e->is_left && errno != EINTR);
     return r;
 }

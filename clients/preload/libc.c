@@ -1,4 +1,4 @@
-/* libc.c: finds the calls that these stand in front of. They serve unnamed semaphores, and all where MQSERVE isn't set. */
+/* libc.c: finds the calls that these stand in front of. They serve unnamed semaphores and files, and all where MQSERVE isn't set. */
 #include "preload.h"
 
 #include <dlfcn.h>
@@ -29,6 +29,16 @@ static void find(void)
     FIND(sem_timedwait);
     FIND(sem_clockwait);
     FIND(sem_getvalue);
+    FIND(poll);
+    FIND(ppoll);
+    FIND(__poll_chk);
+    FIND(__ppoll_chk);
+    FIND(select);
+    FIND(pselect);
+    FIND(epoll_ctl);
+    FIND(epoll_wait);
+    FIND(epoll_pwait);
+    FIND(epoll_pwait2);
 }
 
 /* They are found at the first call: a constructor of one of the program's libraries may call before this library's own runs. */

@@ -9,6 +9,8 @@
 #include <sys/stat.h>
 #include <unistd.h>
 
+enum { ABSENT = 13 };
+
 struct kept { struct kept *next; int family; pid_t process; char name[NAME_ROOM]; };
 static struct kept *kept;
 
@@ -49,21 +51,28 @@ static void mark_gone(struct object *o, void *none)
     o->gone |= o->unlinked;
 }
 
-void end_kept(int family, const char *name)
+/* -1: the server can't be told now, and is told later. The call before which it was to be told never left. */
+int end_kept(int family, const char *name)
 {
     struct kept **k = find_kept(family, name), *one = *k;
-    if (!one) return;
-    *k = one->next;
+    if (!one) return 0;
     if (one->process == getpid()) {
-        unlink_now(family, name);
+        if (unlink_now(family, name) < 0 && settings.reconnect && loss_at(HOME) != NOT_LOST) {
+            if (sides[HOME].connection) sides[HOME].connection->is_out = 0;
+            return -1;
+        }
         for_each_named(family, name, mark_gone, NULL);
     }
+    *k = one->next;
     free(one);
+    return 0;
 }
+
+int keeps_names(void) { return kept != NULL; }
 
 void end_all_kept(void)
 {
-    while (kept) end_kept(kept->family, kept->name);
+    while (kept && end_kept(kept->family, kept->name) == 0) {}
 }
 
 static void count_bound(struct object *o, void *count) { *(int *)count += !o->unlinked; }
@@ -74,15 +83,28 @@ static void mark(struct object *o, void *keeps)
     o->gone |= !*(int *)keeps;
 }
 
+struct unlinking { int family; const char *name; const struct tries *tries; };
+
+/* If an earlier try may have been done, a name that is gone was removed by it. */
+static int unlink_once(void *arg)
+{
+    const struct unlinking *u = arg;
+    if (unlink_now(u->family, u->name) == 0) return 0;
+    const struct mqs *c = sides[HOME].connection;
+    return u->tries->is_unknown && c && mqs_rule(c) == ABSENT ? 0 : -1;
+}
+
 int unlink_name(int family, const char *name)
 {
     struct entry e;
+    struct unlinking unlinking = { family, name, &e.tries };
     int bound = 0, r;
+    if (strlen(name) > NAME_LONGEST) return fail(ENAMETOOLONG);   /* a bad pointer faults here, before the lock */
     enter(&e);
     if (settings.keep_names) for_each_named(family, name, count_bound, &bound);
     int was_kept = is_kept(family, name), keeps = !was_kept && bound > 0 && keep(family, name) == 0;
     if (was_kept) r = fail(ENOENT);
-    else r = keeps ? 0 : unlink_now(family, name);
+    else r = keeps ? 0 : at_home(&e, SAFE, unlink_once, &unlinking);
     if (r == 0) for_each_named(family, name, mark, &keeps);
     leave(&e);
     return r;

@@ -8,12 +8,15 @@
 #include <poll.h>
 #include <stdlib.h>
 #include <string.h>
-#include <sys/eventfd.h>
+#include <sys/stat.h>
 #include <sys/syscall.h>
 #include <unistd.h>
 
+enum { WITHOUT_PIPE_MS = 100 };
+
 int registrations;
-static int listening, wake = -1;
+static int listening;
+static struct { int from, to; dev_t device; ino_t inode; } wake = { -1, -1, 0, 0 };   /* a pipe: its inode is no other file's */
 
 /* ---- Delivery ---- */
 
@@ -69,12 +72,20 @@ static void hand_on(int what, uint64_t description)
         }
 }
 
+/* The program learns from its next call that the registration ended with its connection. */
+void give_last_notice(struct object *o)
+{
+    if (o->registered) deliver(o);
+}
+
 void take_notices(void)
 {
     int what, error = errno;
     uint64_t description;
-    while (registrations && sides[HOME].connection && mqs_next_unasked(sides[HOME].connection, &what, &description) == 1)
-        hand_on(what, description);
+    struct mqs *c = sides[HOME].connection;
+    while (registrations && c && mqs_next_unasked(c, &what, &description) == 1) hand_on(what, description);
+    for (int i = 0; registrations && c && mqs_lost(c) && i < queues_top; i++)
+        if (queues[i]) give_last_notice(queues[i]);
     errno = error;
 }
 
@@ -136,18 +147,55 @@ static int home_fd(void)
     return registrations && c && !mqs_lost(c) ? mqs_fd(c) : -1;
 }
 
+/* Whether an end of the pipe is still there: a program may close all files from a number on. */
+static int is_wake(int fd)
+{
+    struct stat file;
+    return fd >= 0 && fstat(fd, &file) == 0 && file.st_dev == wake.device && file.st_ino == wake.inode;
+}
+
+static void close_wake(void)
+{
+    if (is_wake(wake.from)) close(wake.from);
+    if (is_wake(wake.to)) close(wake.to);
+    wake.from = wake.to = -1;
+}
+
+static int open_wake(void)
+{
+    int ends[2];
+    struct stat file;
+    if (pipe2(ends, O_CLOEXEC | O_NONBLOCK) < 0) return -1;
+    int from = fcntl(ends[0], F_DUPFD_CLOEXEC, FIRST_FD), to = fcntl(ends[1], F_DUPFD_CLOEXEC, FIRST_FD);
+    wake.from = from < 0 ? ends[0] : from;
+    wake.to = to < 0 ? ends[1] : to;
+    if (from >= 0) close(ends[0]);
+    if (to >= 0) close(ends[1]);
+    fstat(wake.from, &file);
+    wake.device = file.st_dev;
+    wake.inode = file.st_ino;
+    return 0;
+}
+
+static void wake_listener(void)
+{
+    char one = 1;
+    if (is_wake(wake.to) && write(wake.to, &one, 1) < 0) return;   /* it is full of such wishes */
+}
+
+/* Without its pipe the listener looks at home alone. */
 static void *listen_on(void *arg)
 {
     struct entry e;
-    uint64_t count;
+    char wishes[64];
     (void)arg;
     for (;;) {
-        hold(&e);
+        enter(&e);
         take_notices();
-        struct pollfd p[2] = { { wake, POLLIN, 0 }, { home_fd(), POLLIN, 0 } };
+        struct pollfd p[2] = { { is_wake(wake.from) ? wake.from : -1, POLLIN, 0 }, { home_fd(), POLLIN, 0 } };
         leave(&e);
-        poll(p, 2, -1);
-        if (p[0].revents && read(wake, &count, sizeof count) < 0) return NULL;
+        poll(p, 2, p[0].fd < 0 ? WITHOUT_PIPE_MS : -1);
+        if (p[0].revents && is_wake(p[0].fd) && read(p[0].fd, wishes, sizeof wishes) < 0 && errno != EAGAIN) return NULL;
     }
 }
 
@@ -155,24 +203,19 @@ static void *listen_on(void *arg)
  * handler of a signal may be in sem_post. */
 void pass_on_notices(void)
 {
-    uint64_t one = 1;
     struct mqs *c = sides[HOME].connection;
-    if (registrations && listening && c && mqsi_look(c) > 0 && write(wake, &one, sizeof one) < 0) return;
+    if (registrations && listening && c && mqsi_look(c) > 0) wake_listener();
 }
 
 /* Starts the listener, or has it look at home again. It inherits the mask, in which all signals are blocked. */
 int start_listening(void)
 {
     pthread_t thread;
-    uint64_t one = 1;
-    if (listening) return write(wake, &one, sizeof one) < 0 ? -1 : 0;
-    if (wake < 0) {
-        int fd = eventfd(0, EFD_CLOEXEC);
-        if (fd < 0) return -1;
-        wake = fcntl(fd, F_DUPFD_CLOEXEC, FIRST_FD);
-        if (wake < 0) wake = fd;
-        else close(fd);
+    if (listening) {
+        wake_listener();
+        return 0;
     }
+    if (wake.from < 0 && open_wake() < 0) return -1;
     int error = pthread_create(&thread, NULL, listen_on, NULL);
     if (error) return fail(error);
     pthread_detach(thread);
@@ -183,7 +226,6 @@ int start_listening(void)
 /* In a child of fork, which has no such thread. */
 void forget_listener(void)
 {
-    if (wake >= 0) close(wake);
-    wake = -1;
+    close_wake();
     listening = 0;
 }

@@ -1,18 +1,25 @@
-/* queues.c: <mqueue.h>. An mqd_t is the number of a file that is opened for it: no other file gets that number, it is closed on exec as an
- * mqd_t is, and its open file description has the queue's O_NONBLOCK, which the process's children share. */
-#include "preload.h"
+/* queues.c: <mqueue.h>. An mqd_t is the number of a file that is opened for it (readiness.c): no other file gets that number, it is closed
+ * on exec as an mqd_t is, and its open file description has the queue's O_NONBLOCK, which the process's children share. */
+#include "watch.h"
 
 #include <errno.h>
 #include <fcntl.h>
 #include <stdarg.h>
 #include <stdlib.h>
 #include <string.h>
-#include <sys/epoll.h>
+#include <sys/stat.h>
 #include <unistd.h>
 
 enum { PRIORITIES = 32768 };
 
-static struct object *queue_of(mqd_t fd) { return fd >= 0 && fd < QUEUES_MAX ? queues[fd] : NULL; }
+/* NULL also if the program has closed the number by close, and may have opened another file that has it now. */
+static struct object *queue_of(mqd_t fd)
+{
+    struct stat file;
+    struct object *o = fd >= 0 && fd < QUEUES_MAX ? queues[fd] : NULL;
+    if (!o || fstat(fd, &file) < 0) return NULL;
+    return file.st_dev == o->device && file.st_ino == o->inode ? o : NULL;
+}
 
 /* ---- O_NONBLOCK ---- */
 
@@ -39,22 +46,24 @@ static int access_of(int oflag)
 
 static uint32_t limited(long number) { return number < 0 || number > UINT32_MAX ? 0 : (uint32_t)number; }
 
+struct opening { struct object *o; const char *name; int oflag; unsigned mode; const struct mq_attr *attr; };
+
 /* Opens on home. The object is this process's afterwards. */
-static int open_on_home(struct object *o, const char *name, int oflag, unsigned mode, const struct mq_attr *attr)
+static int open_once(void *arg)
 {
+    const struct opening *given = arg;
     uint64_t description;
-    struct mqs_attributes given;
-    int is_creating = (oflag & O_CREAT) != 0, access = access_of(oflag);
-    struct mqs *c = home();
+    struct mqs_attributes attributes;
+    int is_creating = (given->oflag & O_CREAT) != 0, access = access_of(given->oflag), has_attributes = is_creating && given->attr;
+    struct mqs *c = home_for_open();
     if (!c) return -1;
-    if (is_creating) end_kept(MQS_QUEUES, name);
-    else if (is_kept(MQS_QUEUES, name)) return fail(ENOENT);
-    if (attr) given = (struct mqs_attributes){ limited(attr->mq_maxmsg), limited(attr->mq_msgsize) };
-    if (mqs_mq_open(c, name, access, open_flags(oflag) | MQS_NONBLOCK, is_creating ? mode_under_umask(mode) : 0,
-                    is_creating && attr ? &given : NULL, &description) < 0)
+    if (is_creating && end_kept(MQS_QUEUES, given->name) < 0) return -1;
+    if (!is_creating && is_kept(MQS_QUEUES, given->name)) return fail(ENOENT);
+    if (has_attributes) attributes = (struct mqs_attributes){ limited(given->attr->mq_maxmsg), limited(given->attr->mq_msgsize) };
+    if (mqs_mq_open(c, given->name, access, open_flags(given->oflag) | MQS_NONBLOCK, is_creating ? mode_under_umask(given->mode) : 0,
+                    has_attributes ? &attributes : NULL, &description) < 0)
         return -1;
-    set_up(o, MQS_QUEUES, name, access, description);
-    spread(o);
+    set_up(given->o, MQS_QUEUES, given->name, access, description);
     return 0;
 }
 
@@ -62,26 +71,43 @@ static int open_on_home(struct object *o, const char *name, int oflag, unsigned 
 static int new_number(int oflag)
 {
     int fd = epoll_create1(EPOLL_CLOEXEC);
+    if (fd >= 0) mark_number(fd);
     if (fd < 0 || set_nonblock(fd, oflag & O_NONBLOCK) == 0) return fd;
     close(fd);
     return -1;
 }
 
+static void number(struct object *o, int fd)
+{
+    struct stat file = { 0 };
+    fstat(fd, &file);
+    o->fd = fd;
+    o->device = file.st_dev;
+    o->inode = file.st_ino;
+}
+
 static mqd_t open_queue(const char *name, int oflag, unsigned mode, const struct mq_attr *attr)
 {
     struct entry e;
+    struct mq_attr wanted = { 0 };
     if ((oflag & O_ACCMODE) == O_ACCMODE) return fail(EINVAL);
+    if (attr) wanted = *attr;   /* a bad pointer faults here, before the lock */
+    if (strlen(name) > NAME_LONGEST) return fail(ENAMETOOLONG);
     int fd = new_number(oflag);
     if (fd < 0) return -1;
     enter(&e);
     struct object *o = fd < QUEUES_MAX ? malloc(sizeof *o) : NULL;
-    int r = o ? open_on_home(o, name, oflag, mode, attr) : fail(fd < QUEUES_MAX ? ENOMEM : EMFILE);
+    struct opening opening = { o, name, oflag, mode, attr ? &wanted : NULL };
+    int r = o ? open_at_home(&e, oflag, open_once, &opening) : fail(fd < QUEUES_MAX ? ENOMEM : EMFILE);
     if (r == 0) {
         struct object *stale = queues[fd];   /* its number was closed by close, and is free again */
-        o->fd = fd;
+        number(o, fd);
         queues[fd] = o;
         if (fd >= queues_top) queues_top = fd + 1;
         if (stale) drop(stale);
+        number_opened(fd);
+        pin(&e, o);
+        spread(o);
     } else {
         int error = errno;
         free(o);
@@ -124,14 +150,19 @@ PUBLIC int mq_close(mqd_t fd)
     if (!is_served()) return libc()->mq_close(fd);
     enter(&e);
     struct object *o = queue_of(fd);
-    int r = o ? 0 : fail(EBADF);
+    int r = o ? 0 : fail(EBADF), was_watched = 0;
     if (o) {
+        pin(&e, o);
         withdraw(o);   /* now, also where a call that blocks still has the object */
-        queues[fd] = NULL;
-        close(fd);
-        drop(o);
+        if (queues[fd] == o) {
+            queues[fd] = NULL;
+            was_watched = number_closed(fd);
+            close(fd);
+            drop(o);
+        }
     }
     leave(&e);
+    if (was_watched) await_watcher();
     return r;
 }
 
@@ -153,10 +184,13 @@ static ssize_t move_message(mqd_t fd, struct job *j, const struct timespec *unti
     struct entry e;
     pthread_testcancel();
     if (!is_moment(until) || j->priority >= PRIORITIES) return fail(EINVAL);
-    enter(&e);
+    if (enter_until(&e, until) < 0) return -1;
     j->object = queue_of(fd);
+    if (j->object) pin(&e, j->object);
     ssize_t r = j->object ? perform(j, until, &e) : fail(EBADF);
+    if (r >= 0) touch(j->object->name);
     leave(&e);
+    if (settings.poll == 1) look_after(fd);
     return r;
 }
 
@@ -198,30 +232,31 @@ PUBLIC ssize_t mq_receive(mqd_t fd, char *data, size_t size, unsigned *priority)
 
 /* ---- Attributes ---- */
 
-static int read_state(mqd_t fd, struct object **o, struct mqs_state *state)
+struct reading { struct object *o; struct mqs_state state; };
+
+static int read_state(void *arg)
 {
-    *o = queue_of(fd);
-    if (!*o) return fail(EBADF);
-    return bring(*o, HOME) < 0 ? -1 : mqs_mq_getattr(sides[HOME].connection, (*o)->at[HOME], state);
+    struct reading *to = arg;
+    return bring(to->o, HOME) < 0 ? -1 : mqs_mq_getattr(sides[HOME].connection, to->o->at[HOME], &to->state);
 }
 
 static int change_state(mqd_t fd, const struct mq_attr *new, struct mq_attr *old)
 {
     struct entry e;
-    struct mqs_state state;
-    struct object *o;
-    if (new && (new->mq_flags & ~(long)O_NONBLOCK)) return fail(EINVAL);
+    struct mq_attr found = { 0 };
+    long flags = new ? new->mq_flags : 0;
+    if (flags & ~(long)O_NONBLOCK) return fail(EINVAL);
     enter(&e);
-    int r = read_state(fd, &o, &state);
-    if (r == 0 && old) {
-        memset(old, 0, sizeof *old);
-        old->mq_flags = is_nonblock(o) ? O_NONBLOCK : 0;
-        old->mq_maxmsg = state.messages;
-        old->mq_msgsize = state.message_size;
-        old->mq_curmsgs = state.messages_now;
-    }
-    if (r == 0 && new) r = set_nonblock(fd, (new->mq_flags & O_NONBLOCK) != 0);
+    struct reading reading = { .o = queue_of(fd) };
+    if (reading.o) pin(&e, reading.o);
+    int r = reading.o ? at_home(&e, SAFE, read_state, &reading) : fail(EBADF);
+    if (r == 0) found.mq_flags = is_nonblock(reading.o) ? O_NONBLOCK : 0;
+    if (r == 0 && new) r = set_nonblock(fd, (flags & O_NONBLOCK) != 0);
     leave(&e);
+    found.mq_maxmsg = reading.state.messages;
+    found.mq_msgsize = reading.state.message_size;
+    found.mq_curmsgs = reading.state.messages_now;
+    if (r == 0 && old) *old = found;
     return r;
 }
 
@@ -260,18 +295,33 @@ static void withdraw_like(struct object *o, void *like)
     if (o->unlinked == ((struct object *)like)->unlinked) withdraw(o);
 }
 
+struct notifying { struct object *o; const struct sigevent *event; };
+
+/* Linux ends the process's registration, whichever of its descriptors made it. */
+static int notify_once(void *arg)
+{
+    const struct notifying *n = arg;
+    if (bring(n->o, HOME) < 0) return -1;
+    if (n->event) return register_for(n->o, n->event);
+    for_each_named(MQS_QUEUES, n->o->name, withdraw_like, n->o);
+    return 0;
+}
+
 PUBLIC int mq_notify(mqd_t fd, const struct sigevent *event)
 {
     struct entry e;
     if (!is_served()) return libc()->mq_notify(fd, event);
     if (!is_event(event)) return fail(EINVAL);
+    if (event) give_way(fd);
     enter(&e);
     struct object *o = queue_of(fd);
-    int r = o ? bring(o, HOME) : fail(EBADF);
-    if (r == 0 && event) r = register_for(o, event);
-    /* Linux ends the process's registration, whichever of its descriptors made it. */
-    else if (r == 0) for_each_named(MQS_QUEUES, o->name, withdraw_like, o);
+    struct notifying notifying = { o, event };
+    int r;
+    if (o) pin(&e, o);
+    do r = o ? at_home(&e, SAFE, notify_once, &notifying) : fail(EBADF);
+    while (r < 0 && o && outlives(&e));
     if (registrations) take_notices();
     leave(&e);
+    if (event) end_giving_way(fd);
     return r;
 }

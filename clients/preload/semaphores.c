@@ -36,9 +36,11 @@ static void find_bound(struct object *o, void *found)
 
 static struct object *empty_place(void)
 {
-    for (int i = 0; i < SEMAPHORES_MAX; i++)
-        if (!semaphores[i].references) return &semaphores[i];
-    return NULL;
+    int i = 0;
+    while (i < semaphores_top && semaphores[i].references) i++;
+    if (i == SEMAPHORES_MAX) return NULL;
+    if (i == semaphores_top) semaphores_top++;
+    return &semaphores[i];
 }
 
 /* One address for one semaphore. That another process unlinked the name and made a new one can be seen only where this open
@@ -67,19 +69,20 @@ static struct object *object_of(const char *name, int is_new, uint64_t descripti
     return o;
 }
 
-static struct object *open_on_home(const char *name, int oflag, unsigned mode, unsigned value)
+struct opening { const char *name; int oflag; unsigned mode, value; struct object *o; };
+
+static int open_once(void *arg)
 {
+    struct opening *given = arg;
     uint64_t description;
-    int is_creating = (oflag & O_CREAT) != 0, flags = open_flags(oflag);
-    struct mqs *c = home();
-    if (!c) return NULL;
-    if (is_creating) end_kept(MQS_SEMAPHORES, name);
-    else if (is_kept(MQS_SEMAPHORES, name)) {
-        errno = ENOENT;
-        return NULL;
-    }
-    if (mqs_sem_open(c, name, flags, is_creating ? mode_under_umask(mode) : 0, value, &description) < 0) return NULL;
-    return object_of(name, flags == (MQS_CREATE | MQS_EXCLUSIVE), description);
+    int is_creating = (given->oflag & O_CREAT) != 0, flags = open_flags(given->oflag);
+    struct mqs *c = home_for_open();
+    if (!c) return -1;
+    if (is_creating && end_kept(MQS_SEMAPHORES, given->name) < 0) return -1;
+    if (!is_creating && is_kept(MQS_SEMAPHORES, given->name)) return fail(ENOENT);
+    if (mqs_sem_open(c, given->name, flags, is_creating ? mode_under_umask(given->mode) : 0, given->value, &description) < 0) return -1;
+    given->o = object_of(given->name, flags == (MQS_CREATE | MQS_EXCLUSIVE), description);
+    return given->o ? 0 : -1;
 }
 
 PUBLIC sem_t *sem_open(const char *given, int oflag, ...)
@@ -95,11 +98,11 @@ PUBLIC sem_t *sem_open(const char *given, int oflag, ...)
     if (!is_served()) return libc()->sem_open(given, oflag, mode, value);
     struct entry e;
     char room[SHORT_NAME];
-    const char *name = one_slash(given, room);
+    struct opening opening = { one_slash(given, room), oflag, mode, value, NULL };
     enter(&e);
-    struct object *o = open_on_home(name, oflag, mode, value);
+    int r = open_at_home(&e, oflag, open_once, &opening);
     leave(&e);
-    return o ? (sem_t *)(void *)o : SEM_FAILED;
+    return r == 0 ? (sem_t *)(void *)opening.o : SEM_FAILED;
 }
 
 PUBLIC int sem_unlink(const char *given)
@@ -110,14 +113,7 @@ PUBLIC int sem_unlink(const char *given)
 
 /* ---- What is done with one semaphore ---- */
 
-/* Begins a call: the object has to be open, and open on home. The server's EBADF is EINVAL for a semaphore. */
-static int begin(struct object *o, struct entry *e)
-{
-    enter(e);
-    if (!o->references) return fail(EINVAL);
-    return bring(o, HOME);
-}
-
+/* The server's EBADF is EINVAL for a semaphore. */
 static int end(int r, const struct entry *e)
 {
     if (r < 0 && errno == EBADF) errno = EINVAL;
@@ -136,36 +132,56 @@ PUBLIC int sem_close(sem_t *s)
     return end(r, &e);
 }
 
+struct asking { struct object *o; uint32_t value; };
+
+static int post_once(void *asking)
+{
+    struct object *o = ((struct asking *)asking)->o;
+    return bring(o, HOME) < 0 ? -1 : mqs_sem_post(sides[HOME].connection, o->at[HOME]);
+}
+
+static int try_once(void *asking)
+{
+    struct object *o = ((struct asking *)asking)->o;
+    return bring(o, HOME) < 0 ? -1 : mqs_sem_trywait(sides[HOME].connection, o->at[HOME]);
+}
+
+static int read_once(void *asking)
+{
+    struct asking *to = asking;
+    return bring(to->o, HOME) < 0 ? -1 : mqs_sem_getvalue(sides[HOME].connection, to->o->at[HOME], &to->value);
+}
+
+/* The object has to be open. */
+static int ask(struct asking *asking, enum repeat repeat, int (*once)(void *asking))
+{
+    struct entry e;
+    enter(&e);
+    int r = asking->o->references ? 0 : fail(EINVAL);
+    if (r == 0) pin(&e, asking->o);
+    if (r == 0) r = at_home(&e, repeat, once, asking);
+    return end(r, &e);
+}
+
 PUBLIC int sem_post(sem_t *s)
 {
-    struct object *o = named(s);
-    struct entry e;
-    if (!o) return libc()->sem_post(s);
-    int r = begin(o, &e);
-    if (r == 0) r = mqs_sem_post(sides[HOME].connection, o->at[HOME]);
-    return end(r, &e);
+    struct asking asking = { .o = named(s) };
+    return asking.o ? ask(&asking, UNSAFE, post_once) : libc()->sem_post(s);
 }
 
 PUBLIC int sem_trywait(sem_t *s)
 {
-    struct object *o = named(s);
-    struct entry e;
-    if (!o) return libc()->sem_trywait(s);
-    int r = begin(o, &e);
-    if (r == 0) r = mqs_sem_trywait(sides[HOME].connection, o->at[HOME]);
-    return end(r, &e);
+    struct asking asking = { .o = named(s) };
+    return asking.o ? ask(&asking, UNSAFE, try_once) : libc()->sem_trywait(s);
 }
 
 PUBLIC int sem_getvalue(sem_t *s, int *value)
 {
-    struct object *o = named(s);
-    struct entry e;
-    uint32_t got;
-    if (!o) return libc()->sem_getvalue(s, value);
-    int r = begin(o, &e);
-    if (r == 0) r = mqs_sem_getvalue(sides[HOME].connection, o->at[HOME], &got);
-    if (r == 0) *value = (int)got;
-    return end(r, &e);
+    struct asking asking = { .o = named(s) };
+    if (!asking.o) return libc()->sem_getvalue(s, value);
+    int r = ask(&asking, SAFE, read_once);
+    if (r == 0) *value = (int)asking.value;
+    return r;
 }
 
 /* ---- Waits ---- */
@@ -175,7 +191,9 @@ static int wait_until(struct object *o, const struct timespec *until)
     struct entry e;
     struct job j = { o, WAITS, NULL, 0, 0 };
     pthread_testcancel();
-    int r = begin(o, &e);
+    if (enter_until(&e, until) < 0) return -1;
+    int r = o->references ? 0 : fail(EINVAL);
+    if (r == 0) pin(&e, o);
     if (r == 0) r = (int)perform(&j, until, &e);
     return end(r, &e);
 }

@@ -1,4 +1,4 @@
-"""The tests of mqserve_jobs.py, beside a server: MQSERVE and MQSERVE_KEY, as tests/with_server sets them. Sessions are stepped request by
+"""The tests of mqserve.jobs, beside a server: MQSERVE and MQSERVE_KEY, as tests/with_server sets them. Sessions are stepped request by
 request: one is killed before each of its requests, and several go on in turns that are drawn."""
 import os
 import random
@@ -10,8 +10,8 @@ import time
 import unittest
 
 import mqserve as ipc
-import mqserve_jobs
-from test_mqserve import Liar, in_child, rule_of
+from mqserve import _errors as errors, _sessions as sessions, _waits as waits, jobs as mqserve_jobs
+from test_mqserve import BUSY_S, Liar, in_child, rule_of
 
 SCHEDULES = int(os.environ.get("SCHEDULES", "25"))
 OTHER = "ka1" if os.environ["MQSERVE_KEY"] == "kb1" else "kb1"
@@ -34,6 +34,7 @@ class Stepped(mqserve_jobs._Session):
     def hang_up(self):
         """Ends the stream, and waits until the server has seen it."""
         self.socket.shutdown(socket.SHUT_WR)
+        self.socket.setblocking(True)
         while self.socket.recv(65536):
             pass
         self.close()
@@ -109,7 +110,7 @@ class Pooled(unittest.TestCase):
     def pool(self, tries=3, name=None, key=None):
         before = ipc._server
         if key is not None:
-            ipc._server = ipc._Server(os.environ["MQSERVE"], key, 0, None)
+            ipc._server = sessions.Server(os.environ["MQSERVE"], key, 0, None)
         try:
             self.made.append(Pool(name or self.name, tries, look=0.2))
         finally:
@@ -299,7 +300,7 @@ class Calls(Pooled):
     def test_put_is_refused_late(self):
         """Behind the create: nothing is left of it."""
         def refused(*_):
-            raise ipc._refusal(18)
+            raise errors.refusal(18)
         with self.jobs._calls() as session:
             session.chmod = refused
         self.assertEqual(rule_of(self, self.jobs.put, "one"), 18)
@@ -414,10 +415,12 @@ class Sessions(Pooled):
     def test_no_free_worker(self):
         """A wait for the second connection ends with the call's own."""
         with socket.create_server(("127.0.0.1", 0)) as nobody:
-            self.jobs._server = ipc._Server("127.0.0.1:%d" % nobody.getsockname()[1], "key", 0, None)
+            self.jobs._server = sessions.Server("127.0.0.1:%d" % nobody.getsockname()[1], "key", 0, None)
+            self.addCleanup(setattr, waits, "SIDE_S", waits.SIDE_S)
+            waits.SIDE_S = 10.0
             start = time.monotonic()
             self.assertRaises(ipc.BusyError, self.jobs.take, 0.3)
-            self.assertLess(time.monotonic() - start, 1)
+            self.assertLess(time.monotonic() - start, 0.3 + BUSY_S)
 
     def test_fork(self):
         self.jobs.put("one")

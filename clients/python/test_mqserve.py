@@ -1,4 +1,4 @@
-"""The tests of mqserve.py, beside a server: MQSERVE and MQSERVE_KEY, as tests/with_server sets them. What posix_ipc's documentation promises,
+"""The tests of mqserve, beside a server: MQSERVE and MQSERVE_KEY, as tests/with_server sets them. What posix_ipc's documentation promises,
 and what becomes of a server that lies or falls silent."""
 import os
 import resource
@@ -11,9 +11,12 @@ import time
 import unittest
 
 import mqserve as ipc
+from mqserve import _connection as connection, _dial as dial, _waits as waits, _wire as wire
 
 sys.path.append(os.path.join(os.path.dirname(os.path.abspath(__file__)), os.pardir, "tests"))
 from relay import Relay, own_address  # noqa: E402
+
+BUSY_S = 5.0        # what a busy machine may take. A call whose end is missed takes ten seconds, or has none
 
 
 def rule_of(test, call, *words, **named):
@@ -363,7 +366,7 @@ class Moments(Relayed):
             call(*words, timeout=timeout)
         took = time.monotonic() - start
         self.assertGreaterEqual(took, timeout)
-        self.assertLess(took, timeout + ipc._LATE_S + 5)
+        self.assertLess(took, timeout + waits.LATE_S + BUSY_S)
         self.assertEqual(self.relay.requests, requests)
         self.assertEqual(caught.exception.rule, 0)
 
@@ -456,26 +459,11 @@ class Moments(Relayed):
         ipc._server.busy.update(ipc._server.sides)
         with socket.create_server(("127.0.0.1", 0)) as nobody:
             ipc._server.address = "127.0.0.1:%d" % nobody.getsockname()[1]
+            self.addCleanup(setattr, waits, "SIDE_S", waits.SIDE_S)
+            waits.SIDE_S = 10.0
             start = time.monotonic()
             self.assertRaises(ipc.BusyError, self.sem.acquire, 0.1)
-            self.assertLess(time.monotonic() - start, 0.5)
-
-    def test_closed_amid_a_call(self):
-        """What is closed while a thread blocks on it is closed there too, once it doesn't."""
-        self.begin()
-        got = []
-        waiter = threading.Thread(target=lambda: got.append(self.q.receive()), daemon=True)
-        waiter.start()
-        while self.relay.requests.count(7) < 2:     # at home, and then where it blocks
-            time.sleep(0.01)
-        name = self.q.name
-        self.q.close()
-        self.assertEqual(self.relay.requests.count(4), 1)
-        other = self.keep(ipc.MessageQueue(name))
-        other.send("one")
-        waiter.join(5)
-        self.assertEqual(got, [(b"one", 0)])
-        self.assertEqual(self.relay.requests.count(4), 2)
+            self.assertLess(time.monotonic() - start, 0.1 + BUSY_S)
 
     def test_own_clock(self):
         self.begin(shared_clock=False)
@@ -516,22 +504,22 @@ class Moments(Relayed):
                     raise OSError
                 return self.address, 7000
         for address in ("127.0.0.1", "127.255.3.2", "::1", "::ffff:127.0.0.1"):
-            self.assertTrue(ipc._is_here(Peer(address)), address)
+            self.assertTrue(dial.is_here(Peer(address)), address)
         for address in ("128.0.0.1", "10.0.0.127", "0.0.0.0", "1.127.0.1", "::2", "fe80::1%eth0", "::ffff:10.0.0.1", None):
-            self.assertFalse(ipc._is_here(Peer(address)), address)
-        self.assertTrue(ipc._is_here(Peer("", socket.AF_UNIX)))
+            self.assertFalse(dial.is_here(Peer(address)), address)
+        self.assertTrue(dial.is_here(Peer("", socket.AF_UNIX)))
 
     def test_deadlines(self):
         for seconds in (0.0001, 0.5, 100.0, 1e9):
             before = time.time_ns()
-            deadline = int.from_bytes(ipc._deadline(time.monotonic() + seconds), "big")
+            deadline = int.from_bytes(waits.deadline(time.monotonic() + seconds), "big")
             after = time.time_ns()
             self.assertGreaterEqual(deadline * 1000000, before + int(seconds * 1e9) - 1000)
             self.assertLess(deadline * 1000000, after + int(seconds * 1e9) + 1001000)
-        self.assertEqual(ipc._deadline(time.monotonic()), bytes(8))
-        self.assertEqual(ipc._deadline(time.monotonic() - 5), bytes(8))
+        self.assertEqual(waits.deadline(time.monotonic()), bytes(8))
+        self.assertEqual(waits.deadline(time.monotonic() - 5), bytes(8))
         for seconds in (1e11, 1e300, float("inf")):
-            self.assertEqual(ipc._deadline(time.monotonic() + seconds), b"\xff" * 8)
+            self.assertEqual(waits.deadline(time.monotonic() + seconds), b"\xff" * 8)
 
 
 class Liar:
@@ -556,13 +544,13 @@ class Liar:
 class Connections(unittest.TestCase):
     def ends(self, answer, seconds=0.3):
         liar = Liar(answer)
-        c = ipc._Connection(liar.address, "key", 5.0)
+        c = connection.Connection(liar.address, "key", 10.0)
         c.bound = seconds
         start = time.monotonic()
-        self.assertRaises(ipc.ConnectionLost, c.ask, ipc._MQ_CLOSE, bytes(8), ipc._DONE)
-        self.assertLess(time.monotonic() - start, seconds + 1)
+        self.assertRaises(ipc.ConnectionLost, c.ask, wire.MQ_CLOSE, bytes(8), wire.DONE)
+        self.assertLess(time.monotonic() - start, seconds + BUSY_S)
         self.assertTrue(c.lost)
-        self.assertRaises(ipc.ConnectionLost, c.ask, ipc._MQ_CLOSE, bytes(8), ipc._DONE)
+        self.assertRaises(ipc.ConnectionLost, c.ask, wire.MQ_CLOSE, bytes(8), wire.DONE)
         liar.listener.close()
 
     def test_lies(self):
@@ -597,15 +585,15 @@ class Connections(unittest.TestCase):
 
     def test_closed_amid_a_call(self):
         """As by another thread, once the request was written."""
-        c = ipc._Connection(os.environ["MQSERVE"], os.environ["MQSERVE_KEY"], 5.0)
+        c = connection.Connection(os.environ["MQSERVE"], os.environ["MQSERVE_KEY"], 5.0)
         c.has_answer = c.close
-        self.assertRaises(ipc.ConnectionLost, c.ask, ipc._MQ_CLOSE, bytes(8), ipc._DONE)
+        self.assertRaises(ipc.ConnectionLost, c.ask, wire.MQ_CLOSE, bytes(8), wire.DONE)
 
     def test_fork_while_a_thread_connects(self):
         """The child has no copy of the socket: the stream ends with the parent's."""
         with socket.create_server(("127.0.0.1", 0)) as listener:
             address = "127.0.0.1:%d" % listener.getsockname()[1]
-            thread = threading.Thread(target=lambda: self.assertRaises(ipc.BusyError, ipc._Connection, address, "key", 0.5))
+            thread = threading.Thread(target=lambda: self.assertRaises(ipc.BusyError, connection.Connection, address, "key", 0.5))
             thread.start()
             with listener.accept()[0] as accepted:
                 accepted.recv(64)
@@ -631,7 +619,7 @@ class Connections(unittest.TestCase):
         try:
             while not files or files[-1] < 1024:
                 files.append(os.open(os.devnull, os.O_RDONLY))
-            c = ipc._Connection(os.environ["MQSERVE"], os.environ["MQSERVE_KEY"], 5.0)
+            c = connection.Connection(os.environ["MQSERVE"], os.environ["MQSERVE_KEY"], 5.0)
             self.assertGreater(c.socket.fileno(), 1023)
             c.close()
         finally:
@@ -640,21 +628,21 @@ class Connections(unittest.TestCase):
             resource.setrlimit(resource.RLIMIT_NOFILE, limits)
 
     def test_wrong_key(self):
-        self.assertEqual(rule_of(self, ipc._Connection, os.environ["MQSERVE"], "nobody", 5.0), 31)
+        self.assertEqual(rule_of(self, connection.Connection, os.environ["MQSERVE"], "nobody", 5.0), 31)
 
     def test_no_server(self):
         with socket.create_server(("127.0.0.1", 0)) as nobody:
             address = "127.0.0.1:%d" % nobody.getsockname()[1]
-            self.assertRaises(ipc.BusyError, ipc._Connection, address, "ka1", 0.2)
-        self.assertRaises(ConnectionRefusedError, ipc._Connection, address, "ka1", 1.0)
-        self.assertRaises(ValueError, ipc._Connection, "nonsense", "ka1", 1.0)
+            self.assertRaises(ipc.BusyError, connection.Connection, address, "ka1", 0.2)
+        self.assertRaises(ConnectionRefusedError, connection.Connection, address, "ka1", 1.0)
+        self.assertRaises(ValueError, connection.Connection, "nonsense", "ka1", 1.0)
 
     def test_paths(self):
         with tempfile.TemporaryDirectory() as room, socket.socket(socket.AF_UNIX) as listener:
             address = f"unix:{room}/socket"
-            self.assertRaises(FileNotFoundError, ipc._Connection, address, "ka1", 1.0)
+            self.assertRaises(FileNotFoundError, connection.Connection, address, "ka1", 1.0)
             listener.bind(address[5:])
-            self.assertRaises(ConnectionRefusedError, ipc._Connection, address, "ka1", 1.0)
+            self.assertRaises(ConnectionRefusedError, connection.Connection, address, "ka1", 1.0)
             listener.listen(0)
             with socket.socket(socket.AF_UNIX) as waiting:
                 waiting.connect(address[5:])
@@ -663,10 +651,10 @@ class Connections(unittest.TestCase):
                     socket.setdefaulttimeout(default)
                     signal.setitimer(signal.ITIMER_REAL, alarm)
                     start = time.monotonic()
-                    self.assertRaises(ipc.BusyError, ipc._Connection, address, "ka1", 0.2)
+                    self.assertRaises(ipc.BusyError, connection.Connection, address, "ka1", 0.2)
                     self.assertGreater(time.monotonic() - start, 0.19)
                 socket.setdefaulttimeout(None)
-        self.assertRaises(OSError, ipc._Connection, "unix:" + 200 * "x", "ka1", 1.0)
+        self.assertRaises(OSError, connection.Connection, "unix:" + 200 * "x", "ka1", 1.0)
 
     def test_lost_home(self):
         before = ipc._server

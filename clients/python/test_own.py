@@ -1,9 +1,10 @@
-"""The tests of mqserve.py at a socket of a user's own, without a key, beside a server for whose users there are sockets: MQSERVE is that of
+"""The tests of mqserve at a socket of a user's own, without a key, beside a server for whose users there are sockets: MQSERVE is that of
 ann, as tests/with_server sets it with SOCKET=users."""
 import os
 import unittest
 
 import mqserve as ipc
+from mqserve import _connection as connection, _wire as wire
 
 ADDRESS = os.environ["MQSERVE"]
 FOLDER = ADDRESS.rpartition("/")[0]
@@ -29,8 +30,8 @@ class Own(unittest.TestCase):
     def owner(self):
         """The user ID by which the server knows who creates a queue."""
         queue = ipc.MessageQueue(None, ipc.O_CREX)
-        fields = b"\1\1" + ipc._text(queue.name)
-        owner = ipc._server.home.ask(ipc._STAT_NAME, fields, ipc._STAT)[:4]
+        fields = b"\1\1" + wire.text(queue.name)
+        owner = ipc._server.home.ask(wire.STAT_NAME, fields, wire.STAT)[:4]
         queue.unlink()
         queue.close()
         return int.from_bytes(owner, "big")
@@ -84,8 +85,8 @@ class Own(unittest.TestCase):
         queue.unlink()
 
     def test_wrong_addresses(self):
-        self.assertRaises(FileNotFoundError, ipc._Connection, f"{FOLDER}/absent", None, 1.0)
-        self.assertRaises(ConnectionRefusedError, ipc._Connection, "unix-user:/dev/null", None, 1.0)
+        self.assertRaises(FileNotFoundError, connection.Connection, f"{FOLDER}/absent", None, 1.0)
+        self.assertRaises(ConnectionRefusedError, connection.Connection, "unix-user:/dev/null", None, 1.0)
         for address in ("127.0.0.1:1", "unix:/dev/null"):
             self.assertRaises(ipc.PermissionsError, ipc.use, address)
 

@@ -1,4 +1,4 @@
-"""The tests of mqserve_top.py: beside a server in memory, which tells how often it was asked, and beside the one of MQSERVE."""
+"""The tests of mqserve.top: beside a server in memory, which tells how often it was asked, and beside the one of MQSERVE."""
 import contextlib
 import fcntl
 import io
@@ -13,7 +13,7 @@ import time
 import unittest
 
 import mqserve
-import mqserve_top as top
+from mqserve import _wire as wire, top
 from test_mqserve import Liar
 
 HERE = os.path.dirname(os.path.abspath(__file__))
@@ -366,7 +366,7 @@ class Served(unittest.TestCase):
 
     def create(self, family, name, session=None, mode=0o600, value=0):
         """Gives the description; the name goes with the test."""
-        session, text = session or self.session, mqserve._text(OWN.encode() + name)
+        session, text = session or self.session, wire.text(OWN.encode() + name)
         opcode, rest = (3, struct.pack(">BBHB", 3, 3, mode, 0)) if family == 1 else (11, struct.pack(">BHI", 3, mode, value))
         [answer] = session.ask_all([(opcode, text + rest, 67)])
         self.assertIsInstance(answer, bytes)
@@ -412,7 +412,7 @@ class Served(unittest.TestCase):
 
     def test_more_than_a_page(self):
         names = [b"%d" % number for number in range(1100)]
-        text = {name: mqserve._text(OWN.encode() + name) for name in names}
+        text = {name: wire.text(OWN.encode() + name) for name in names}
         opened = self.session.ask_all([(11, text[name] + struct.pack(">BHI", 3, 0o600, 1), 67) for name in names[:1000]])
         self.session.ask_all([(12, answer, 66) for answer in opened])
         opened = self.session.ask_all([(11, text[name] + struct.pack(">BHI", 3, 0o600, 1), 67) for name in names[1000:]])

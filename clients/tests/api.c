@@ -126,6 +126,28 @@ static void notices(uint64_t q, uint64_t r)
     CHECK(mqs_mq_receive(b, r, data, sizeof data, NULL, NULL) == 1);
 }
 
+/* As mqserve.h says to wait by poll. Of the notices some come along with the answer to b's own call, and wake no poll. */
+static void polled(uint64_t q, uint64_t r)
+{
+    enum { TIMES = 200 };
+    int got = 0, what;
+    uint64_t description;
+    struct mqs_state state;
+    char data[16];
+    for (int i = 0; i < TIMES; i++) {
+        CHECK(mqs_mq_notify(b, r, 1) == 0 && mqs_mq_send(a, q, "x", 1, 0, NULL) == 0);
+        if (i % 2) CHECK(mqs_mq_getattr(b, r, &state) == 0);
+        for (int found = 0; !found;) {
+            while (mqs_next_unasked(b, &what, &description) == 1) found += what == MQS_NOTICE && description == r;
+            struct pollfd p = { mqs_fd(b), POLLIN, 0 };
+            if (!found && poll(&p, 1, BOUND_MS) != 1) { CHECK(0); return; }
+            got += found;
+        }
+        CHECK(mqs_mq_receive(a, q, data, sizeof data, NULL, NULL) == 1);
+    }
+    CHECK(got == TIMES);
+}
+
 static void gifts(uint64_t q)
 {
     int what = 0;
@@ -417,6 +439,7 @@ int main(int argc, char **argv)
     long_names();
     messages(q, r);
     notices(q, r);
+    polled(q, r);
     if (has("give")) gifts(q);
     calls_in_parts(q, r);
     stops_by_another(q, r);

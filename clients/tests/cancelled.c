@@ -3,23 +3,41 @@
  * - taken: the cancellation comes as a recv has taken the answer's bytes. Some C libraries act on it there, as this recv does. */
 #include "cases/case.h"
 
+#include <dlfcn.h>
+#include <poll.h>
 #include <sys/socket.h>
 
 static mqd_t q;
 static char data[16];
 static long size = -2;
 static int cancels;
-static _Thread_local int has_looked;
+static _Thread_local int has_blocked;
+
+/* Without an end it is the wait of a call that blocks; an answer is there then. */
+int ppoll(struct pollfd *files, nfds_t count, const struct timespec *left, const sigset_t *mask)
+{
+    int (*next)(struct pollfd *, nfds_t, const struct timespec *, const sigset_t *);
+    *(void **)&next = dlsym(RTLD_NEXT, "ppoll");
+    int n = next(files, count, left, mask);
+    has_blocked = n > 0 && !left;
+    return n;
+}
+
+int __ppoll_chk(struct pollfd *files, nfds_t count, const struct timespec *left, const sigset_t *mask, size_t files_size);
+int __ppoll_chk(struct pollfd *files, nfds_t count, const struct timespec *left, const sigset_t *mask, size_t files_size)
+{
+    (void)files_size;
+    return ppoll(files, count, left, mask);
+}
 
 ssize_t recv(int fd, void *to, size_t room, int flags)
 {
     ssize_t n = recvfrom(fd, to, room, flags, NULL, NULL);
-    if (n > 0 && !(flags & MSG_PEEK) && cancels && has_looked) {
+    if (n > 0 && cancels && has_blocked) {
         cancels = 0;
         pthread_cancel(pthread_self());
         pthread_testcancel();
     }
-    has_looked = n > 0 && (flags & MSG_PEEK);   /* then the thread blocked, and an answer is there */
     return n;
 }
 

@@ -1,12 +1,10 @@
-/* forking.c: two threads fork at once, one with a signal blocked. Each comes back with its own mask, and so does each child. The program is
- * the server too, at MQSERVE's path: it says nothing to a third thread, which keeps the library's lock until both forks wait for it. */
+/* forking.c: two threads fork again and again, one with a signal blocked. Each comes back with its own mask each time, and so does each
+ * child: one fork's state isn't the other's. */
 #include "cases/case.h"
 
-#include <sys/socket.h>
-#include <sys/syscall.h>
-#include <sys/un.h>
+enum { TIMES = 300 };
 
-struct forker { int is_blocked, is_blocked_after, in_child; _Atomic pid_t thread; };
+struct forker { int is_blocked, wrong, wrong_in_child; };
 
 static int has_blocked(void)
 {
@@ -15,7 +13,7 @@ static int has_blocked(void)
     return sigismember(&mask, SIGUSR1);
 }
 
-static void *fork_once(void *arg)
+static void *fork_often(void *arg)
 {
     struct forker *f = arg;
     sigset_t mask;
@@ -23,55 +21,24 @@ static void *fork_once(void *arg)
     sigemptyset(&mask);
     sigaddset(&mask, SIGUSR1);
     pthread_sigmask(f->is_blocked ? SIG_BLOCK : SIG_UNBLOCK, &mask, NULL);
-    f->thread = (pid_t)syscall(SYS_gettid);
-    pid_t child = fork();
-    if (child == 0) _exit(has_blocked());
-    f->is_blocked_after = has_blocked();
-    waitpid(child, &status, 0);
-    f->in_child = WEXITSTATUS(status);
-    return NULL;
-}
-
-/* Waits until the thread has all signals blocked: it waits for the lock then, or is about to. A C library that lets one thread at a time fork
- * never comes to that with the second. */
-static void await_hold(const struct forker *f)
-{
-    char path[64], line[256];
-    unsigned long long mask = 0;
-    for (int tries = 300; tries > 0 && !(mask & 1ULL << (SIGUSR2 - 1)); tries--) {
-        pause_ms(10);
-        snprintf(path, sizeof path, "/proc/self/task/%ld/status", (long)f->thread);
-        FILE *status = f->thread ? fopen(path, "r") : NULL;
-        while (status && fgets(line, sizeof line, status)) sscanf(line, "SigBlk: %llx", &mask);
-        if (status) fclose(status);
+    for (int i = 0; i < TIMES; i++) {
+        pid_t child = fork();
+        if (child == 0) _exit(has_blocked());
+        f->wrong += has_blocked() != f->is_blocked;
+        pthread_sigmask(f->is_blocked ? SIG_BLOCK : SIG_UNBLOCK, &mask, NULL);
+        waitpid(child, &status, 0);
+        f->wrong_in_child += WEXITSTATUS(status) != f->is_blocked;
     }
-}
-
-static void *open_in_vain(void *arg)
-{
-    mq_open("/forking", O_RDWR);
-    return arg;
+    return NULL;
 }
 
 int main(void)
 {
-    struct sockaddr_un at = { .sun_family = AF_UNIX };
     struct forker first = { .is_blocked = 1 }, second = { .is_blocked = 0 };
-    pthread_t opener, forkers[2];
-    int listener = socket(AF_UNIX, SOCK_STREAM, 0);
-    snprintf(at.sun_path, sizeof at.sun_path, "%s", strchr(getenv("MQSERVE"), ':') + 1);
-    if (bind(listener, (struct sockaddr *)&at, sizeof at) < 0 || listen(listener, 9) < 0) return 2;
-    pthread_create(&opener, NULL, open_in_vain, NULL);
-    int silent = accept(listener, NULL, NULL);
-    pthread_create(&forkers[0], NULL, fork_once, &first);
-    await_hold(&first);
-    pthread_create(&forkers[1], NULL, fork_once, &second);
-    await_hold(&second);
-    close(listener);
-    close(silent);
-    pthread_join(opener, NULL);
-    for (int i = 0; i < 2; i++) pthread_join(forkers[i], NULL);
-    printf("blocked: %d, in its child %d\n", first.is_blocked_after, first.in_child);
-    printf("not blocked: %d, in its child %d\n", second.is_blocked_after, second.in_child);
+    pthread_t threads[2];
+    pthread_create(&threads[0], NULL, fork_often, &first);
+    pthread_create(&threads[1], NULL, fork_often, &second);
+    for (int i = 0; i < 2; i++) pthread_join(threads[i], NULL);
+    printf("wrong: %d and %d, in children %d and %d\n", first.wrong, second.wrong, first.wrong_in_child, second.wrong_in_child);
     return 0;
 }

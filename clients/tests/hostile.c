@@ -426,6 +426,26 @@ static void no_entry(void)
     CHECK(refuses("unix-user:/tmp", EIO));
 }
 
+/* The first port that the system gives to connections, at which nobody listens. */
+static int first_port(void)
+{
+    int port = 0;
+    FILE *range = fopen("/proc/sys/net/ipv4/ip_local_port_range", "r");
+    if (!range || fscanf(range, "%d", &port) != 1) port = 32768;
+    if (range) fclose(range);
+    return port;
+}
+
+/* A connect to such a port gets the port itself for its own end, once in some ten thousand tries, and is then connected to itself. */
+static void nobody(void)
+{
+    char address[32];
+    int refused = 0;
+    snprintf(address, sizeof address, "127.0.0.1:%d", first_port() + 1000);
+    while (refused < 20000 && refuses(address, ECONNREFUSED)) refused++;
+    CHECK(refused == 20000);
+}
+
 static void paths(void)
 {
     char address[200];
@@ -462,6 +482,7 @@ int main(void)
     interrupts();
     hellos();
     paths();
+    nobody();
     printf("hostile: %d checks, %d failed\n", checks, faults);
     return faults != 0;
 }

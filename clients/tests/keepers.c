@@ -1,5 +1,5 @@
-/* keepers.c [wait]: calls that their moments end, or one of a semaphore alone, and how many threads the program has then: a second one keeps
- * moments of queues where the server doesn't. */
+/* keepers.c [wait]: calls that their moments end, or one of a semaphore alone, and how many threads the program has then: no call starts one
+ * to keep its moment. */
 #include "cases/case.h"
 
 #include <dirent.h>

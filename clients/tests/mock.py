@@ -1,8 +1,12 @@
 #!/usr/bin/env python3
-"""mock.py serve USERS ADDRESS [--workers N]: answers as docs/POLICY.md says, for tests where no server is built. ADDRESS is HOST:PORT,
-unix:PATH or unix-users:DIR. Not the product: nothing here is proved, and set-limit and audit are left out."""
+"""mock.py serve USERS ADDRESS [--workers N | --one-thread] [--trail-file FILE]: answers as docs/dev/policy.md says, for tests where no server is
+built. ADDRESS is HOST:PORT, unix:PATH or unix-users:DIR. A FILE that is there is stepped again first, so that names go on after a restart; its
+format is none of the product's. Not the product: nothing here is proved, and audit is left out. DIES_BEFORE=OPCODE:COUNT: it is killed when so
+many answers have this opcode, before the last of them leaves."""
+import json
 import os
 import select
+import signal
 import socket
 import struct
 import sys
@@ -15,6 +19,8 @@ CREATE, EXCLUSIVE, NONBLOCK = 1, 2, 4
 lock = threading.Lock()
 sessions, names, limits = {}, {QUEUES: {}, SEMAPHORES: {}}, {}
 count = {"sessions": 0, "descriptions": 0}
+trail = None
+dies_before, lives = map(int, os.environ.get("DIES_BEFORE", "0:0").split(":"))
 timed, last_tick = [], 0    # the sessions whose parked call has a deadline, in the order in which they parked
 
 
@@ -44,6 +50,11 @@ class Session:
         sessions[self.number] = self
 
     def answer(self, opcode, fields=b""):
+        global lives
+        if opcode == dies_before and not isinstance(self.connection, Nobody):
+            lives -= 1
+            if lives == 0:
+                os.kill(os.getpid(), signal.SIGKILL)
         try:
             self.connection.sendall(struct.pack(">IB", len(fields) + 1, opcode) + fields)
         except OSError:
@@ -193,7 +204,10 @@ def unpark(s):
 def tick(now):
     """Ends the calls whose deadlines have come, the earliest call first. The time never goes back."""
     global last_tick
-    for s in [s for s in timed if s.deadline <= now]:
+    ending = [s for s in timed if s.deadline <= now]
+    if ending:
+        record(now, "tick")
+    for s in ending:
         last_tick = max(last_tick, now)
         unpark(s)
         s.answer(76, struct.pack(">H", 32))
@@ -347,6 +361,15 @@ def list_names(s, fields):
     s.answer(73, struct.pack(">H", len(page)) + b"".join(struct.pack(">H", len(n)) + n for n in page))
 
 
+def set_limit(s, user, size):
+    if s.user[0] != 0:
+        raise Refused(6)
+    if user not in limits:
+        raise Refused(7)
+    limits[user] = size
+    s.answer(66)
+
+
 def interrupt(s):
     if not s.parked:
         raise Refused(3)
@@ -387,6 +410,7 @@ CALLS = {
     19: stat,
     20: chmod,
     21: chown,
+    22: lambda s, f: set_limit(s, f.number(4), f.number(8)),
     23: lambda s, f: interrupt(s),
     26: lambda s, f: send(s, f.number(8), f.number(4), deadline=f.number(8), data=f.data),
     27: lambda s, f: receive(s, f.number(8), f.number(4), f.number(8)),
@@ -395,7 +419,42 @@ CALLS = {
 }
 
 
+def record(*what):
+    """Before anything is answered."""
+    if trail:
+        trail.write(json.dumps(what) + "\n")
+        trail.flush()
+
+
+class Nobody:
+    """The connection of a session that a trail tells of."""
+
+    def sendall(self, answer):
+        pass
+
+
+def replay(path):
+    """Steps what the file has. The sessions in it end then."""
+    global trail
+    lines = open(path).readlines() if os.path.exists(path) else []
+    for who, what, *words in (json.loads(line) for line in lines if line.endswith("\n")):
+        if what == "tick":
+            tick(who)
+        elif what == "hello":
+            Session(Nobody(), words[0])
+        elif what == "step":
+            step(sessions[who], bytes.fromhex(words[0]))
+        else:
+            hang_up(sessions[who])
+    with open(path, "w") as whole:
+        whole.writelines(line for line in lines if line.endswith("\n"))     # the last one may have been cut by a kill
+    trail = open(path, "a")
+    for s in list(sessions.values()):
+        hang_up(s)
+
+
 def step(s, body):
+    record(s.number, "step", body.hex())
     try:
         if s.parked and body[0] != 23:
             raise Refused(2)
@@ -405,6 +464,7 @@ def step(s, body):
 
 
 def hang_up(s):
+    record(s.number, "hangup")
     if s.parked:
         unpark(s)
     for description in list(s.held):
@@ -429,6 +489,7 @@ def serve(connection, users, user):
             return connection.sendall(struct.pack(">IBH", 3, 76, 31)) if hello else None
     with lock:
         s = Session(connection, user)
+        record(s.number, "hello", user)
         s.answer(65, struct.pack(">Q", s.number))
     while True:
         body = read_frame(stream)
@@ -472,7 +533,10 @@ def listen(address, names):
 
 def main():
     users, names = read_users(sys.argv[2])
-    workers = threading.Semaphore(int(sys.argv[5]) if len(sys.argv) > 5 else 4)
+    words = sys.argv[4:]
+    workers = threading.Semaphore(int(words[words.index("--workers") + 1]) if "--workers" in words else 1000 if "--one-thread" in words else 4)
+    if "--trail-file" in words:
+        replay(words[words.index("--trail-file") + 1])
     listeners = listen(sys.argv[3], names)
     threading.Thread(target=keep_time, daemon=True).start()
     print("serving", sys.argv[3], flush=True)

@@ -6,6 +6,7 @@
 #include <ifaddrs.h>
 #include <net/if.h>
 #include <netinet/in.h>
+#include <netinet/tcp.h>
 #include <signal.h>
 #include <sys/time.h>
 
@@ -50,27 +51,30 @@ static int is_before(const struct timespec *a, const struct timespec *b)
 
 enum outcome { SERVED, LATE, ABORTED };
 
-/* What comes at once, and what comes after a while: nothing, a refusal by rule 32, the call's answer, or that of an Interrupt. */
+/* What comes at once, and what comes later: nothing, a refusal by rule 32, the call's answer, or that of an Interrupt. It comes while the
+ * moment is far, once it has come, or once the client has sent an Interrupt: none of this depends on how busy the machine is, but that a
+ * server has two seconds from the moment on. */
 enum reply { NOTHING, REFUSAL, ANSWER, WITHDRAWN };
-struct story { enum reply first, then; int after_ms, bound_ms; enum outcome outcome; int rule; const char *requests; int is_shared_still; };
+enum when { AT_ONCE, BEFORE, AFTER, STOPPED };
+struct story { enum reply first, then; enum when when; int bound_ms; enum outcome outcome; int rule; const char *requests; int is_shared_still; };
 
-enum { MOMENT_MS = 300, SOON_MS = 50, LATER_MS = 500, VERY_LATE_MS = 2800 };   /* a server has two seconds from the moment on */
+enum { MOMENT_MS = 300, SOON_MS = 50 };
 
 static const struct story stories[] = {
-    { ANSWER, NOTHING, 0, LONG_MS, SERVED, 0, "T", 1 },
-    { NOTHING, ANSWER, SOON_MS, LONG_MS, SERVED, 0, "T", 1 },
-    { NOTHING, REFUSAL, LATER_MS, LONG_MS, LATE, TIMED_OUT, "T", 1 },
-    { NOTHING, ANSWER, LATER_MS, LONG_MS, SERVED, 0, "T", 1 },
+    { ANSWER, NOTHING, AT_ONCE, LONG_MS, SERVED, 0, "T", 1 },
+    { NOTHING, ANSWER, BEFORE, LONG_MS, SERVED, 0, "T", 1 },
+    { NOTHING, REFUSAL, AFTER, LONG_MS, LATE, TIMED_OUT, "T", 1 },
+    { NOTHING, ANSWER, AFTER, LONG_MS, SERVED, 0, "T", 1 },
     /* Refused before its moment: the server's clock is another, and the call is made again without a moment. */
-    { REFUSAL, ANSWER, SOON_MS, LONG_MS, SERVED, 0, "TP", 0 },
-    { REFUSAL, WITHDRAWN, LATER_MS, LONG_MS, LATE, 0, "TPI", 0 },
-    { REFUSAL, ANSWER, LATER_MS, LONG_MS, SERVED, 0, "TPI", 0 },
-    { REFUSAL, NOTHING, 0, BOUND_MS, ABORTED, 0, "TPI", 0 },
+    { REFUSAL, ANSWER, BEFORE, LONG_MS, SERVED, 0, "TP", 0 },
+    { REFUSAL, WITHDRAWN, STOPPED, LONG_MS, LATE, 0, "TPI", 0 },
+    { REFUSAL, ANSWER, STOPPED, LONG_MS, SERVED, 0, "TPI", 0 },
+    { REFUSAL, NOTHING, AT_ONCE, BOUND_MS, ABORTED, 0, "TPI", 0 },
     /* Not answered in time, and never. */
-    { NOTHING, WITHDRAWN, VERY_LATE_MS, LONG_MS, LATE, 0, "TI", 0 },
-    { NOTHING, ANSWER, VERY_LATE_MS, LONG_MS, SERVED, 0, "TI", 0 },
-    { NOTHING, REFUSAL, VERY_LATE_MS, LONG_MS, LATE, TIMED_OUT, "TI", 0 },
-    { NOTHING, NOTHING, 0, BOUND_MS, ABORTED, 0, "TI", 0 },
+    { NOTHING, WITHDRAWN, STOPPED, LONG_MS, LATE, 0, "TI", 0 },
+    { NOTHING, ANSWER, STOPPED, LONG_MS, SERVED, 0, "TI", 0 },
+    { NOTHING, REFUSAL, STOPPED, LONG_MS, LATE, TIMED_OUT, "TI", 0 },
+    { NOTHING, NOTHING, AT_ONCE, BOUND_MS, ABORTED, 0, "TI", 0 },
 };
 
 static const struct frame *frame_of(enum reply reply, enum kind kind)
@@ -79,19 +83,40 @@ static const struct frame *frame_of(enum reply reply, enum kind kind)
     return reply == REFUSAL ? &refused : reply == ANSWER ? &served[kind] : reply == WITHDRAWN ? &interrupted : &nothing;
 }
 
+/* Whether the last request that stands at the server is an Interrupt. */
+static int has_stopped(void)
+{
+    static const uint8_t stop[] = { 0, 0, 0, 1, INTERRUPT };
+    uint8_t bytes[1000];
+    ssize_t size = recv(server, bytes, sizeof bytes, MSG_PEEK | MSG_DONTWAIT);
+    return size >= (ssize_t)sizeof stop && !memcmp(bytes + size - sizeof stop, stop, sizeof stop);
+}
+
+struct told { const struct frame *then; enum when when; struct timespec until; };
+
+static void *answer_when(void *arg)
+{
+    const struct told *t = arg;
+    if (t->when == BEFORE) usleep(SOON_MS * 1000);
+    if (t->when == AFTER) while (clock_nanosleep(CLOCK_REALTIME, TIMER_ABSTIME, &t->until, NULL)) {}
+    for (double end = seconds() + LATE_S; t->when == STOPPED && !has_stopped() && seconds() < end;) usleep(1000);
+    put(t->then->bytes, t->then->size);
+    return NULL;
+}
+
 static void tell(const struct story *s, enum kind kind)
 {
-    const struct frame *first = frame_of(s->first, kind), *then = frame_of(s->then, kind);
-    struct later l = { then->bytes, then->size, s->after_ms };
+    const struct frame *first = frame_of(s->first, kind);
+    struct timespec until = in_ms(s->when == BEFORE ? LONG_MS : MOMENT_MS);
+    struct told t = { frame_of(s->then, kind), s->when, until };
     pthread_t thread;
     int before = faults;
     struct mqs *c = fresh();
     sent(kind);
     put(first->bytes, first->size);
     mqs_set_bound(c, s->bound_ms);
-    pthread_create(&thread, NULL, answer_later, &l);
+    pthread_create(&thread, NULL, answer_when, &t);
     double start = seconds();
-    struct timespec until = in_ms(MOMENT_MS);
     long r = call(c, kind, &until);
     int error = errno;
     struct timespec now = in_ms(0);
@@ -111,7 +136,7 @@ static void tell_all(void)
 {
     for (size_t i = 0; i < sizeof stories / sizeof *stories; i++)
         for (enum kind k = SEND; k < KINDS; k++) {
-            int is_slow = stories[i].first == NOTHING && (stories[i].then == NOTHING || stories[i].after_ms > LATER_MS);
+            int is_slow = stories[i].first == NOTHING && (stories[i].then == NOTHING || stories[i].when == STOPPED);
             if (!is_slow || k == RECEIVE) tell(&stories[i], k);
         }
 }
@@ -121,7 +146,7 @@ static void nothing(int signal) { (void)signal; }
 /* A signal ends a call whose moment the server has, and the server says which came first. */
 static void disturb(enum kind k, const struct frame *answer)
 {
-    struct later l = { answer->bytes, answer->size, LATER_MS };
+    struct told t = { answer, STOPPED, { 0, 0 } };
     struct itimerval often = { { 0, SOON_MS * 1000 }, { 0, SOON_MS * 1000 } }, never = { 0 };
     struct timespec until = in_ms(LONG_MS);
     pthread_t thread;
@@ -132,7 +157,7 @@ static void disturb(enum kind k, const struct frame *answer)
     sigemptyset(&alarms);
     sigaddset(&alarms, SIGALRM);
     pthread_sigmask(SIG_BLOCK, &alarms, &old);   /* the signal is for the thread that waits */
-    pthread_create(&thread, NULL, answer_later, &l);
+    pthread_create(&thread, NULL, answer_when, &t);
     pthread_sigmask(SIG_SETMASK, &old, NULL);
     setitimer(ITIMER_REAL, &often, NULL);
     long r = call(c, k, &until);
@@ -225,7 +250,14 @@ static int is_here(const char *address)
     return mqsi_is_here((const struct sockaddr *)&six);
 }
 
-/* Whether a server at this address gets moments. */
+static int option(int fd, int level, int name)
+{
+    int value = -1;
+    socklen_t size = sizeof value;
+    return getsockopt(fd, level, name, &value, &size) < 0 ? -1 : value;
+}
+
+/* Whether a server at this address gets moments. It is probed while it says nothing. */
 static int gets_moments(struct sockaddr_in at)
 {
     int listener = socket(AF_INET, SOCK_STREAM, 0), client = socket(AF_INET, SOCK_STREAM, 0);
@@ -238,6 +270,8 @@ static int gets_moments(struct sockaddr_in at)
     put(started, sizeof started);
     struct mqs *c = mqs_attach(client, "key", LONG_MS);
     if (!c) abort();
+    CHECK(option(client, SOL_SOCKET, SO_KEEPALIVE) == 1 && option(client, IPPROTO_TCP, TCP_KEEPIDLE) == 60);
+    CHECK(option(client, IPPROTO_TCP, TCP_KEEPINTVL) == 10 && option(client, IPPROTO_TCP, TCP_KEEPCNT) == 6);
     sent(RECEIVE);
     put(served[RECEIVE].bytes, served[RECEIVE].size);
     CHECK(call(c, RECEIVE, &until) == 3);

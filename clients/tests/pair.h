@@ -68,7 +68,7 @@ static struct timespec in_ms(long ms)
 /* Answers after a while, as a thread. */
 struct later { const void *bytes; size_t size; int after_ms; };
 
-static void *answer_later(void *arg)
+__attribute__((unused)) static void *answer_later(void *arg)
 {
     const struct later *l = arg;
     usleep((useconds_t)l->after_ms * 1000);

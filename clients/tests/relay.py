@@ -35,12 +35,15 @@ def own_address():
 class Relay:
     """Passes on what comes to `address`, which is of `host`. `ahead`: by how many milliseconds the server's clock seems to be ahead.
     `overtake`: a send waits for an Interrupt, and that waits until the send was answered. `holding`: calls, of which each is made as an
-    answer comes that is held back then."""
+    answer comes that is held back then. `flowing`: while it isn't set nothing is passed on, as by a server that stands still.
+    `linger`: so many seconds after one end's end the other one learns of it."""
 
-    def __init__(self, server, host="127.0.0.1", ahead=0, overtake=False):
+    def __init__(self, server, host="127.0.0.1", ahead=0, overtake=False, port=0):
         self.server, self.ahead, self.overtake, self.holding, self.requests, self.ends = server, ahead, overtake, [], [], []
         self.interrupted, self.sent = threading.Event(), threading.Event()
-        self.listener = socket.create_server((host, 0), backlog=128)
+        self.flowing, self.linger = threading.Event(), 0.0
+        self.flowing.set()
+        self.listener = socket.create_server((host, port), backlog=128)
         self.address = "%s:%d" % self.listener.getsockname()
         threading.Thread(target=self.accept, daemon=True).start()
 
@@ -54,10 +57,10 @@ class Relay:
                 for way, ends in ((self.pass_requests, (client, server)), (self.pass_answers, (server, client))):
                     threading.Thread(target=self.run, args=(way, *ends), daemon=True).start()
 
-    @staticmethod
-    def run(way, source, target):
+    def run(self, way, source, target):
         with contextlib.suppress(OSError):   # as where the other end is closed
             way(source, target)
+            time.sleep(self.linger)
             target.shutdown(socket.SHUT_RDWR)
 
     def pass_requests(self, source, target):
@@ -70,6 +73,7 @@ class Relay:
             self.requests.append(body[0])
             if self.overtake:
                 self.hold(body[0])
+            self.flowing.wait()
             target.sendall(head + self.shifted(body))
 
     def shifted(self, body):
@@ -95,10 +99,16 @@ class Relay:
             if self.holding:
                 self.holding.pop(0)()
                 time.sleep(HELD_BACK_S)
+            self.flowing.wait()
             target.sendall(piece)
             piece = source.recv(65536)
 
     def close(self):
+        self.flowing.set()
+        with contextlib.suppress(OSError):
+            self.listener.shutdown(socket.SHUT_RDWR)
         self.listener.close()
         for end in self.ends:
+            with contextlib.suppress(OSError):
+                end.shutdown(socket.SHUT_RDWR)      # a stream of another thread keeps it open
             end.close()

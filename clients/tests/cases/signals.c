@@ -124,6 +124,26 @@ static void posted_by_handler(void)
     show("posted by its own handler", r);
 }
 
+static void *signal_later(void *thread)
+{
+    pause_ms(300);
+    pthread_kill(*(pthread_t *)thread, SIGRTMIN);
+    return NULL;
+}
+
+/* A real-time signal alone. */
+static void in_real_time(void)
+{
+    pthread_t own = pthread_self(), thread;
+    struct timespec until = in_ms(3000);
+    handle(SIGRTMIN, count, 0);
+    hits = 0;
+    pthread_create(&thread, NULL, signal_later, &own);
+    SHOW(mq_timedreceive(q, data, 16, NULL, &until));
+    pthread_join(thread, NULL);
+    say("signals came", hits);
+}
+
 int main(void)
 {
     q = new_queue("/signals", 1, 16);
@@ -132,6 +152,7 @@ int main(void)
     restarted();
     timed_and_restarted();
     posted_by_handler();
+    in_real_time();
     SHOW(mq_close(q) | mq_unlink("/signals"));
     SHOW(sem_close(s) | sem_unlink("/signals"));
     return 0;

@@ -1,0 +1,4 @@
+"""python3 -m mqserve top."""
+from .top import main
+
+raise SystemExit(main())
