@@ -1,4 +1,4 @@
-.PHONY: demo run quick build install uninstall dist deb test rows ways docs faults clients clients-test conformance
+.PHONY: demo run quick build install uninstall dist deb test edits rows ways retold docs faults clients clients-test clients-fuzz conformance
 
 PREFIX = /usr/local
 
@@ -36,7 +36,11 @@ PROGRAMS ?=
 # DESTDIR as the clients' folder has it: a relative path is of this one.
 STAGE = $(if $(filter-out /%,$(firstword $(DESTDIR))),$(CURDIR)/)$(DESTDIR)
 
-# Puts the proved programs into $(PREFIX)/bin, and what a service needs beside them: service/README.md goes on.
+# Where the pages for users and operators go.
+DOCDIR = $(PREFIX)/share/doc/mqserve
+
+# Puts the proved programs into $(PREFIX)/bin, what a service needs into the folders for it, and the documents into $(DOCDIR):
+# docs/run/service.md goes on.
 install: $(if $(PROGRAMS),,build)
 	install -D -m 755 "$(or $(PROGRAMS),crates/mqserve/out)/mqserve" "$(DESTDIR)$(PREFIX)/bin/mqserve"
 	install -D -m 755 "$(or $(PROGRAMS),crates/mqctl/out)/mqctl" "$(DESTDIR)$(PREFIX)/bin/mqctl"
@@ -45,6 +49,7 @@ install: $(if $(PROGRAMS),,build)
 	sed -i 's,/usr/local/,$(PREFIX)/,' "$(DESTDIR)$(PREFIX)/lib/systemd/system/mqserve.service"
 	install -D -m 644 service/mqserve.sysusers "$(DESTDIR)$(PREFIX)/lib/sysusers.d/mqserve.conf"
 	install -D -m 600 service/users.example "$(DESTDIR)$(PREFIX)/share/mqserve/users.example"
+	tools/install_pages.py "$(DESTDIR)$(DOCDIR)"
 	$(MAKE) -C clients install DESTDIR="$(STAGE)" PREFIX="$(PREFIX)"
 
 # Takes back what make install put below $(PREFIX).
@@ -52,6 +57,7 @@ uninstall:
 	rm -f "$(DESTDIR)$(PREFIX)/bin/mqserve" "$(DESTDIR)$(PREFIX)/bin/mqctl" "$(DESTDIR)$(PREFIX)/bin/mqserve-users" \
 		"$(DESTDIR)$(PREFIX)/lib/systemd/system/mqserve.service" "$(DESTDIR)$(PREFIX)/lib/sysusers.d/mqserve.conf" \
 		"$(DESTDIR)$(PREFIX)/share/mqserve/users.example"
+	tools/install_pages.py --remove "$(DESTDIR)$(DOCDIR)"
 	$(MAKE) -C clients uninstall DESTDIR="$(STAGE)" PREFIX="$(PREFIX)"
 
 # An archive of the sources, and a Debian package of what make install puts in place, in out.
@@ -69,6 +75,11 @@ clients:
 clients-test:
 	$(MAKE) -C clients test
 
+# Programs over each client behind a relay that cuts, delays, drops, repeats and garbles answers: make clients-fuzz RUNS=10000 SEED=2. The
+# clients' tests have 200 such runs.
+clients-fuzz:
+	$(MAKE) -C clients clients-fuzz
+
 # Programs of others, on the kernel's queues and on a server. It needs the network, and is no part of the gate.
 conformance:
 	$(MAKE) -C clients conformance
@@ -78,6 +89,11 @@ conformance:
 test:
 	@RT_JOBS=$${RT_JOBS:-$$(nproc)} rt ci
 
+# The wrong bodies that the gate leaves out, each of which must be refused too, over the proofs that `rt ci` kept; with CRATE=NAME
+# those of one crate.
+edits:
+	@tools/edits.py $(CRATE)
+
 # Runs the programs that make test or make build left, over inputs whose outcome is known: both streams, and statuses.
 rows:
 	@rows/trails.py --check
@@ -86,6 +102,9 @@ rows:
 	@rows/bounds.py
 	@rows/user_sockets.py
 	@rows/served_trails.py
+	@rows/retellings.py
+	@rows/retold.py
+	@rows/carried.py
 	@rows/metrics.py
 
 # Plays random scripts through a script and through a server, and compares every answer. `make ways SCRIPTS=1000` plays more.
@@ -93,11 +112,31 @@ SCRIPTS = 50
 ways:
 	@rows/two_ways.py $(SCRIPTS)
 
-# Compares the documents with what they speak of.
+# Retells random trails, and compares what lives in both and how servers go on from both: make retold COUNT=2000 CONTINUATIONS=3. The rows have 20.
+COUNT = 200
+CONTINUATIONS = 1
+retold:
+	@rows/retold.py $(COUNT) --continuations $(CONTINUATIONS)
+
+# Compares the documents with what they speak of, and looks at their links, words and sentences.
 docs:
 	@tools/documents.py
+
+.PHONY: generate pictures blocks
+
+# Writes the pages, and the parts of pages, that are generated from the sources; and the pictures that are generated from figures.
+generate:
+	@tools/generate.py
+
+pictures:
+	@tools/pictures.py
+
+# Runs the shell blocks of the pages for users and operators, and compares what they print with the page. PAGES=FILE.. runs those alone.
+blocks:
+	@tools/blocks.py $(PAGES)
 
 # Refuses each growth in turn, and disturbs each read and write in turn, in the programs that make test left. The last line
 # counts the allocations refused and the runs that failed.
 faults:
 	@faults/run.py
+	@faults/switched.py

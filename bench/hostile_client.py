@@ -1,6 +1,6 @@
 """What hostile.py sends: frames, clients, the pair that passes messages, and malformed streams.
 
-How a stream must be read is written anew here from docs/FRAMES.md, and not taken from the server.
+How a stream must be read is written anew here from docs/ref/protocol.md, and not taken from the server.
 """
 
 import collections

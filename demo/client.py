@@ -1,5 +1,5 @@
 #!/usr/bin/env python3
-"""demo/client.py ADDRESS KEY: runs each line of standard input as Python, beside the names of clients/python/mqserve.py, and prints
+"""demo/client.py ADDRESS KEY: runs each line of standard input as Python, beside the names of clients/python/mqserve, and prints
 what it gives or raises, and then an empty line."""
 
 import os

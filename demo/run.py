@@ -26,12 +26,13 @@ WAITS = "      (waits: the queue is empty)"
 STEPS = [
     ("ann", 'jobs = MessageQueue("/jobs", O_CREX, mode=0o644)', ["ann"]),
     ("bob", 'jobs = MessageQueue("/jobs", write=False)', ["bob"]),
+    ("bob", "jobs.current_messages", ["bob"]),
     ("bob", "jobs.receive()", None),
     ("ann", 'jobs.send("build-7", priority=5)', ["ann", "bob"]),
     ("bob", "jobs.unlink()", ["bob"]),
 ]
-# What root asks by mqctl. Records 15 to 17 are of the receive, the send and the unlink.
-ASKED = [["list"], ["audit", "15", "3"]]
+# What root asks by mqctl. Records 16 to 18 are of the receive, the send and the unlink.
+ASKED = [["list"], ["audit", "16", "3"]]
 # One looks whether the server serves. Each client in Python has two, of which one is for calls that wait.
 CONNECTIONS = 1 + 2 * len(KEYS)
 

@@ -7,6 +7,7 @@ refused too. Each run is judged by itself:
 - test_memory makes again what is refused: it prints its `stdout`, with status 0.
 - mqserve and mqctl, over NAME.in, print NAME.out; or, where memory is refused or a read or a write fails, they end with
   the status and the words of that, and what they have printed by then are the first lines of NAME.out.
+- mqserve compact and mqserve same, over a trail in two files, end so too, and change no file: a new one is whole, or isn't left.
 - mqserve serve, with two clients one after the other, ends so too, or with status 0: then each client got the first of
   its answers. It serves by a worker and on one thread, over TCP and at a Unix socket. One thread that is refused memory for good
   may also accept nobody any more, and go on. mqctl ADDRESS KEY has a server that answers at once.
@@ -31,6 +32,7 @@ import sys
 import tempfile
 
 from programs import Fault, Program
+from retelling import retellings
 from served import Client, Loopback, Server, UnixSocket, UsersSockets, answers_of, frame, short_talk
 from tries import tries_differences
 
@@ -80,6 +82,7 @@ def programs(folder):
     script = ["script", "--queues-max", "256"]
     yield Program("mqserve", at("mqserve"), script, beside("mqserve", ".in"), beside("mqserve", ".out"), 0)
     yield Program("mqctl", at("mqctl"), [], beside("mqctl", ".in"), beside("mqctl", ".out"), 1)
+    yield from retellings(at("mqserve"))
     yield from servers(at("mqserve"))
     refused = frame(b"\x4c\0\x08")
     lines, printed = b"umask 000\nmq-close 7\n-\n", b"mask 022\nrefused 8 EBADF BadDescr\nfault usage\n"

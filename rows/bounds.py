@@ -12,9 +12,9 @@ import struct
 import sys
 
 sys.dont_write_bytecode = True
-from servers import (HELLO, MASK, MQ_OPEN, MQ_SEND, ONE_THREAD, OPENED, RECEIVED, REFUSED, SECONDS, SEM_OPEN, SENT, STARTED,  # noqa: E402
-                     UMASK, HungUp, Wrong, connect, ends, exactly, frame, is_answer, is_same, is_silent, programs_given, serving, told,
-                     told_of)
+from calls import INTERRUPT, MQ_OPEN, MQ_RECEIVE, MQ_SEND, MQ_UNLINK, SEM_CLOSE, SEM_OPEN, UMASK, frame  # noqa: E402
+from servers import (HELLO, MASK, ONE_THREAD, OPENED, RECEIVED, REFUSED, SECONDS, SENT, STARTED, HungUp, Wrong, connect, ends,  # noqa: E402
+                     exactly, is_answer, is_same, is_silent, programs_given, serving, told, told_of)
 
 LITTLE_MEMORY, FEW_CALLS = 64 << 20, 100_000
 # Less memory than as many semaphores take as may have names, and more.
@@ -25,7 +25,7 @@ MANY_CALLS, FEW_RECORDS = 2_000_000, 1_000
 FEW_BYTES, MANY_SMALL, MANY_LARGE, LARGE = 1 << 20, 8_000, 2_000, 60_000
 LONG_FRAMES, LONGEST, SOME_MEMORY = 16, 16_777_000, 192 << 20
 MANY_CLIENTS, MANY_AHEAD, SOME_AHEAD = 1_200, 13_000, 2_000
-MQ_UNLINK, MQ_RECEIVE, SEM_CLOSE, INTERRUPT, DONE = 5, 7, 12, 23, 66
+DONE = 66
 
 
 def without_memory(programs, address, *words):

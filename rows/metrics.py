@@ -19,8 +19,9 @@ import threading
 import time
 
 sys.dont_write_bytecode = True
-from servers import (HELLO, MASK, MQ_OPEN, MQ_SEND, ONE_THREAD, OPENED, REFUSED, SECONDS, SEM_OPEN, SENT, STARTED, UMASK, USERS,  # noqa: E402
-                     Wrong, connect, ends, frame, free_port, is_answer, is_same, programs_given, serving)
+from calls import MQ_OPEN, MQ_SEND, SEM_OPEN, UMASK, frame  # noqa: E402
+from servers import (HELLO, MASK, ONE_THREAD, OPENED, REFUSED, SECONDS, SENT, STARTED, USERS, Wrong, connect, ends, free_port,  # noqa: E402
+                     is_answer, is_same, programs_given, serving)
 
 NAME, LABEL = "[a-zA-Z_:][a-zA-Z0-9_:]*", "[a-zA-Z_][a-zA-Z0-9_]*"
 VALUE = r'"(?:[^"\\\n]|\\\\|\\"|\\n)*"'
@@ -28,10 +29,11 @@ SAMPLE = re.compile(rf"({NAME})(?:\{{((?:{LABEL}={VALUE},)*(?:{LABEL}={VALUE})?)
 COMMENT = re.compile(rf"# (HELP|TYPE) ({NAME}) (.*)")
 KINDS = ("counter", "gauge", "histogram", "summary", "untyped")
 MOST_SCRAPERS, FEW_FILES = 8, 24
+FEW_RECORDS = 1_000
 MODE_DENIED, BAD_KEY = 15, 31
 RULES = 33
 GET = b"GET /metrics HTTP/1.1\r\nHost: here\r\n\r\n"
-QUEUE, SEMAPHORE = b"/secret-queue", b"/secret-semaphore"
+QUEUES, SEMAPHORE = (b"/secret-queue", b"/secret-other-queue"), b"/secret-semaphore"
 MESSAGES = (b"secret-one", b"secret-and-two")
 
 
@@ -132,18 +134,19 @@ def opening(opcode, name, rest):
 
 
 def life(place, stack):
-    """Two sessions: root makes a queue with two messages and a semaphore, and the queue's mode refuses Ann."""
+    """Two sessions: root makes two queues, of which the second gets two messages, and a semaphore, and that queue's mode refuses Ann."""
     root, ann = (stack.enter_context(greeted(place, key)) for key in (b"r00t", b"ka1"))
     for stream in (root, ann):
         is_answer(stream, STARTED)
-    root.sendall(opening(MQ_OPEN, QUEUE, b"\3\1\1\x80\0"))
-    is_answer(root, OPENED)
+    for queue in QUEUES:
+        root.sendall(opening(MQ_OPEN, queue, b"\3\1\1\x80\0"))
+        description = is_answer(root, OPENED)
     for message in MESSAGES:
-        root.sendall(frame(MQ_SEND, struct.pack(">QI", 0, 1) + message))
+        root.sendall(frame(MQ_SEND, description + struct.pack(">I", 1) + message))
         is_answer(root, SENT)
     root.sendall(opening(SEM_OPEN, SEMAPHORE, b"\1\1\x80" + bytes(4)))
     is_answer(root, OPENED)
-    ann.sendall(opening(MQ_OPEN, QUEUE, b"\3\0\0\0\0"))
+    ann.sendall(opening(MQ_OPEN, QUEUES[-1], b"\3\0\0\0\0"))
     is_answer(ann, REFUSED)
     return root, ann
 
@@ -158,10 +161,10 @@ def numbers_of_a_life(programs, place):
         text = page_at(place.numbers)
         is_same("names and messages", "secret" in text, False)
         found = samples_of(text)
-        wanted = {"mqserve_sessions": 2, "mqserve_connections": 2, 'mqserve_objects{family="mq"}': 1, 'mqserve_objects{family="sem"}': 1,
+        wanted = {"mqserve_sessions": 2, "mqserve_connections": 2, 'mqserve_objects{family="mq"}': 2, 'mqserve_objects{family="sem"}': 1,
                   "mqserve_messages": 2, "mqserve_message_bytes": sum(map(len, MESSAGES)),
-                  "mqserve_charged_bytes": 10 * (48 + 8_192) + 48 * 10, "mqserve_records_kept": 8,
-                  "mqserve_records_total": 8, "mqserve_accepted_total": 6}
+                  "mqserve_charged_bytes": 2 * (10 * (48 + 8_192) + 48 * 10), "mqserve_records_kept": 9,
+                  "mqserve_records_total": 9, "mqserve_accepted_total": 7}
         for key, value in wanted.items():
             is_same(key, count(found, key), value)
         refused = {number: count_of_rule(found, number) for number in range(1, RULES + 1)}
@@ -171,6 +174,42 @@ def numbers_of_a_life(programs, place):
         for client in clients:
             client.close()
         ends(server, 3)
+
+
+def numbers_of_what_is_forgotten(programs, place):
+    """Where few records are kept, all that were made are counted."""
+    with place.serving(programs, 1, "--keep-records", str(FEW_RECORDS)) as server:
+        with greeted(place) as client:
+            is_answer(client, STARTED)
+            client.sendall(frame(UMASK, b"\0\0") * 2 * FEW_RECORDS)
+            for _ in range(2 * FEW_RECORDS):
+                is_answer(client, MASK)
+            found = samples_of(page_at(place.numbers))
+            wanted = {"mqserve_records_total": 2 * FEW_RECORDS + 1, "mqserve_accepted_total": 2 * FEW_RECORDS + 1,
+                      "mqserve_records_kept": FEW_RECORDS}
+            for key, value in wanted.items():
+                is_same(key, count(found, key), value)
+        ends(server, 1)
+
+
+def numbers_behind_a_trail(programs, place):
+    """A server that goes on with a trail counts its records among all, and verdicts from its start on."""
+    trail = ["--trail-file", str(place.room / "trail")]
+    with place.serving(programs, 3, *trail) as server, contextlib.ExitStack() as stack:
+        life(place, stack)
+        server.kill()
+        server.wait()
+    with place.serving(programs, 1, *trail) as server:
+        found = samples_of(page_at(place.numbers))
+        # The two sessions that lived hang up before anybody is served.
+        wanted = {"mqserve_sessions": 0, "mqserve_connections": 0, 'mqserve_objects{family="mq"}': 2, 'mqserve_objects{family="sem"}': 1,
+                  "mqserve_messages": 2, "mqserve_records_kept": 2, "mqserve_records_total": 10, "mqserve_accepted_total": 0}
+        for key, value in wanted.items():
+            is_same(key, count(found, key), value)
+        refused = sum(count_of_rule(found, number) for number in range(1, RULES + 1))
+        is_same("refusals", refused, 0)
+        connect(place.address).close()
+        ends(server, 1)
 
 
 def count(found, key):
@@ -311,7 +350,7 @@ def told_to_the_log(programs, place):
         lines = [line for line in log.read_text().splitlines() if "event=kept" in line]
         # The life may have been in two seconds.
         is_same("how many lines", 1 <= len(lines) <= 2, True)
-        wanted = r"time=\d{13} event=kept records=7 bytes=\d+ sessions=2 connections=2 objects=2 messages=2 resident=\d+"
+        wanted = r"time=\d{13} event=kept records=8 bytes=\d+ sessions=2 connections=2 objects=3 messages=2 resident=\d+"
         is_same(f"the line {lines[-1]}", bool(re.fullmatch(wanted, lines[-1])), True)
         for client in clients:
             client.close()
@@ -320,6 +359,8 @@ def told_to_the_log(programs, place):
 
 CASES = {
     "numbers of a life": numbers_of_a_life,
+    "numbers of what is forgotten": numbers_of_what_is_forgotten,
+    "numbers behind a trail": numbers_behind_a_trail,
     "other requests": other_requests,
     "a request in pieces": in_pieces,
     "clients that send nothing": silent_ones,

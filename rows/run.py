@@ -14,6 +14,7 @@ import dataclasses
 import os
 import pathlib
 import re
+import shlex
 import socket
 import subprocess
 import sys
@@ -64,6 +65,8 @@ class Case:
     clients: tuple = ()
     # The folder of the programs, where it isn't that of builds.
     programs: pathlib.Path = None
+    # How many lines of standard error are compared, where it isn't all of them.
+    err_lines: int = None
 
 
 def cases_of(folder, program):
@@ -79,6 +82,15 @@ def cases_of(folder, program):
             int(beside(".status") or 0),
             folder=TOP / folder,
         )
+
+
+def argument_cases():
+    """The statuses of words after `mqserve`, and the first line of what standard error gets. The script has no steps."""
+    for line in (TOP / "rows/mqserve/arguments.tsv").read_text().splitlines():
+        status, words, err = line.split("\t")
+        arguments = [word.encode() for word in shlex.split(words)]
+        wanted = f"{err}\n" if err else ""
+        yield Case(f"mqserve {words}".strip(), "mqserve", arguments, b".\n", b"", wanted.encode(), int(status), err_lines=1)
 
 
 def made_cases(calls):
@@ -155,10 +167,11 @@ def served_cases():
     yield Case("mqctl a word with a line feed", "mqctl", [b"127.0.0.1:1", *feed], b"", b"", b"mqctl: arguments\n", 2)
 
 
-def readme_case():
-    """The first two blocks of README.md: a script, and what it prints."""
-    blocks = re.findall(r"(?ms)^```\n(.*?)^```", (TOP / "README.md").read_text())
-    return Case("mqserve README.md's example", "mqserve", [], blocks[0].encode(), blocks[1].encode())
+def page_case():
+    """The script of docs/use/commands.md, and what it prints."""
+    page = (TOP / "docs/use/commands.md").read_text(encoding="utf-8")
+    [(script, printed)] = re.findall(r"(?ms)^```sh\nmqserve <<'END'\n(.*?)^END\n```\n\n```text\n(.*?)^```", page)
+    return Case("mqserve the example of a script", "mqserve", [], script.encode(), printed.encode())
 
 
 def serve(listener, served, got):
@@ -240,6 +253,7 @@ def judged(case):
     """Returns where the program does other than it must, or nothing."""
     try:
         out, err, status = run(case)
+        err = b"".join(err.splitlines(keepends=True)[: case.err_lines])
     except (OSError, subprocess.TimeoutExpired) as fault:
         return str(fault)
     for stream, given, wanted in (("standard output", out, case.out), ("standard error", err, case.err)):
@@ -254,7 +268,7 @@ def main():
     asked = parser.parse_args()
     programs = asked.programs and asked.programs.resolve()
     cases = [case for folder, program in FOLDERS.items() for case in cases_of(folder, program)]
-    cases += [readme_case(), *made_cases(CALLS)]
+    cases += [page_case(), *argument_cases(), *made_cases(CALLS)]
     failed = 0
     for case in cases:
         difference = judged(dataclasses.replace(case, programs=programs))

@@ -1,5 +1,5 @@
 #!/usr/bin/env python3
-"""Runs the built server on one thread with its trail in a file, reads the file as docs/TRAIL.md says, and has it replayed. Prints a line
+"""Runs the built server on one thread with its trail in a file, reads the file as docs/ref/trail-format.md says, and has it replayed. Prints a line
 for each case and a last line with the counts; the status is 1 where one is not as it must be.
 
 `--programs FOLDER` takes `mqserve` and `mqctl` from there, `--calls COMMAND` puts words in front of each, and the variable KILLS says how
@@ -21,65 +21,31 @@ import time
 
 sys.dont_write_bytecode = True
 import servers  # noqa: E402
+import trail_files  # noqa: E402
 import trails  # noqa: E402
-from servers import (HELLO, MASK, MQ_OPEN, MQ_SEND, ONE_THREAD, OPENED, RECEIVED, SECONDS, SENT, STARTED, UMASK, USERS, Wrong,  # noqa: E402
-                     answer, connect, ends, frame, is_answer, is_same, is_silent, serving, told)
+from calls import MQ_OPEN, MQ_RECEIVE, MQ_SEND, UMASK, frame  # noqa: E402
+from servers import (HELLO, MASK, ONE_THREAD, OPENED, RECEIVED, SECONDS, SENT, STARTED, USERS, Wrong, answer, connect, ends,  # noqa: E402
+                     is_answer, is_same, is_silent, serving, told)
+from trail_files import AROUND, BEFORE_FIELDS, HEAD_LEN, MAGIC, crc32c, records_in  # noqa: E402
 
-MQ_RECEIVE = 7
 KILLS = int(os.environ.get("KILLS", "20"))
 LOAD = 3
-HEAD, AROUND = 40, 12
-CASTAGNOLI = 0x82F63B78
 
 
 # ---- the file, as its page says
 
 
-def remainder(byte):
-    for _ in range(8):
-        byte = byte >> 1 ^ (CASTAGNOLI if byte & 1 else 0)
-    return byte
-
-
-REMAINDERS = [remainder(byte) for byte in range(256)]
-
-
-def crc32c(data):
-    crc = 0xFFFFFFFF
-    for byte in data:
-        crc = crc >> 8 ^ REMAINDERS[(crc ^ byte) & 255]
-    return crc ^ 0xFFFFFFFF
-
-
-def unsummed(data, at, size):
-    """So many bytes, behind which their sum stands; None where they aren't whole."""
-    if len(data) < at + size + 4:
-        return None
-    text, total = data[at:at + size], int.from_bytes(data[at + size:at + size + 4], "big")
-    is_same(f"the sum at byte {at}", crc32c(text), total)
-    return text
-
-
 def records_of(path, first=0):
     """The verdict, kind and fields of each record from the first place on, and whether bytes of one more follow."""
     data = path.read_bytes()
-    head = unsummed(data, 0, HEAD - 4)
-    is_same("magic and first place", head[:16], b"MQTRAIL1" + first.to_bytes(8, "big"))
-    at, records = HEAD, []
-    while True:
-        size = unsummed(data, at, 4)
-        body = size and unsummed(data, at + 8, int.from_bytes(size, "big"))
-        if body is None:
-            return records, at < len(data)
-        is_same("place", int.from_bytes(body[:8], "big"), first + len(records))
-        records.append((body[8], body[9], body[10:]))
-        at += AROUND + len(body)
+    records, end = records_in(data, first)
+    return records, end < len(data)
 
 
 def calls_of(records, opcode):
     """The session and fields of each accepted call of this opcode."""
     for verdict, kind, fields in records:
-        if verdict == 0 and kind == 2 and fields[12] == opcode:
+        if verdict == 0 and kind == trail_files.CALL and fields[12] == opcode:
             yield int.from_bytes(fields[:8], "big"), fields[13:]
 
 
@@ -348,12 +314,32 @@ def torn(programs, place, *words):
         asked(programs, place, "ka1", "mq-open /jobs rw --create")
         ends(server, 1)
     whole, records = place.trail.read_bytes(), records_of(place.trail)[0]
-    last = AROUND + 10 + len(records[-1][2])
+    last = AROUND + BEFORE_FIELDS + len(records[-1][2])
     for cut in (1, last // 2, last - 1):
         place.trail.write_bytes(whole[:-cut])
         with recording(programs, place, "--stop-after", "0", *words) as server:
             ends(server, 0)
         is_same("the file", place.trail.read_bytes() == whole, True)
+    is_legal(programs, place.trail)
+
+
+def end_of(records):
+    """The byte at which so many records of a first file end."""
+    return HEAD_LEN + sum(AROUND + BEFORE_FIELDS + len(fields) for _, _, fields in records)
+
+
+def torn_send(programs, place, *words):
+    """A long send that is torn is cut off whole: what is written next is shorter."""
+    with recording(programs, place, *words) as server:
+        asked(programs, place, "ka1", "mq-open /jobs rw --create", f"send /jobs 1 {'x' * 3_000}")
+        crash(server)
+    whole, records = place.trail.read_bytes(), place.records()
+    at = next(at for at, (_, kind, fields) in enumerate(records) if kind == 2 and fields[12] == MQ_SEND)
+    place.trail.write_bytes(whole[:end_of(records[:at]) + 1_500])
+    with recording(programs, place, *words) as server:
+        is_same("sent", asked(programs, place, "ka1", "send /jobs 1 short", "receive /jobs"), [b"sent\n", b"received 1 short\n"])
+        crash(server)
+    is_same("what stood before it", place.records()[:at], records[:at])
     is_legal(programs, place.trail)
 
 
@@ -370,8 +356,8 @@ def not_started_from(programs, place, *words):
         asked(programs, place, "ka1", "mq-open /jobs rw --create")
         ends(server, 1)
     whole = place.trail.read_bytes()
-    size = int.from_bytes(whole[HEAD:HEAD + 4], "big")
-    second = HEAD + AROUND + size
+    size = int.from_bytes(whole[HEAD_LEN:HEAD_LEN + 4], "big")
+    second = HEAD_LEN + AROUND + size
     place.trail.write_bytes(whole[:second + 8] + bytes([whole[second + 8] ^ 1]) + whole[second + 9:])
     refuses(programs, place, b" record 1: sum of other bytes", 6, *words)
     place.trail.write_bytes(forged(whole, second, int.from_bytes(whole[second:second + 4], "big"), 8))
@@ -515,11 +501,86 @@ def in_more_files(programs, place, *words):
         refuses(programs, place, b" head: begins at %d" % int(other.suffix[1:]), 6, *SEGMENT, *words)
         aside.rename(missing)
     other = place.room / f"trail.{len(place.records())}"
-    other.write_bytes(b"MQTRAIL1")
+    other.write_bytes(MAGIC)
     with recording(programs, place, "--stop-after", "0", *words) as server:
         ends(server, 0)
     is_same("whether a file without a whole head is left", other.exists(), False)
     is_same("the files", place.files(), files)
+
+
+def last_file_at_fault(programs, place, *words):
+    """The last of several files stays as it is where a byte of it is changed, and nothing is started from it; where its last record is torn,
+    that is cut off."""
+    with recording(programs, place, "--stop-after", "1", *SEGMENT, *words) as server:
+        calls_many(place)
+        ends(server, 1)
+    last = place.files()[-1]
+    first, whole = int(last.suffix[1:]), last.read_bytes()
+    records = records_of(last, first)[0]
+    last.write_bytes(whole[:HEAD_LEN + 8] + bytes([whole[HEAD_LEN + 8] ^ 1]) + whole[HEAD_LEN + 9:])
+    refuses(programs, place, b" record %d: sum of other bytes" % first, 6, *SEGMENT, *words)
+    last.write_bytes(whole[:-3])
+    with recording(programs, place, "--stop-after", "0", *words) as server:
+        ends(server, 0)
+    is_same("whether the last file is whole again", (records_of(last, first), last.read_bytes() == whole), ((records, False), True))
+    is_legal(programs, *place.files())
+
+
+NOTING = r"""
+#define _GNU_SOURCE
+#include <fcntl.h>
+#include <stdio.h>
+#include <stdlib.h>
+#include <unistd.h>
+
+static int note(const char *call, int fd)
+{
+    char link[64], path[4096];
+    snprintf(link, sizeof link, "/proc/self/fd/%d", fd);
+    ssize_t size = readlink(link, path, sizeof path);
+    int out = open(getenv("NOTED"), O_WRONLY | O_CREAT | O_APPEND, 0600);
+    dprintf(out, "%s %.*s\n", call, (int)(size < 0 ? 0 : size), path);
+    return close(out);
+}
+
+int fsync(int fd) { return note("fsync", fd); }
+int fdatasync(int fd) { return note("fdatasync", fd); }
+"""
+
+
+def synced_by(programs, place, clients, *words):
+    """What a server syncs in a life with so many clients: each call and path once in a row."""
+    source, library, noted = (place.room.parent / f"{place.room.name}.{kind}" for kind in ("c", "so", "noted"))
+    source.write_text(NOTING)
+    try:
+        subprocess.run(["cc", "-shared", "-fPIC", "-o", library, source], check=True)
+        front = servers.Programs(None, [*programs.front, "env", f"LD_PRELOAD={library}", f"NOTED={noted}"])
+        front.files = programs.files
+        with recording(front, place, "--stop-after", str(clients), *words) as server:
+            for _ in range(clients):
+                calls_many(place)
+            ends(server, clients)
+        lines = noted.read_text().splitlines() if noted.exists() else []
+        return [tuple(line.split(" ", 1)) for line, before in zip(lines, [None, *lines]) if line != before]
+    finally:
+        for path in (source, library, noted):
+            path.unlink(missing_ok=True)
+
+
+def what_is_synced(programs, place, *words):
+    """A file is synced before the next one is made; with --trail-sync each file and its folder before anything goes out by it, and at the
+    next start the last one and the folder. That a file without a head is gone is synced in any case."""
+    data, folder = (lambda path: ("fdatasync", str(path))), ("fsync", str(place.room))
+    found, files = synced_by(programs, place, 2, *SEGMENT, *words), place.files()
+    is_same("whether there are enough files", len(files) > 2, True)
+    if not words:
+        is_same("what is synced", found, [data(path) for path in files[:-1]])
+    else:
+        wanted = [call for path in files for call in (data(path), folder, data(path))]
+        is_same("what is synced", found in (wanted, wanted[:-1]), True)
+    is_same("what a start syncs", synced_by(programs, place, 0, *words), [data(files[-1]), folder] if words else [])
+    (place.room / f"trail.{len(place.records())}").write_bytes(MAGIC)
+    is_same("what it syncs that removes a file", synced_by(programs, place, 0, *words)[:1], [folder])
 
 
 def no_next_file(programs, place, *words):
@@ -553,13 +614,15 @@ FAULTS = [
     (["first", "later"], "head: begins at 8"),
     (["first", "other_limits"], "head: other limits"),
     (["first", "other_users"], "head: other users"),
+    (["first", "other_retelling"], "head: other retelling"),
     (["first", "first"], "head: begins at 0"),
     (["first", "no_head"], "no head"),
     (["second"], "head: begins at 7"),
     (["other_users"], "head: other users"),
     (["no_limit"], "head: config MsgMax"),
     (["no_head"], "no head"),
-    (["other_version"], "head: not a trail of this version"),
+    (["earlier_version"], "head: not a trail of this version"),
+    (["later_version"], "head: not a trail of this version"),
     (["forged_refusal"], "record 5: other verdict"),
     (["forged_acceptance"], "record 14: other verdict"),
     (["missing"], "record 5: record of another place"),
@@ -567,8 +630,13 @@ FAULTS = [
     (["too_long"], "record 5: record too long"),
     (["byte_behind"], "record 5: bad field"),
     (["unknown_rule"], "record 5: bad field"),
+    (["retold_cut"], "record 8: cut off"),
+    (["unfinished"], f"record {len(trails.RETOLD)}: cut off"),
+    (["retold_first", "second"], "head: other retelling"),
+    (["retold_first", "retold_otherwise"], "head: other retelling"),
 ]
-LEGAL = [["life"], ["long"], ["empty"], ["first", "second"]]
+LEGAL = [["life"], ["long"], ["empty"], ["first", "second"], ["kept"], ["kept_torn"], ["retold"], ["retold_torn"], ["retold_first", "retold_second"], ["of_no_file"],
+         ["differs"], ["somebody_lives"]]
 
 
 def known(programs, place):
@@ -620,16 +688,20 @@ CASES = {
     "kills under load": killed,
     "what goes on": as_it_was,
     "a torn file": torn,
+    "a long send that is torn": torn_send,
     "files that are not started from": not_started_from,
     "a second server": one_at_a_time,
     "closed streams": without_streams,
     "kills, and going on": killed_and_gone_on,
     "more than one file": in_more_files,
+    "the last of several files": last_file_at_fault,
+    "what is synced": what_is_synced,
     "no next file": no_next_file,
     "kills, and going on in more files": killed_in_more_files,
 }
 # Those to which --trail-sync says nothing, and the one that is nothing without it.
 WITHOUT_SYNC, WITH_SYNC = {known, damaged}, {no_sync}
+WITH_A_COMPILER = {no_sync, what_is_synced}
 
 
 def ways_of(case):
@@ -652,7 +724,7 @@ def main():
     programs = servers.programs_given(__doc__)
     failed = count = 0
     for name, case in CASES.items():
-        if case is no_sync and not shutil.which("cc"):
+        if case in WITH_A_COMPILER and not shutil.which("cc"):
             print(f"trail: {name}: no C compiler here; passed over")
             continue
         for words in ways_of(case):

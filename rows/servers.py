@@ -19,8 +19,10 @@ import struct
 import subprocess
 import sys
 import tempfile
-import textwrap
 import time
+
+sys.dont_write_bytecode = True
+from calls import MQ_OPEN, MQ_SEND, MQ_TIMED_RECEIVE, SEM_OPEN, UMASK, frame  # noqa: E402
 
 TOP = pathlib.Path(__file__).resolve().parent.parent
 USERS = TOP / "rows" / "mqserve" / "two.users"
@@ -29,11 +31,12 @@ SECONDS_OF_AN_ANSWER = 4
 MANY = 200
 AT_ONCE, ROUNDS = 8, 5
 MUCH, MANY_REFUSED = 300_000, 40
+# 16 connections that were refused, and what a server has open besides.
+FEW_FILES = 32
 # As /proc/net/tcp has them.
 KEEPALIVE, MINUTE = 2, 6_000
 
-HELLO, UMASK, SEM_OPEN, STARTED, MASK = 1, 2, 11, 65, 68
-MQ_OPEN, MQ_SEND, MQ_TIMED_RECEIVE = 3, 6, 27
+HELLO, STARTED, MASK = 1, 65, 68
 OPENED, SENT, RECEIVED, REFUSED = 67, 70, 71, 76
 BAD_KEY, TIMED_OUT = 31, 32
 ONE_THREAD = ["--one-thread"]
@@ -135,10 +138,6 @@ def connect(address):
         return stream
     host, port = address.rsplit(":", 1)
     return socket.create_connection((host, int(port)), SECONDS)
-
-
-def frame(opcode, fields):
-    return struct.pack(">IB", 1 + len(fields), opcode) + fields
 
 
 def answer(stream):
@@ -359,7 +358,8 @@ def much_behind(programs, address, *words):
 
 
 def refused_who_stay(programs, address, *words):
-    """Many who are refused and stay read the refusal and the end of the stream at once, and others are served."""
+    """Many who are refused and stay read the refusal and the end of the stream at once, few of them are open files of the server, and others
+    are served."""
     with serving(programs, address, "--stop-after", str(MANY_REFUSED + 1), *words) as server, contextlib.ExitStack() as stack:
         streams = [stack.enter_context(connect(address)) for _ in range(MANY_REFUSED)]
         for stream in streams:
@@ -367,6 +367,8 @@ def refused_who_stay(programs, address, *words):
         for stream in streams:
             is_same("rule", is_answer(stream, REFUSED), struct.pack(">H", BAD_KEY))
             is_same("the end", stream.recv(1), b"")
+        files = len(os.listdir(f"/proc/{server.pid}/fd"))
+        is_same(f"{files} open files are few", files < FEW_FILES, True)
         is_same("refused", told(programs, address, "ka1", "mq-getattr", "0"), b"refused 8 EBADF BadDescr\n")
         ends(server, MANY_REFUSED + 1)
 
@@ -390,20 +392,31 @@ def timer_of(server_end, client_end):
     raise Wrong("the connection has no line in /proc/net/tcp")
 
 
-def readme_workers(programs, address, *words):
-    """README.md's program in Python: each letter goes to one of three workers."""
-    blocks = re.findall(r"(?m)(?:^(?:    .*)?\n)+", (TOP / "README.md").read_text())
-    [program] = [textwrap.dedent(block) for block in blocks if "import mqserve" in block]
+# With words it puts each into a queue as a letter; without it is a worker, which posts the letters that it gets.
+LETTERS = """
+import mqserve, sys
+
+queue = mqserve.MessageQueue("/mail", mqserve.O_CREAT)
+for letter in sys.argv[1:]:
+    queue.send(letter)
+while not sys.argv[1:]:
+    letter, priority = queue.receive()
+    print("posted", letter.decode(), flush=True)
+"""
+
+
+def letters(programs, address, *words):
+    """A program in Python: each letter goes to one of three workers."""
     env = {**os.environ, "MQSERVE": address, "MQSERVE_KEY": "ka1", "PYTHONPATH": str(TOP / "clients" / "python")}
     env.pop("PYTHONUNBUFFERED", None)  # it would part lines
-    command, letters = [sys.executable, "-B", "-c", program], [f"letter-{number}" for number in range(30)]
+    command, sent = [sys.executable, "-B", "-c", LETTERS], [f"letter-{number}" for number in range(30)]
     reading, writing = os.pipe()
     with serving(programs, address, *words), open(reading) as told:
         workers = [subprocess.Popen(command, env=env, stdout=writing) for _ in range(3)]
         os.close(writing)
         try:
-            subprocess.run([*command, *letters], env=env, check=True, timeout=SECONDS)
-            is_same("letters posted", sorted(told.readline() for _ in letters), sorted(f"posted {letter}\n" for letter in letters))
+            subprocess.run([*command, *sent], env=env, check=True, timeout=SECONDS)
+            is_same("letters posted", sorted(told.readline() for _ in sent), sorted(f"posted {letter}\n" for letter in sent))
         finally:
             for worker in workers:
                 worker.kill()
@@ -555,7 +568,7 @@ ANYWHERE = {
     "a log in a FIFO": (log_in_a_fifo, KINDS),
     "much behind a bad key": (much_behind, {"one thread": ONE_THREAD}),
     "refused clients that stay": (refused_who_stay, {"one thread": ONE_THREAD}),
-    "README.md's workers": (readme_workers, {"one thread": ONE_THREAD}),
+    "workers in Python": (letters, {"one thread": ONE_THREAD}),
 }
 OVER_TCP = {
     "a client that is silent": (probed, KINDS),

@@ -32,7 +32,7 @@ def is_plain(case):
 def cases_of(program):
     """The cases of the program, and by names that are files' names those that can be tried."""
     found = [case for folder, name in run.FOLDERS.items() if name == program for case in run.cases_of(folder, name)]
-    found += [case for case in [run.readme_case(), *run.made_cases(CALLS)] if case.program == program]
+    found += [case for case in [run.page_case(), *run.made_cases(CALLS)] if case.program == program]
     return found, {re.sub(r"\W+", "_", case.name): case for case in found if is_plain(case)}
 
 

@@ -224,9 +224,9 @@ RULES = {}
 
 
 def rules():
-    """Each rule's error and name by its number, from the table of docs/MAP.md."""
+    """Each rule's error and name by its number, from the table of docs/use/rules.md."""
     if not RULES:
-        for line in (TOP / "docs/MAP.md").read_text(encoding="utf-8").splitlines():
+        for line in (TOP / "docs/use/rules.md").read_text(encoding="utf-8").splitlines():
             cells = [cell.strip() for cell in line.split("|")]
             if len(cells) > 4 and cells[1].isdigit():
                 RULES[int(cells[1])] = f"{cells[3]} {cells[2]}"
@@ -251,10 +251,10 @@ COMMANDS = {}
 
 
 def command_of(number):
-    """The first word of the command of a request's opcode, from docs/FRAMES.md."""
+    """The first word of the command of a request's opcode, from docs/ref/protocol.md."""
     if not COMMANDS:
         COMMANDS.update({25: "hangup", TICKED: "tick"})
-        for code, name in re.findall(r"(?m)^ ?(\d+) ([A-Z]\w+)", (TOP / "docs/FRAMES.md").read_text(encoding="utf-8")):
+        for code, name in re.findall(r"(?m)^ ?(\d+) ([A-Z]\w+)", (TOP / "docs/ref/protocol.md").read_text(encoding="utf-8")):
             word = re.sub(r"^(Mq|Sem|Set)", r"\1-", name).lower()
             COMMANDS[int(code)] = {"listnames": "ls", "statname": "stat"}.get(word, word)
     return COMMANDS.get(number, str(number))
@@ -287,7 +287,7 @@ def page_in(line):
 
 
 def line_of(opcode, fields):
-    """The line of an answer, read anew from docs/FRAMES.md and docs/SCRIPTS.md."""
+    """The line of an answer, written from docs/ref/protocol.md and docs/use/commands.md alone."""
     word = {65: "started", 67: "opened", 72: "value", 78: "notice", 79: "taken"}.get(opcode)
     if word:
         return f"{word} {int.from_bytes(fields, 'big')}"

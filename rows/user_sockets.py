@@ -20,12 +20,13 @@ import tempfile
 
 sys.dont_write_bytecode = True
 import servers  # noqa: E402
-from servers import (HELLO, MASK, MQ_OPEN, MQ_SEND, ONE_THREAD, OPENED, RECEIVED, REFUSED, SECONDS, SENT, STARTED, UMASK, Wrong,  # noqa: E402
-                     connect, ends, frame, is_answer, is_same, leave_behind, serving)
+from calls import MQ_OPEN, MQ_RECEIVE, MQ_SEND, UMASK, frame  # noqa: E402
+from servers import (HELLO, MASK, ONE_THREAD, OPENED, RECEIVED, REFUSED, SECONDS, SENT, STARTED, Wrong, connect, ends, is_answer,  # noqa: E402
+                     is_same, leave_behind, serving)
 
 ANN, BOB, EVE = 61101, 61102, 61103
 USERS = {"root": 0, "ann": ANN, "bob": BOB}
-MQ_RECEIVE, MODE_DENIED = 7, 15
+MODE_DENIED = 15
 FLOOD, LEFT_OVER = 200, 20
 FEW_FILES, MANY_USERS = 24, 40
 LONGEST_PATH = 107
@@ -304,6 +305,20 @@ def that_right_alone(programs, folder):
     is_same("files", folder.files(), [])
 
 
+def given_to_others(programs, folder):
+    """A process without root's other rights replaces no socket whose owner, group or mode it wouldn't give, since it can't ask there."""
+    programs = own_copy(programs, folder, "setpriv", "--reuid", str(ANN), "--regid", str(ANN), "--clear-groups", "--inh-caps=-all,+chown",
+                        "--ambient-caps=-all,+chown", "--bounding-set=-all,+chown")
+    place = folder.path / "bob"
+    for owner, group, mode in ((BOB, EVE, 0o600), (EVE, BOB, 0o600), (BOB, BOB, 0o640)):
+        leave_behind(folder.socket("bob"))
+        os.chown(place, owner, group)
+        place.chmod(mode)
+        folder.fails(programs)
+        is_same("the socket", facts(place), (True, mode, owner, group))
+        place.unlink()
+
+
 def no_account(programs, folder):
     """No file has the ID 4,294,967,295 as its owner."""
     folder.write({"ann": ANN, "bob": 2**32 - 1})
@@ -366,6 +381,16 @@ def by_mqctl(programs, folder):
         ends(server, 5)
 
 
+def mqctl_of_its_user(programs, folder):
+    """Root, who may open each socket of the folder, acts by its own."""
+    folder.write({"root": 0, **{f"u{number}": ANN + number for number in range(LEFT_OVER)}})
+    own = f"unix-user:{folder.path}"
+    with folder.serving(programs, "--stop-after", "2") as server:
+        is_same("opened", servers.told(programs, own, "mq-open", "/jobs", "rw", "--create", "--mode", "0600"), b"opened 0\n")
+        is_same("whose it is", servers.told(programs, own, "stat", "mq", "/jobs"), b"stat 0 0 0600\n")
+        ends(server, 2)
+
+
 def exchanged(programs, folder):
     """A socket that was put in the place of the server's own stays when the server ends."""
     with folder.serving(programs, "--stop-after", "1") as server, socket.socket(socket.AF_UNIX) as other:
@@ -389,12 +414,14 @@ CASES = {
     "folders of others": folders_of_others,
     "no right to give files away": no_right,
     "this right alone": that_right_alone,
+    "sockets that were given to others": given_to_others,
     "a user that no file has": no_account,
     "more users than open files": too_many,
     "long paths": long_paths,
     "users that are wrong": wrong_users,
     "arguments that are wrong": wrong_arguments,
     "mqctl": by_mqctl,
+    "mqctl by the socket of its user": mqctl_of_its_user,
     "a socket that is exchanged": exchanged,
 }
 

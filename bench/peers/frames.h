@@ -1,4 +1,4 @@
-/* The frames of mqserve that are used here: docs/FRAMES.md has all. */
+/* The frames of mqserve that are used here: docs/ref/protocol.md has all. */
 #ifndef FRAMES_H
 #define FRAMES_H
 
