@@ -10,10 +10,10 @@ import shutil
 import subprocess
 import sys
 
-from programs import CRATES, NAMES, NO_KIT, TOP, below, uses
+from copies import copy, room
+from programs import CRATES, NAMES, NO_KIT, below, uses
 
-ROOM = (TOP / ".git" if (TOP / ".git").is_dir() else TOP / "out") / "build"
-PARTS = ["src", "specs", "proofs"]
+ROOM = room("build")
 # So many crates are proved at a time at most, where nothing is asked for: a proof takes up to 8 GB of memory.
 MOST_JOBS = 4
 # What each program does once it is built.
@@ -24,27 +24,6 @@ def wanted():
     """The crates that the programs stand on, and these."""
     lines = uses()
     return set().union(*(below(name, lines) for name in NAMES))
-
-
-def listed(names):
-    """The lines of crates.txt without those of other crates."""
-    lines = (TOP / "crates.txt").read_text(encoding="utf-8").splitlines(keepends=True)
-    return "".join(line for line in lines if line.startswith(("#", "\n")) or line.partition(":")[0].split()[0] in names)
-
-
-def copy(names):
-    """The sources of these crates, and of no others."""
-    crates = ROOM / "crates"
-    crates.mkdir(parents=True, exist_ok=True)
-    for other in {path.name for path in crates.iterdir()} - names:
-        shutil.rmtree(crates / other)
-    for name in names:
-        for part in PARTS:
-            shutil.rmtree(crates / name / part, ignore_errors=True)
-            if (CRATES / name / part).is_dir():
-                shutil.copytree(CRATES / name / part, crates / name / part)
-    (ROOM / "crates.txt").write_text(listed(names), encoding="utf-8")
-    shutil.copy2(TOP / "HANDLES", ROOM / "HANDLES")
 
 
 def take(name):
@@ -60,7 +39,7 @@ def main(words):
     if not shutil.which("rt"):
         print(NO_KIT, file=sys.stderr)
         return 1
-    copy(wanted())
+    copy(wanted(), ROOM)
     proved = subprocess.run(["rt", "all", "check", "--jobs", jobs], cwd=ROOM, check=False)
     if proved.returncode != 0:
         return proved.returncode

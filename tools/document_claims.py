@@ -1,13 +1,11 @@
-"""The claims of PROOFS.md beside the code: each function, clause and definition that it names has to be there."""
+"""The names in pages on the proof compared with the code: each function, clause, definition and wrong body that they name has to be there."""
 
 import re
 
-# Between these headings of PROOFS.md stand the claims.
-FROM, TO = "## The ten claims that matter", "## Wrong bodies that are refused"
-# A function by its type, or by itself; a clause, a definition or a variant.
+# A function by its type, or by itself; a clause, a definition or a variant. Other words in backquotes are commands and files.
 NAME = re.compile(r"(?:(\w+)::)?(\w+)")
-# Names of others: the standard library's and the kit's, and a command.
-OTHERS = {"From", "clap", "writes_back", "stat"}
+# Names of others: commands, and the tools of the standard library and the kit.
+OTHERS = {"rt", "make", "mqserve", "mqctl", "HANDLES", "From", "clap", "writes_back", "stat"}
 
 
 class Code:
@@ -41,10 +39,11 @@ class Code:
         return owner in self.functions.get(name, ()) or (name[0].isupper() and {owner, name} <= self.others)
 
 
-def compare(it, page, crates):
-    """Each name between the two headings."""
+def compare(it, pages, crates, edits):
+    """Each name in the pages, which are given as texts by their paths."""
     code = Code(crates)
-    claims = page.split(FROM, 1)[1].split(TO, 1)[0]
-    for name in sorted(set(re.findall(r"`([^`]+)`", claims))):
-        if (found := NAME.fullmatch(name)) and name not in OTHERS:
-            it.there(f"{name}, named in PROOFS.md,", code.has(*found.groups()))
+    for path, page in pages.items():
+        names = sorted(name for name in set(re.findall(r"`([^`\n]+)`", page)) if NAME.fullmatch(name) and name not in OTHERS)
+        it.there(f"names of functions and clauses in {path}", len(names) >= 20)
+        for name in names:
+            it.there(f"{name}, named in {path},", name in edits or code.has(*NAME.fullmatch(name).groups()))

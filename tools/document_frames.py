@@ -1,11 +1,12 @@
-"""FRAMES.md's fields beside those of the definitions, its greatest body, and the frames of its exchange: a part of documents.py."""
+"""The fields of docs/ref/protocol.md compared with those of the definitions, its greatest body, and the frames of its exchange: a part of
+documents.py."""
 
 import re
 from pathlib import Path
 
 CRATES = Path(__file__).resolve().parent.parent / "crates"
 
-# Kinds of field that the definitions name, as FRAMES.md writes them.
+# Kinds of field that the definitions name, as the page writes them.
 KINDS = {
     "sid_field": "u64", "desc_field": "u64", "uid_field": "u32", "gid_field": "u32", "mode_field": "u16", "rule_field": "u16",
     "access_field": "access", "family_field": "family", "flags_field": "flags", "attributes_field": "attributes",
@@ -86,13 +87,13 @@ def compare(it, page, blocks):
     texts, tables = definitions(), tables_of(blocks)
     code, parts = fields_in_code(texts)
     for name, kinds in (row for table in tables for row in table.values()):
-        it.same(f"fields of {name} in FRAMES.md", kinds, code.get(name))
+        it.same(f"fields of {name} in protocol.md", kinds, code.get(name))
     for word, kinds in parts.items():
         [said] = re.findall(rf"(?m)^- `{word}`: ([^.\n]*)|. `{word}`: ([^.\n]*)", page)
-        it.same(f"fields of {word} in FRAMES.md", kinds_in_page("".join(said)), kinds)
+        it.same(f"fields of {word} in protocol.md", kinds_in_page("".join(said)), kinds)
     [greatest] = re.findall(r"(?m)^max_body = (\d+)$", texts)
-    it.same("greatest body in FRAMES.md", {*re.findall(r"\b16,\d{3},\d{3}\b", page)}, {f"{int(greatest):,}"})
+    it.same("greatest body in protocol.md", {*re.findall(r"\b16,\d{3},\d{3}\b", page)}, {f"{int(greatest):,}"})
     exchange = re.findall(r"(?m)^[<>] ([0-9a-f ]+?)  +(\w+)", page)
-    it.there("an exchange in FRAMES.md", exchange)
+    it.there("an exchange in protocol.md", exchange)
     for figures, name in exchange:
         it.there(f"a frame of {name} in {figures}", is_frame(bytes.fromhex(figures.replace(" ", "")), name, tables))

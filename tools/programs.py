@@ -14,7 +14,7 @@ TOP = pathlib.Path(__file__).resolve().parent.parent
 CRATES = TOP / "crates"
 NAMES = ["mqserve", "mqctl"]
 
-# How long `make build` takes on four cores; docs/WORKING.md says how that was measured.
+# How long `make build` takes on four cores; CONTRIBUTING.md says how that was measured.
 BUILD_TAKES = "54 minutes"
 NOT_PROVED = (
     "Not proved: `rt try` builds this server with checks, and it serves in a minute or two. "
@@ -59,7 +59,8 @@ def is_current(name):
 
 def server(users, address, options):
     """The command of a server, and the folder to start it in. `rt try` runs it in a folder of its own, so paths are absolute."""
-    how = [*([] if "--workers" in options else ["--one-thread"]), *options]
+    by_workers = any(word == "--workers" or word.startswith("--workers=") for word in options)
+    how = [*([] if by_workers else ["--one-thread"]), *options]
     file = proved("mqserve")
     if file:
         return [str(file), "serve", users, address, *how], TOP

@@ -35,10 +35,13 @@ BY_PROVED = {
     "bounds of servers": "rows/bounds.py",
     "users' sockets": "rows/user_sockets.py",
     "trails of servers": "rows/served_trails.py",
+    "retellings": "rows/retellings.py",
+    "random retellings": "rows/retold.py",
     "numbers of servers": "rows/metrics.py",
     "random scripts two ways": "rows/two_ways.py",
     "demo": "demo/run.py",
     "clients": "make -ks --no-print-directory clients-test",
+    "blocks of documents": "tools/blocks.py",
 }
 
 
@@ -98,7 +101,7 @@ def together(names, room):
     sources = room / "crates" / "tests" / "src"
     sources.mkdir(parents=True)
     for crate in CRATES.iterdir():
-        shutil.copytree(crate, room / "crates" / crate.name, ignore=shutil.ignore_patterns("out", "must-fail", "data"))
+        shutil.copytree(crate, room / "crates" / crate.name, ignore=shutil.ignore_patterns("out", "must-fail", "more-edits", "data"))
     for name in names:
         shutil.copytree(CRATES / name / "src", sources / name)
         for file in (sources / name).rglob("*.rt"):
@@ -158,8 +161,10 @@ def parts_for(crate):
     yield by_command("files of trails", "rows/trails.py --check")
     yield Part("layout", "tools/quick.py --part layout", lambda: layout([crate] if crate else lines))
     yield by_command("documents", "tools/documents.py")
+    yield by_command("tests of documents", "tools/test_documents.py")
     if not crate:
         yield by_command("user files", "tools/test_users.py")
+        yield by_command("how a server is started", "tools/test_programs.py")
     if are_current():
         for name, words in BY_PROVED.items():
             yield by_command(name, words)

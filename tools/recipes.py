@@ -1,5 +1,5 @@
 #!/usr/bin/env python3
-"""Compares WORKING.md's recipe for a call with the files that a call touched.
+"""Compares the recipe for a call, in docs/dev/recipes.md, with the files that a call touched.
 
 `tools/recipes.py CALL..` prints the files that name a call, as MqGive, in any of its spellings, and marks those that the recipe doesn't
 name. Without a CALL it looks at the newest ones. The status is 1 where one of these isn't named."""
@@ -11,10 +11,12 @@ import sys
 from pathlib import Path
 
 ROOT = Path(__file__).resolve().parent.parent
+PAGE = "docs/dev/recipes.md"
 # The newest calls: an older one stands in examples, benchmarks and pages that a new one need not touch.
 NEWEST = ["MqGive", "MqTimedSend", "MqTimedReceive", "SemTimedWait"]
-# Wrong bodies are made where there is something new, not in a file that a recipe could name.
-LEFT_OUT = re.compile(r"/must-fail/|^tools/recipes\.py$")
+# Wrong bodies are made where there is something new, not in a file that a recipe could name; pictures show some calls for all, a page has
+# results of tests, and the claims are generated.
+LEFT_OUT = re.compile(r"/(must-fail|more-edits)/|^tools/recipes\.py$|^docs/pictures/|^docs/dev/claims\.md$|^docs/use/conformance\.md$")
 
 
 def calls():
@@ -52,9 +54,10 @@ def files_of(call, paths):
 
 def recipe():
     """What the recipe names: files and folders by their paths or the ends of these, and documents."""
-    text = (ROOT / "docs/WORKING.md").read_text(encoding="utf-8").split("### Add a call\n", 1)[1].split("\n### ", 1)[0]
-    quoted = re.findall(r"`([\w./-]+)`", text)
-    return {name.rstrip("/") for name in quoted} | set(re.findall(r"\b[A-Z]+\.md\b", text))
+    text = (ROOT / PAGE).read_text(encoding="utf-8")
+    [section] = re.findall(r"(?ms)^##+ Add a call\n(.*?)(?=^##+ |\Z)", text)
+    quoted = re.findall(r"`([\w./-]+)`", section)
+    return {name.rstrip("/") for name in quoted} | set(re.findall(r"\b[\w/-]+\.md\b", section))
 
 
 def is_named(path, names):

@@ -1,15 +1,17 @@
 #!/usr/bin/env python3
-"""The tests of tools/users: what it prints of this machine's users and of others, and who may read what it writes. Where a built server is
-there, it reads the file; and as root the test makes two users and a third, of which two share a queue without keys, and removes them again.
-The last line has the counts."""
+"""The tests of tools/users: what it prints of this machine's users and of others, and who may read what it writes; what it adds to a file;
+and that it reads a file as the server does. Where a built server is there, it reads the files too; and as root the test makes two users and
+a third, of which two share a queue without keys, and removes them again. The last line has the counts."""
 import atexit
 import contextlib
 import importlib.machinery
 import importlib.util
+import io
 import os
 import pathlib
 import pty
 import pwd
+import random
 import re
 import secrets
 import shutil
@@ -23,11 +25,12 @@ from unittest import mock
 
 TOP = pathlib.Path(__file__).resolve().parent.parent
 PROGRAM = TOP / "tools/users"
+EXAMPLE = TOP / "service/users.example"
 BUILT = pathlib.Path(os.environ.get("MQSERVED", TOP / "crates/mqserve/out/mqserve")).resolve()
 CLIENT = BUILT.parent.parent.parent / "mqctl/out/mqctl"
 SECONDS = 60
 ENDINGS = {signal.SIGINT, signal.SIGTERM, signal.SIGHUP}
-# docs/SCRIPTS.md, "The user file".
+# docs/run/service.md, "The user file".
 NUMBER = "(?:0|[1-9][0-9]*)"
 LINE = re.compile(rf"([a-z0-9_-]{{1,32}}):([A-Za-z0-9]{{1,64}}):({NUMBER}):({NUMBER}):((?:{NUMBER}(?:,{NUMBER}){{0,63}})?):({NUMBER}?)")
 
@@ -54,6 +57,30 @@ def fields(text):
 
 def person(name, uid, gid=None, shell="/bin/sh"):
     return pwd.struct_passwd((name, "x", uid, uid if gid is None else gid, "", "/", shell))
+
+
+class Example(unittest.TestCase):
+    """service/users.example: nobody gets in by a key that stands in a published file."""
+
+    def setUp(self):
+        self.lines = EXAMPLE.read_text().splitlines()
+
+    def test_only_keys_are_wrong(self):
+        self.assertGreater(len(self.lines), 1)
+        for number, line in enumerate(self.lines):
+            with self.subTest(line=line):
+                self.assertIsNone(LINE.fullmatch(line))
+                name, _, rest = line.split(":", 2)
+                self.assertTrue(LINE.fullmatch(f"{name}:key{number}:{rest}"))
+
+    @unittest.skipUnless(BUILT.exists(), "no built server here")
+    def test_server_refuses_each_line(self):
+        """So a file of which one key was replaced is refused too."""
+        for line in self.lines:
+            with self.subTest(line=line):
+                done = subprocess.run([str(BUILT)], input=line.encode() + b"\n.\n", stdout=subprocess.PIPE, stderr=subprocess.PIPE,
+                                      timeout=60, check=False)
+                self.assertEqual((done.returncode, done.stdout, done.stderr), (3, b"", b"mqserve: users BadLine 1\n"))
 
 
 class Made(unittest.TestCase):
@@ -102,14 +129,21 @@ class Made(unittest.TestCase):
                          ["ann: it is in 65 groups beside its own, and a user may be in 64"])
 
     def test_names_that_a_file_cannot_have(self):
+        form = "a name has 1 to 32 lower-case letters, digits, _ and -"
         for name in ("First", "first.last", "m\u00fcller", "a" * 33, "a b", "a:b", "", "pc$", "ann\n"):
+            people = [person("root", 0), person(name, 1000), person("ann", 1001)]
             with self.subTest(name=name):
-                [line] = self.refused([person("root", 0), person(name, 1000)])
-                self.assertTrue(line.startswith(f"{name!a}: "), line)
-        self.assertEqual(len(fields(self.make([person("a" * 32, 1000), person("_0-z", 1001)]))), 2)
+                self.assertEqual(self.refused(people, names=["ann", name]), [f"{name!a}: {form}"])
+                with contextlib.redirect_stderr(io.StringIO()) as said:
+                    self.assertEqual([row[0] for row in fields(self.make(people))], ["root", "ann"])
+                self.assertEqual(said.getvalue(), f"{users.os.path.basename(sys.argv[0])}: {name!a} is left out: {form}\n")
+        with contextlib.redirect_stderr(io.StringIO()) as said:
+            self.assertEqual(len(fields(self.make([person("a" * 32, 1000), person("_0-z", 1001)]))), 2)
+        self.assertEqual(said.getvalue(), "")
 
     def test_each_is_told(self):
-        lines = self.refused([person("root", 0), person("toor", 0), person("A", 1000), person("B", 1001)])
+        people = [person("root", 0), person("toor", 0), person("A", 1000), person("B", 1001)]
+        lines = self.refused(people, names=[user.pw_name for user in people])
         self.assertEqual([line.split(":")[0] for line in lines], ["toor", "'A'", "'B'"])
         self.assertEqual(lines[0], "toor: it has the user ID 0, as root")
 
@@ -223,6 +257,245 @@ class Written(unittest.TestCase):
         script += b".\na hello %s\n" % script.split(b":")[1]
         done = subprocess.run([str(BUILT)], input=script, stdout=subprocess.PIPE, stderr=subprocess.PIPE, timeout=60, check=False)
         self.assertEqual((done.returncode, done.stdout, done.stderr), (0, b"a started 0\n", b""))
+
+
+# The user file of the tests below, and its faults: what follows these lines, and what the server says of the whole.
+THREE = "root:r00t:0:0::\nann:ka1:1000:1000:50:\nbob:kb1:1001:1001:50,51:104\n"
+FAULTS = [
+    ("eve:ke1:5:5::", None),
+    ("eve:ke1:4294967295:4294967295:0,0:0\n", None),
+    ("eve:ke1:5:5::1000000000000000\n", None),
+    (f"eve:ke1:5:5:{','.join(['7'] * 64)}:\n", None),
+    ("", None),
+    ("\n", "BadLine 4"),
+    (".\n", "BadLine 4"),
+    ("eve:ke1:5:5:\n", "BadLine 4"),
+    ("eve:ke1:5:5:::\n", "BadLine 4"),
+    ("eve:ke1:5:5::\r\n", "BadLine 4"),
+    ("Eve:ke1:5:5::\n", "BadLine 4"),
+    (f"{'e' * 33}:ke1:5:5::\n", "BadLine 4"),
+    (":ke1:5:5::\n", "BadLine 4"),
+    ("eve::5:5::\n", "BadLine 4"),
+    ("eve:k-1:5:5::\n", "BadLine 4"),
+    ("eve:k\u00e41:5:5::\n", "BadLine 4"),
+    (f"eve:{'k' * 65}:5:5::\n", "BadLine 4"),
+    ("eve:ke1:05:5::\n", "BadLine 4"),
+    ("eve:ke1:+5:5::\n", "BadLine 4"),
+    ("eve:ke1:\u0665:5::\n", "BadLine 4"),
+    ("eve:ke1:4294967296:5::\n", "BadLine 4"),
+    ("eve:ke1:5:4294967296::\n", "BadLine 4"),
+    (f"eve:ke1:{'9' * 5000}:5::\n", "BadLine 4"),
+    ("eve:ke1:5:5:7,:\n", "BadLine 4"),
+    (f"eve:ke1:5:5:{','.join(['7'] * 65)}:\n", "BadLine 4"),
+    ("eve:ke1:5:5::1000000000000001\n", "BadLine 4"),
+    ("eve:ke1:5:5::\nx\n", "BadLine 5"),
+    ("ann:ke1:5:5::\n", "DuplicateName 4"),
+    ("eve:ka1:5:5::\n", "DuplicateKey 4"),
+    ("eve:ke1:1000:5::\n", "DuplicateUid 4"),
+    ("ann:ka1:1000:5::\n", "DuplicateName 4"),
+    ("eve:ka1:1000:5::\n", "DuplicateKey 4"),
+    ("eve:ke1:5:5::\neve:ke2:6:6::\nx\n", "DuplicateName 5"),
+    ("".join(f"u{number}:k{number}:{number}:5::\n" for number in range(2000, 6093)), None),
+    ("".join(f"u{number}:k{number}:{number}:5::\n" for number in range(2000, 6094)), "TooMany"),
+    ("".join(f"u{number}:k{number}:{number}:5::\n" for number in range(2000, 6093)) + "x\n" * 3000000, "TooMany"),
+    ("x" * 5000000, "BadLine 4"),
+]
+
+
+class Checked(unittest.TestCase):
+    """Files that are read as the server reads them."""
+
+    def setUp(self):
+        room = tempfile.TemporaryDirectory()
+        self.addCleanup(room.cleanup)
+        self.path = pathlib.Path(room.name, "users")
+
+    def words(self, text):
+        """What the tool says of a file of this text: the server's words, or nothing."""
+        self.path.write_bytes(text)
+        done = run("--check", str(self.path))
+        said = done.stderr.decode()
+        if done.returncode == 0:
+            count = len(text.splitlines())
+            self.assertEqual((done.stdout.decode(), said), (f"{count} {'user' if count == 1 else 'users'}\n", ""))
+            return None
+        self.assertEqual((done.returncode, done.stdout), (3, b""))
+        return re.fullmatch(rf"users: {re.escape(str(self.path))}: users (\w+(?: \d+)?): .+\n", said)[1]
+
+    def server_words(self):
+        """The same of the server. One that finds nothing wrong there gets no further than its address."""
+        done = subprocess.run([str(BUILT), "serve", str(self.path), "unix:/absent/socket", "--one-thread"], stdin=subprocess.DEVNULL,
+                              stdout=subprocess.PIPE, stderr=subprocess.PIPE, timeout=SECONDS, check=False)
+        said = done.stderr.decode()
+        if (done.returncode, said) == (4, "mqserve: net\n"):
+            return None
+        self.assertEqual(done.returncode, 3)
+        return re.fullmatch(r"mqserve: users (\w+(?: \d+)?)\n", said)[1]
+
+    def test_faults(self):
+        for more, wanted in FAULTS:
+            with self.subTest(more=more[:80]):
+                self.assertEqual(self.words((THREE + more).encode()), wanted)
+                if BUILT.exists():
+                    self.assertEqual(self.server_words(), wanted)
+
+    def test_counts(self):
+        for text in ("", "root:r00t:0:0::", "root:r00t:0:0::\n", THREE):
+            with self.subTest(text=text):
+                self.assertIsNone(self.words(text.encode()))
+
+    @unittest.skipUnless(BUILT.exists(), "no built server here")
+    def test_chance(self):
+        """Files with some bytes changed."""
+        draw, found = random.Random(7), set()
+        for _ in range(200):
+            text = bytearray(THREE.encode())
+            for _ in range(draw.randrange(1, 4)):
+                at = draw.randrange(len(text))
+                text[at:at + draw.randrange(3)] = bytes(draw.choices(b"\n\r:,0159az_-A ", k=draw.randrange(3)))
+            words = self.words(bytes(text))
+            found.add((words or "none").split()[0])
+            self.assertEqual(words, self.server_words(), bytes(text))
+        self.assertLessEqual({"none", "BadLine"}, found)
+
+    def test_reasons(self):
+        """The line, and why, and never a key."""
+        for more, why in (("eve:se-cret:5:5::\n", "a key has 1 to 64 ASCII letters and digits"),
+                          ("eve:ka1:5:5::\n", "line 2 has the same key"), ("ann:secret:5:5::\n", "line 2 has the same name"),
+                          ("eve:secret:0:5::\n", "line 1 has the same user ID"),
+                          ("secret\n", "a line has 6 fields, parted by colons, and this one 1"),
+                          ("eve:secret:5:5::\r\n", "a line ends with a line feed, and this one with a carriage return")):
+            with self.subTest(more=more):
+                self.path.write_bytes((THREE + more).encode())
+                said = run("--check", str(self.path)).stderr.decode()
+                self.assertTrue(said.endswith(f": {why}\n"), said)
+                self.assertNotIn("cret", said.replace("carriage return", ""))
+
+    def test_no_file(self):
+        for path in (self.path, self.path.parent):
+            done = run("--check", str(path))
+            self.assertEqual((done.returncode, done.stdout), (4, b""))
+            self.assertIn(str(path).encode(), done.stderr)
+
+    def test_words_beside_it(self):
+        for more in (["ann"], ["--limit", "1"], ["--from", "1"], ["--to", "1"], ["--output", "x"], ["--add", "x"]):
+            with self.subTest(more=more):
+                self.assertEqual(run("--check", str(self.path), *more).returncode, 2)
+
+
+class Added(unittest.TestCase):
+    """Users who are added to a file that is there."""
+
+    def setUp(self):
+        room = tempfile.TemporaryDirectory()
+        self.addCleanup(room.cleanup)
+        self.room = pathlib.Path(room.name)
+        self.path = self.room / "users"
+        self.path.write_text(THREE)
+        self.new = pwd.getpwnam("daemon")
+
+    def add(self, *words):
+        return run("--add", str(self.path), *words)
+
+    def refused(self, status, said, *words):
+        """Nothing is changed, and nothing left."""
+        before = self.path.read_bytes()
+        done = self.add(*words)
+        self.assertEqual((done.returncode, done.stdout, done.stderr.decode()), (status, b"", said))
+        self.assertEqual((self.path.read_bytes(), os.listdir(self.room)), (before, ["users"]))
+
+    def test_a_user_more(self):
+        done = self.add("daemon", "--limit", "104")
+        self.assertEqual((done.returncode, done.stdout, done.stderr), (0, b"", b""))
+        text = self.path.read_text()
+        self.assertEqual(text[:len(THREE)], THREE)
+        [row] = fields(text[len(THREE):])
+        self.assertEqual((row[0], row[2], row[3], row[5]), ("daemon", str(self.new.pw_uid), str(self.new.pw_gid), "104"))
+        self.assertTrue(re.fullmatch("[0-9a-f]{64}", row[1]))
+        self.assertEqual(os.listdir(self.room), ["users"])
+        self.assertEqual(run("--check", str(self.path)).stdout, b"4 users\n")
+
+    def test_line_feed_at_the_end(self):
+        for text in ("", THREE, THREE[:-1]):
+            self.path.write_text(text)
+            self.assertEqual(self.add("daemon", "bin").returncode, 0)
+            self.assertEqual([line.split(":")[0] for line in self.path.read_text().splitlines()],
+                             [line.split(":")[0] for line in text.splitlines()] + ["daemon", "bin"])
+
+    def test_mode_and_owner(self):
+        for mode in (0o600, 0o640, 0o400):
+            with self.subTest(mode=f"{mode:o}"):
+                self.path.write_text(THREE)
+                if os.geteuid() == 0:
+                    os.chown(self.path, 65534, 12)
+                self.path.chmod(mode)
+                before = self.path.stat()
+                self.assertEqual(self.add("daemon").returncode, 0)
+                after = self.path.stat()
+                self.assertEqual((after.st_uid, after.st_gid, after.st_mode), (before.st_uid, before.st_gid, before.st_mode))
+                self.assertEqual(len(fields(self.path.read_text())), 4)
+                self.path.chmod(0o600)
+
+    def test_whoever_reads_sees_the_old_file_or_the_new_one(self):
+        with open(self.path) as old:
+            self.assertEqual(self.add("daemon").returncode, 0)
+            self.assertEqual(old.read(), THREE)
+
+    def test_disk_that_fails(self):
+        for name in ("fchown", "fchmod", "fsync", "rename"):
+            with self.subTest(name=name), mock.patch.object(users.os, name, mock.Mock(side_effect=OSError(5, "no"))):
+                with self.assertRaisesRegex(OSError, re.escape(str(self.path))):
+                    users.add(str(self.path), ["daemon"], "")
+                self.assertEqual((self.path.read_text(), os.listdir(self.room)), (THREE, ["users"]))
+
+    def test_refused(self):
+        self.path.write_text(THREE + f"other:ko1:{self.new.pw_uid}:5::\nbin:kp1:7777:5::\n")
+        self.refused(1, "users: bin: line 5 of the file has this name\n"
+                        f"users: daemon: line 4 of the file has its user ID, {self.new.pw_uid}\n", "daemon", "bin")
+        self.refused(1, "users: 'no-such-user-here': there is no such user\n", "no-such-user-here", "sys")
+
+    def test_full_file(self):
+        self.path.write_text(THREE + "".join(f"u{number}:k{number}:{number}:5::\n" for number in range(2000, 6093)))
+        self.refused(1, "users: 4097 users, and a user file has 4096 at most\n", "daemon")
+
+    def test_file_at_fault(self):
+        self.path.write_text(THREE + "x\n")
+        self.refused(3, f"users: {self.path}: users BadLine 4: a line has 6 fields, parted by colons, and this one 1\n", "daemon")
+
+    def test_what_is_no_plain_file(self):
+        self.path.rename(self.room / "there")
+        for make in (lambda: self.path.symlink_to("there"), lambda: os.mkfifo(self.path), self.path.mkdir):
+            make()
+            done = self.add("daemon")
+            self.assertEqual((done.returncode, done.stdout), (1, b""))
+            self.assertIn(b"users", done.stderr)
+            self.assertEqual(sorted(os.listdir(self.room)), ["there", "users"])
+            (os.rmdir if self.path.is_dir() else os.unlink)(self.path)
+        self.assertEqual((self.room / "there").read_text(), THREE)
+        self.assertEqual(self.add("daemon").returncode, 1)
+        self.assertEqual(os.listdir(self.room), ["there"])
+
+    def test_two_at_once(self):
+        folder = os.open(self.room, os.O_RDONLY)
+        self.addCleanup(os.close, folder)
+        users.fcntl.flock(folder, users.fcntl.LOCK_EX)
+        self.refused(1, f"users: {self.room}: another run changes a file there\n", "daemon")
+
+    def test_words_beside_it(self):
+        for words in ([], ["daemon", "--output", "x"], ["daemon", "--from", "1"]):
+            with self.subTest(words=words):
+                self.assertEqual(self.add(*words).returncode, 2)
+
+    @unittest.skipUnless(BUILT.exists(), "no built server here")
+    def test_trail_of_other_users(self):
+        """As service/README.md warns."""
+        words = [str(BUILT), "serve", str(self.path), f"unix:{self.room}/socket", "--one-thread", "--trail-file", f"{self.room}/trail"]
+        with subprocess.Popen(words, stdout=subprocess.PIPE) as server:
+            self.assertTrue(server.stdout.readline().startswith(b"serving"))
+            server.kill()
+        self.assertEqual(self.add("daemon").returncode, 0)
+        done = subprocess.run(words, stdout=subprocess.PIPE, stderr=subprocess.PIPE, timeout=SECONDS, check=False)
+        self.assertEqual((done.returncode, done.stdout, done.stderr), (3, b"", b"mqserve: trail head: other users\n"))
 
 
 @contextlib.contextmanager
