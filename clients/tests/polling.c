@@ -78,10 +78,10 @@ static void starts(void)
 static void asks(void)
 {
     show_poll("empty", q, POLLIN, 50);
-    pause_ms(50);
+    pause_ms(500);   /* the watcher registers */
     show_poll("nothing is asked", q, POLLIN, 50);
     SHOW(mq_send(q, "x", 1, 0));
-    pause_ms(50);
+    pause_ms(500);   /* and again */
     show_poll("a message", q, POLLIN, 5000);
     SHOW(mq_receive(q, data, 16, NULL));
     show_poll("received", q, POLLIN, 50);
